@@ -1,0 +1,1 @@
+// Whole numbers: definitions and laws for the crates above. It has no code.
