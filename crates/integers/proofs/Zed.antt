@@ -111,7 +111,6 @@ infix 90 `_ #_
 infixl 6 _⊕_ _⊖_
 infixl 7 _⊗_
 infix 8 ⊝_
-
 abbrev pub ⟦_⟧ : E → ℤ
 ⟦ ` z ⟧ = z
 ⟦ # n ⟧ = pos n
