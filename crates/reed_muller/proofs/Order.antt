@@ -51,7 +51,7 @@ no-bits : (x : ℕ) → eqb x 0 ≡ leb x 0
 no-bits zero = refl
 no-bits (suc x) = eqb·suc-zero x ∙ sym (leb·suc-zero x)
 
--- THE LAW: a sum over the list is the sum over the masks below 2 ^ m with at most r bits
+-- a sum over the list is the sum over the masks below 2 ^ m with at most r bits
 pub sum-masks : (r m : ℕ) (h : ℕ → ℕ) → sumL h (masks r m) ≡ sumTo (2 ^ m) (λ S. given (leb (weight S) r) (h S))
 unfolding masks
 sum-masks zero m h =
@@ -189,7 +189,7 @@ module _ (r m : ℕ) where
       j h
 
 module _ (r m : ℕ) (h : r ≤ m) where
-  -- THE FIRST k OF THE ORDER are the masks of at most r bits
+  -- the first of the order are the masks of at most r bits
   pub order-first : take (dimension r m) (order m) ≡ masks r m
   unfolding order
   order-first = beginning r m m h .1
@@ -229,28 +229,26 @@ module _ (m : ℕ) where
   unfolding order dimension
   place-order S h = let w = place-mask m m S h (ones-le m S h) in (omega (arith, order-length, w .0), w .1)
 
-  -- the place of a mask of at most r bits is the same in the shorter list
-  pub place-first : (r : ℕ) → r ≤ m → (S : ℕ) → S < 2 ^ m → weight S ≤ r → place (order m) S ≡ place (masks r m) S
-  place-first r hr S h w =
-      let e = place-mask r m S h w in
-      ap (place (order m)) (sym (e .1) ∙ sym (order-at r m hr (place (masks r m) S) (e .0)))
-      ∙ order-place (place (masks r m) S) (omega (arith, dimension-fits r m hr, order-length, e .0))
+-- the first masks of the order are those of at most r bits, and the later ones have more
+module _ (r m : ℕ) (hr : r ≤ m) where
+  -- there are no more message bits than masks
+  pub dimension-small : dimension r m ≤ 2 ^ m
+  dimension-small = omega (arith, dimension-fits r m hr, order-length m)
 
-  -- and the later ones have more bits
-  pub order-heavy : (r : ℕ) → r ≤ m → (k : ℕ) → dimension r m ≤ k → k < 2 ^ m → r < weight (getD (order m) k 0)
-  order-heavy r hr k d h = go (decLt r (weight (getD (order m) k 0)))
+  pub order-light : (k : ℕ) → k < dimension r m → weight (getD (order m) k 0) ≤ r
+  order-light k h = rw (order-at r m hr k h) (mask-light r m k h .1)
+
+  pub place-light : (S : ℕ) → S < 2 ^ m → weight S ≤ r → place (order m) S < dimension r m
+  place-light S h w =
+      let e = place-mask r m S h w in
+      let same =
+      ap (place (order m)) (sym (e .1) ∙ sym (order-at r m hr (place (masks r m) S) (e .0)))
+      ∙ order-place m (place (masks r m) S) (omega (arith, dimension-small, e .0)) in
+      omega (arith, same, e .0)
+
+  pub order-heavy : (k : ℕ) → dimension r m ≤ k → k < 2 ^ m → r < weight (getD (order m) k 0)
+  order-heavy k d h = go (decLt r (weight (getD (order m) k 0)))
     where
       go : Dec (r < weight (getD (order m) k 0)) → r < weight (getD (order m) k 0)
       go (yes l) = l
-      go (no n) =
-          let l : weight (getD (order m) k 0) ≤ r = omega arith in
-          absurd (omega (
-            arith,
-            place-mask r m (getD (order m) k 0) (order-below k h) l .0,
-            place-first r hr (getD (order m) k 0) (order-below k h) l,
-            order-place k h,
-          ))
-
--- there are no more message bits than masks
-pub dimension-small : (r m : ℕ) → r ≤ m → dimension r m ≤ 2 ^ m
-dimension-small r m h = omega (arith, dimension-fits r m h, order-length m)
+      go (no n) = absurd (omega (arith, place-light (getD (order m) k 0) (order-below m k h) (omega arith), order-place m k h))

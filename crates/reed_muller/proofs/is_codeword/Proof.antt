@@ -4,15 +4,16 @@ use mathlib.Core.Path.{_≡_, ap, sym, _∙_}
 use native.Mathlib.Omega.{arith}
 use lib.ListN.{getD}
 use borrow.Author.Count.{below-more}
-use Rattle.reed_muller.specs.Level.{order, dimension, backwards}
+use Rattle.reed_muller.specs.Level.{dimension, backwards}
 use Rattle.reed_muller.proofs.Order.{dimension-small}
+use Rattle.reed_muller.proofs.Codeword.{readBits}
 use Rattle.reed_muller.proofs.Belongs.{belongs-true, belongs-false}
 use Rattle.reed_muller.proofs.is_codeword.Statement.{statement}
 use Rattle.reed_muller.proofs.is_codeword.Tie as tie
 
 abbrev Inv-loop : tie.InvT-loop
 Inv-loop word m r n k₀ k =
-    (dimension r m ≤ k) × (k ≤ n) × ((i : ℕ) → i < k → dimension r m ≤ i → backwards m (λ p. getD word p 0) (getD (order m) i 0) ≡ 0)
+    (dimension r m ≤ k) × (k ≤ n) × ((i : ℕ) → i < k → dimension r m ≤ i → readBits m (λ p. getD word p 0) i ≡ 0)
 
 abbrev μ-loop : tie.MeasureT-loop
 μ-loop word m r n k₀ k = n - k

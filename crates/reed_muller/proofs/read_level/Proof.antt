@@ -4,10 +4,11 @@ use mathlib.Core.Path.{_≡_, ap, ap₂, sym, _∙_}
 use mathlib.Core.List.{List}
 use native.Mathlib.Omega.{arith}
 use lib.ListN.{length, getD}
-use Rattle.reed_muller.specs.Level.{order, dimension, backwards}
+use Rattle.reed_muller.specs.Level.{dimension, backwards}
 use Rattle.reed_muller.specs.Message.{messageBit, bytesOf, withBit, withBits}
 use Rattle.reed_muller.proofs.MaskTables.{short}
 use Rattle.reed_muller.proofs.Order.{dimension-small}
+use Rattle.reed_muller.proofs.Codeword.{readBits}
 use Rattle.reed_muller.proofs.Parity.{message-small, backwards-small}
 use Rattle.reed_muller.proofs.Message.{length-bytes, bytes-ext, bytes-of-bits, with-none, with-step}
 use Rattle.reed_muller.proofs.read_level.Statement.{statement}
@@ -15,7 +16,7 @@ use Rattle.reed_muller.proofs.read_level.Tie as tie
 
 -- bit k of the level
 abbrev level-bit : List ℕ → ℕ → ℕ → ℕ
-level-bit word m k = backwards m (λ p. getD word p 0) (getD (order m) k 0)
+level-bit word m = readBits m (λ p. getD word p 0)
 
 -- the bytes once k bits are put
 abbrev put : List ℕ → ℕ → List ℕ → ℕ → ℕ → List ℕ
