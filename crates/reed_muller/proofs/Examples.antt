@@ -1,0 +1,15 @@
+-- What document 01 writes out. Assumes nothing.
+use Prim.Native.Nat.{ℕ}
+use mathlib.Core.Path.{_≡_, refl}
+use mathlib.Core.List.{List, [], _∷_}
+use lib.Count.{ones}
+use Rattle.reed_muller.specs.Level.{table, ofWeight, masks, dimension}
+
+-- kind 4, level 1
+pub kind-4-level-1 : masks 3 4 ≡ 0 ∷ 1 ∷ 2 ∷ 4 ∷ 8 ∷ 3 ∷ 5 ∷ 6 ∷ 9 ∷ 10 ∷ 12 ∷ 7 ∷ 11 ∷ 13 ∷ 14 ∷ []
+unfolding masks ofWeight table ones
+kind-4-level-1 = refl
+
+pub dimensions : dimension 1 3 ∷ dimension 1 4 ∷ dimension 3 4 ∷ dimension 1 5 ∷ dimension 3 5 ∷ [] ≡ 4 ∷ 5 ∷ 15 ∷ 6 ∷ 26 ∷ []
+unfolding dimension masks ofWeight table ones
+dimensions = refl

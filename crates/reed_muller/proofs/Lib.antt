@@ -1,0 +1,12 @@
+pub mod Sum
+pub mod Table
+pub mod Lies
+pub mod Parity
+pub mod Transform
+pub mod Weight
+pub mod Order
+pub mod Codeword
+pub mod Belongs
+pub mod MaskTables
+pub mod Message
+pub mod Examples

@@ -1,0 +1,69 @@
+-- The constant tables of masks, places and dimensions, one record of computed tests for each length. Assumes nothing.
+use Prim.Native.Nat.{ℕ, suc, _^_, _≤_, _<_}
+use mathlib.Core.Path.{_≡_, refl, sym, ap, _∙_, subst}
+use mathlib.Core.List.{List, [], _∷_}
+use native.Mathlib.Omega.{arith}
+use lib.Count.{ones}
+use lib.ListN.{getD}
+use lib.Pow.{pow-mono}
+use Rattle.reed_muller.specs.Level.{ofWeight, masks, order, place, table, dimension, Tabled}
+use Rattle.reed_muller.proofs.Table.{table-at}
+
+-- the tables of length 2 ^ m: the masks in order, their places, the dimensions for r = 0, .., m
+pub record Right (m : ℕ) (os ps ds : List ℕ) : Type 0 where
+  pub orders : os ≡ order m
+  pub places : ps ≡ table (2 ^ m) (place (order m))
+  pub dimensions : ds ≡ table (suc m) (λ r. dimension r m)
+
+pub right-8 :
+    Right
+    3
+    (0 ∷ 1 ∷ 2 ∷ 4 ∷ 3 ∷ 5 ∷ 6 ∷ 7 ∷ [])
+    (0 ∷ 1 ∷ 2 ∷ 4 ∷ 3 ∷ 5 ∷ 6 ∷ 7 ∷ [])
+    (1 ∷ 4 ∷ 7 ∷ 8 ∷ [])
+unfolding order masks ofWeight ones place table dimension
+right-8 = record { orders = refl; places = refl; dimensions = refl }
+
+pub right-16 :
+    Right
+    4
+    (0 ∷ 1 ∷ 2 ∷ 4 ∷ 8 ∷ 3 ∷ 5 ∷ 6 ∷ 9 ∷ 10 ∷ 12 ∷ 7 ∷ 11 ∷ 13 ∷ 14 ∷ 15 ∷ [])
+    (0 ∷ 1 ∷ 2 ∷ 5 ∷ 3 ∷ 6 ∷ 7 ∷ 11 ∷ 4 ∷ 8 ∷ 9 ∷ 12 ∷ 10 ∷ 13 ∷ 14 ∷ 15 ∷ [])
+    (1 ∷ 5 ∷ 11 ∷ 15 ∷ 16 ∷ [])
+unfolding order masks ofWeight ones place table dimension
+right-16 = record { orders = refl; places = refl; dimensions = refl }
+
+pub right-32 :
+    Right
+    5
+    (0 ∷ 1 ∷ 2 ∷ 4 ∷ 8 ∷ 16 ∷ 3 ∷ 5 ∷ 6 ∷ 9 ∷ 10 ∷ 12 ∷ 17 ∷ 18 ∷ 20 ∷ 24 ∷ 7 ∷ 11 ∷ 13 ∷ 14 ∷ 19 ∷ 21 ∷ 22 ∷ 25 ∷ 26 ∷ 28 ∷ 15 ∷ 23 ∷ 27 ∷ 29 ∷ 30 ∷ 31 ∷ [])
+    (0 ∷ 1 ∷ 2 ∷ 6 ∷ 3 ∷ 7 ∷ 8 ∷ 16 ∷ 4 ∷ 9 ∷ 10 ∷ 17 ∷ 11 ∷ 18 ∷ 19 ∷ 26 ∷ 5 ∷ 12 ∷ 13 ∷ 20 ∷ 14 ∷ 21 ∷ 22 ∷ 27 ∷ 15 ∷ 23 ∷ 24 ∷ 28 ∷ 25 ∷ 29 ∷ 30 ∷ 31 ∷ [])
+    (1 ∷ 6 ∷ 16 ∷ 26 ∷ 31 ∷ 32 ∷ [])
+unfolding order masks ofWeight ones place table dimension
+right-32 = record { orders = refl; places = refl; dimensions = refl }
+
+-- ---- an entry of the tables of length 2 ^ n, read where m is n
+
+module _ {m n : ℕ} (e : m ≡ n) {os ps ds : List ℕ} (t : Right n os ps ds) where
+  pub mask-entry : (k : ℕ) → getD os k 0 ≡ getD (order m) k 0
+  mask-entry k = ap (λ (xs : List ℕ). getD xs k 0) (t .orders ∙ ap order (sym e))
+
+  pub place-entry : (S : ℕ) → S < 2 ^ n → getD ps S 0 ≡ place (order m) S
+  place-entry S h =
+      ap (λ (xs : List ℕ). getD xs S 0) (t .places) ∙ table-at (place (order n)) (2 ^ n) S h ∙ ap (λ (x : ℕ). place (order x) S) (sym e)
+
+  pub dimension-entry : (r : ℕ) → r < suc n → getD ds r 0 ≡ dimension r m
+  dimension-entry r h =
+      ap (λ (xs : List ℕ). getD xs r 0) (t .dimensions) ∙ table-at (λ r. dimension r n) (suc n) r h ∙ ap (dimension r) (sym e)
+
+-- an index of the tables
+pub inside : {m n k : ℕ} → m ≡ n → k < 2 ^ m → k < 2 ^ n
+inside {k = k} e h = subst (λ (x : ℕ). k < 2 ^ x) e h
+
+-- the last length
+pub last : {m : ℕ} → Tabled m → (m ≡ 3 → ⊥) → (m ≡ 4 → ⊥) → m ≡ 5
+last h a b = omega arith
+
+-- the words are short
+pub short : {m : ℕ} → Tabled m → 2 ^ m ≤ 64
+short h = pow-mono {j = 6} (omega arith)

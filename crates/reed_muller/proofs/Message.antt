@@ -1,0 +1,272 @@
+-- Bytes and their bits: each determines the other, and bits are put one at a time. Assumes nothing.
+use Prim.Native.Nat.{ℕ, zero, suc, _+_, _-_, _*_, _/_, _%_, _^_, _≤_, _<_}
+use mathlib.Core.Path.{_≡_, refl, sym, ap, ap₂, _∙_, subst}
+use mathlib.Core.Bool.{Bool, true, false, _&&_, and-false}
+use mathlib.Core.List.{List}
+use native.Mathlib.Nat.{pow-suc, zero-mul, zero-add, add-comm, mul-le-mul-right, le-of-suc-le-suc, div-one, mod-one, mod-eq-of-lt, zero-div}
+use native.Mathlib.Decide.{decLt, ℕ-discrete}
+use native.Mathlib.Omega.{arith}
+use lib.Dec.{eqb, leb, ltb}
+use lib.Pow.{high, mod-pow-add, shr-shr}
+use lib.Bits.{block-half, block-odd}
+use lib.ListN.{length, getD, set, length-set, List·getD-eq-default}
+use lib.Seq.{ext-getD, getD-set-same, getD-set-other}
+use borrow.Author.Tests.{eq-eqb, ne-eqb, le-leb, lt-leb, lt-ltb, le-ltb}
+use Rattle.reed_muller.specs.Level.{pick, sumTo, table}
+use Rattle.reed_muller.specs.Message.{messageBit, byteOf, bytesOf, withBit, withBits}
+use Rattle.reed_muller.proofs.Sum.{sum-ext}
+use Rattle.reed_muller.proofs.Table.{length-table, table-at, table-ext}
+use Rattle.reed_muller.proofs.Parity.{message-small}
+
+-- b 0 + b 1 * 2 + .. + b (n − 1) * 2 ^ (n − 1)
+abbrev number : (ℕ → ℕ) → ℕ → ℕ
+number b n = sumTo n (λ i. b i * 2 ^ i)
+
+number-lt : (b : ℕ → ℕ) (n : ℕ) → ((i : ℕ) → i < n → b i < 2) → number b n < 2 ^ n
+unfolding sumTo
+number-lt b zero h = omega arith
+number-lt b (suc n) h =
+    rw pow-suc (omega (arith, number-lt b n (λ i l. h i (omega arith)), mul-le-mul-right (2 ^ n) (le-of-suc-le-suc (h n (omega arith)))))
+
+div-suc : (x i : ℕ) → x / 2 ^ suc i ≡ x / 2 / 2 ^ i
+div-suc x i = sym (shr-shr x 1 i ∙ ap (λ (j : ℕ). x / 2 ^ j) (omega arith))
+
+-- digit i of a number, under a higher digit
+under : (x c n i : ℕ) → i < n → (c * 2 ^ n + x) / 2 ^ i % 2 ≡ x / 2 ^ i % 2
+under x c (suc n) zero h = ap (λ (y : ℕ). y % 2) (div-one (c * 2 ^ suc n + x)) ∙ block-odd c n x ∙ sym (ap (λ (y : ℕ). y % 2) (div-one x))
+under x c (suc n) (suc i) h =
+    ap (λ (y : ℕ). y % 2) (div-suc (c * 2 ^ suc n + x) i ∙ ap (λ (y : ℕ). y / 2 ^ i) (block-half c n x))
+    ∙ under (x / 2) c n i (omega arith) ∙ sym (ap (λ (y : ℕ). y % 2) (div-suc x i))
+under x c zero i h = absurd (omega arith)
+
+number-bit : (b : ℕ → ℕ) (n : ℕ) → ((i : ℕ) → i < n → b i < 2) → (i : ℕ) → i < n → number b n / 2 ^ i % 2 ≡ b i
+unfolding sumTo
+number-bit b zero h i l = absurd (omega arith)
+number-bit b (suc n) h i l = go (number-bit b n less i) (decLt i n)
+  where
+    less : (i : ℕ) → i < n → b i < 2
+    less i l = h i (omega arith)
+
+    go : (i < n → number b n / 2 ^ i % 2 ≡ b i) → Dec (i < n) → (number b n + b n * 2 ^ n) / 2 ^ i % 2 ≡ b i
+    go ih (yes k) = rw (add-comm (number b n) (b n * 2 ^ n)) (under (number b n) (b n) n i k ∙ ih k)
+    go ih (no k) =
+        let e : i ≡ n = omega arith in
+        subst (λ (j : ℕ). (number b n + b n * 2 ^ n) / 2 ^ j % 2 ≡ b j) (sym e)
+        (rw (add-comm (number b n) (b n * 2 ^ n), high (b n) n (number-lt b n less)) (mod-eq-of-lt (h n (omega arith))))
+
+-- the low n digits of x, put together again
+number-digits : (x n : ℕ) → number (λ i. x / 2 ^ i % 2) n ≡ x % 2 ^ n
+unfolding sumTo
+number-digits x zero = sym (mod-one x)
+number-digits x (suc n) =
+    let e : 1 + n ≡ suc n = omega arith in
+    omega (arith, number-digits x n, mod-pow-add x 1 n, ap (λ (j : ℕ). x % 2 ^ j) e)
+
+-- ---- bytes and bits
+
+pub length-bytes : (n : ℕ) (bit : ℕ → ℕ) → length (bytesOf n bit) ≡ n
+unfolding bytesOf
+length-bytes n bit = length-table (byteOf bit) n
+
+byte-lt : (bit : ℕ → ℕ) (j : ℕ) → ((i : ℕ) → i < 8 → bit (8 * j + i) < 2) → byteOf bit j < 256
+unfolding byteOf
+byte-lt bit j h = number-lt (λ i. bit (8 * j + i)) 8 h
+
+-- the bits of the bytes of bits are these bits
+pub bits-of-bytes : (n : ℕ) (bit : ℕ → ℕ) → ((k : ℕ) → k < 8 * n → bit k < 2) → (k : ℕ) → k < 8 * n → messageBit (bytesOf n bit) k ≡ bit k
+unfolding messageBit bytesOf byteOf
+bits-of-bytes n bit h k l =
+    let j : k / 8 < n = omega arith in
+    let i : k % 8 < 8 = omega arith in
+    let e : 8 * (k / 8) + k % 8 ≡ k = omega arith in
+    ap (λ (x : ℕ). x / 2 ^ (k % 8) % 2) (table-at (byteOf bit) n (k / 8) j)
+    ∙ number-bit (λ i. bit (8 * (k / 8) + i)) 8 (λ i l. h (8 * (k / 8) + i) (omega arith)) (k % 8) i ∙ ap bit e
+
+-- bytes with the same bits are the same
+pub bytes-ext : (n : ℕ) (f g : ℕ → ℕ) → ((k : ℕ) → k < 8 * n → f k ≡ g k) → bytesOf n f ≡ bytesOf n g
+unfolding bytesOf byteOf
+bytes-ext n f g h = table-ext n (λ j l. sum-ext 8 (λ i hi. ap (λ (x : ℕ). x * 2 ^ i) (h (8 * j + i) (omega arith))))
+
+byte-of-bits : (xs : List ℕ) → ((j : ℕ) → getD xs j 0 < 256) → (j : ℕ) → byteOf (messageBit xs) j ≡ getD xs j 0
+unfolding messageBit byteOf
+byte-of-bits xs h j =
+    sum-ext 8 (λ i hi.
+    let a : (8 * j + i) / 8 ≡ j = omega arith in
+    let b : (8 * j + i) % 8 ≡ i = omega arith in
+    ap₂ (λ (a b : ℕ). getD xs a 0 / 2 ^ b % 2 * 2 ^ i) a b)
+    ∙ number-digits (getD xs j 0) 8 ∙ mod-eq-of-lt (h j)
+
+-- a table of the bytes' values is the bytes
+pub bytes-are : (xs : List ℕ) (f : ℕ → ℕ) → ((j : ℕ) → j < length xs → f j ≡ getD xs j 0) → table (length xs) f ≡ xs
+bytes-are xs f h =
+    ext-getD 0 _ xs (length-table f (length xs)) (λ j l.
+    let k : j < length xs = omega (arith, length-table f (length xs), l) in table-at f (length xs) j k ∙ h j k)
+
+-- bytes are the bytes of their bits
+pub bytes-of-bits : (xs : List ℕ) → ((j : ℕ) → getD xs j 0 < 256) → bytesOf (length xs) (messageBit xs) ≡ xs
+unfolding bytesOf
+bytes-of-bits xs h = bytes-are xs (byteOf (messageBit xs)) (λ j l. byte-of-bits xs h j)
+
+-- past the end every bit is 0
+pub bit-past : (xs : List ℕ) (k : ℕ) → 8 * length xs ≤ k → messageBit xs k ≡ 0
+unfolding messageBit
+bit-past xs k h =
+    let l : length xs ≤ k / 8 = omega arith in
+    ap (λ (x : ℕ). x / 2 ^ (k % 8) % 2) (List·getD-eq-default xs 0 l) ∙ ap (λ (x : ℕ). x % 2) (zero-div (2 ^ (k % 8)))
+
+-- ---- one bit put
+
+pick-small : (t : Bool) (x y : ℕ) → x < 2 → y < 2 → pick t x y < 2
+pick-small true x y a b = a
+pick-small false x y a b = b
+
+-- the bits f with c at k
+abbrev putAt : ℕ → ℕ → (ℕ → ℕ) → ℕ → ℕ
+putAt k c f i = pick (eqb i k) c (f i)
+
+module _ (f : ℕ → ℕ) (k : ℕ) where
+  put-same : (c : ℕ) → putAt k c f k ≡ c
+  put-same c = rw (eq-eqb k k refl)
+
+  put-other : (c i : ℕ) → (i ≡ k → ⊥) → putAt k c f i ≡ f i
+  put-other c i n = rw (ne-eqb i k n)
+
+  put-own : (i : ℕ) → putAt k (f k) f i ≡ f i
+  put-own i = go (ℕ-discrete i k)
+    where
+      go : Dec (i ≡ k) → putAt k (f k) f i ≡ f i
+      go (yes e) = rw (eq-eqb i k e) (ap f (sym e))
+      go (no n) = put-other (f k) i n
+
+-- one term of a sum
+sum-change : (n : ℕ) (f g : ℕ → ℕ) (s d : ℕ) → s < n → ((i : ℕ) → (i ≡ s → ⊥) → g i ≡ f i) → g s ≡ f s + d → sumTo n g ≡ sumTo n f + d
+unfolding sumTo
+sum-change zero f g s d h other at = absurd (omega arith)
+sum-change (suc n) f g s d h other at = go (λ l. sum-change n f g s d l other at) (ℕ-discrete s n)
+  where
+    go : (s < n → sumTo n g ≡ sumTo n f + d) → Dec (s ≡ n) → sumTo n g + g n ≡ sumTo n f + f n + d
+    go ih (yes e) = omega (arith, sum-ext n {f = g} {g = f} (λ i l. other i (λ x. omega arith)), at, ap g e, ap f e)
+    go ih (no k) = omega (arith, ih (omega arith), other n (λ e. k (sym e)))
+
+module _ (f : ℕ → ℕ) (k : ℕ) where
+  -- the byte of bit k, over the byte where that bit is 0
+  put-byte : (c : ℕ) → byteOf (putAt k c f) (k / 8) ≡ byteOf (putAt k 0 f) (k / 8) + c * 2 ^ (k % 8)
+  unfolding byteOf
+  put-byte c =
+      sum-change 8 (λ i. putAt k 0 f (8 * (k / 8) + i) * 2 ^ i) (λ i. putAt k c f (8 * (k / 8) + i) * 2 ^ i) (k % 8) (c * 2 ^ (k % 8)) (omega arith)
+      (λ i n. ap (λ (x : ℕ). x * 2 ^ i) (apart c i n ∙ sym (apart 0 i n)))
+      (ap (λ (x : ℕ). x * 2 ^ (k % 8)) (here c) ∙ sym (ap (λ (x : ℕ). x * 2 ^ (k % 8) + c * 2 ^ (k % 8)) (here 0) ∙ rw (zero-mul, zero-add)))
+    where
+      here : (c : ℕ) → putAt k c f (8 * (k / 8) + k % 8) ≡ c
+      here c = let e : 8 * (k / 8) + k % 8 ≡ k = omega arith in ap (putAt k c f) e ∙ put-same f k c
+
+      apart : (c i : ℕ) → (i ≡ k % 8 → ⊥) → putAt k c f (8 * (k / 8) + i) ≡ f (8 * (k / 8) + i)
+      apart c i n = put-other f k c (8 * (k / 8) + i) (λ e. n (omega arith))
+
+  other-byte : (c j : ℕ) → (j ≡ k / 8 → ⊥) → byteOf (putAt k c f) j ≡ byteOf f j
+  unfolding byteOf
+  other-byte c j n = sum-ext 8 (λ i hi. ap (λ (x : ℕ). x * 2 ^ i) (put-other f k c (8 * j + i) (λ e. n (omega arith))))
+
+-- the store of a bit, as shifts, a difference and a sum of bytes
+module _ (xs : List ℕ) (bytes : (j : ℕ) → getD xs j 0 < 256) (k b : ℕ) (h : k < 8 * length xs) (hb : b < 2) where
+  abbrev part : ℕ → ℕ
+  part c = c * 2 ^ (k % 8)
+
+  abbrev rest : ℕ
+  rest = byteOf (putAt k 0 (messageBit xs)) (k / 8)
+
+  byte-lt-put : (c : ℕ) → c < 2 → rest + part c < 256
+  byte-lt-put c hc =
+      omega (
+        arith,
+        put-byte (messageBit xs) k c,
+        byte-lt (putAt k c (messageBit xs)) (k / 8) (λ i l. pick-small (eqb (8 * (k / 8) + i) k) c _ hc (message-small xs (8 * (k / 8) + i))),
+      )
+
+  was : getD xs (k / 8) 0 ≡ rest + part (messageBit xs k)
+  unfolding byteOf
+  was =
+      sym (byte-of-bits xs bytes (k / 8))
+      ∙ sum-ext 8 (λ i l. ap (λ (x : ℕ). x * 2 ^ i) (sym (put-own (messageBit xs) k (8 * (k / 8) + i))))
+      ∙ put-byte (messageBit xs) k (messageBit xs k)
+
+  whole : (c : ℕ) → c < 2 → part c % 256 ≡ part c
+  whole c hc = mod-eq-of-lt (omega (arith, byte-lt-put c hc))
+
+  pub store-sub : part (messageBit xs k) % 256 ≤ getD xs (k / 8) 0
+  store-sub = omega (arith, was, whole (messageBit xs k) (message-small xs k))
+
+  stored : getD xs (k / 8) 0 - part (messageBit xs k) % 256 + part b % 256 ≡ rest + part b
+  stored = omega (arith, was, whole (messageBit xs k) (message-small xs k), whole b hb)
+
+  pub store-fits : getD xs (k / 8) 0 - part (messageBit xs k) % 256 + part b % 256 < 256
+  store-fits = omega (arith, stored, byte-lt-put b hb)
+
+  pub store-bit : set xs (k / 8) (getD xs (k / 8) 0 - part (messageBit xs k) % 256 + part b % 256) ≡ withBit k b xs
+  unfolding withBit bytesOf
+  store-bit =
+      sym (ap (λ (n : ℕ). table n (byteOf (putAt k b (messageBit xs)))) (sym (length-set xs (k / 8) v))
+      ∙ bytes-are (set xs (k / 8) v) (byteOf (putAt k b (messageBit xs))) (λ j l. at-byte j (ℕ-discrete j (k / 8))))
+    where
+      v : ℕ
+      v = getD xs (k / 8) 0 - part (messageBit xs k) % 256 + part b % 256
+
+      at-byte : (j : ℕ) → Dec (j ≡ k / 8) → byteOf (putAt k b (messageBit xs)) j ≡ getD (set xs (k / 8) v) j 0
+      at-byte j (yes e) =
+          subst (λ (i : ℕ). byteOf (putAt k b (messageBit xs)) i ≡ getD (set xs (k / 8) v) i 0) (sym e)
+          (put-byte (messageBit xs) k b ∙ sym stored ∙ sym (getD-set-same xs (k / 8) v 0 (omega arith)))
+      at-byte j (no n) =
+          other-byte (messageBit xs) k b j n ∙ byte-of-bits xs bytes j ∙ sym (getD-set-other xs (k / 8) j v 0 n)
+
+-- ---- bits in a row
+
+module _ (from count : ℕ) (new old : ℕ → ℕ) where
+  pub with-in : (k : ℕ) → k < count → withBits from count new old (from + k) ≡ new k
+  unfolding withBits
+  with-in k h = rw (le-leb from (from + k) (omega arith), lt-ltb (from + k) (from + count) (omega arith)) (ap new (omega arith))
+
+  pub with-before : (i : ℕ) → i < from → withBits from count new old i ≡ old i
+  unfolding withBits
+  with-before i h = rw (lt-leb from i h)
+
+  pub with-past : (i : ℕ) → from + count ≤ i → withBits from count new old i ≡ old i
+  unfolding withBits
+  with-past i h = rw (le-ltb i (from + count) h, and-false)
+
+  pub with-small : ((k : ℕ) → new k < 2) → ((i : ℕ) → old i < 2) → (i : ℕ) → withBits from count new old i < 2
+  unfolding withBits
+  with-small a b i = pick-small (leb from i && ltb i (from + count)) (new (i - from)) (old i) (a (i - from)) (b i)
+
+module _ (from : ℕ) (new old : ℕ → ℕ) where
+  pub with-none : (i : ℕ) → withBits from 0 new old i ≡ old i
+  with-none i = go (decLt i from)
+    where
+      go : Dec (i < from) → withBits from 0 new old i ≡ old i
+      go (yes l) = with-before from 0 new old i l
+      go (no n) = with-past from 0 new old i (omega arith)
+
+  with-more : (k i : ℕ) → putAt (from + k) (new k) (withBits from k new old) i ≡ withBits from (k + 1) new old i
+  with-more k i = go (ℕ-discrete i (from + k)) (decLt i from) (decLt i (from + k))
+    where
+      go : Dec (i ≡ from + k) → Dec (i < from) → Dec (i < from + k)
+          → putAt (from + k) (new k) (withBits from k new old) i ≡ withBits from (k + 1) new old i
+      go (yes e) a b =
+          rw (eq-eqb i (from + k) e) (sym (ap (withBits from (k + 1) new old) e ∙ with-in from (k + 1) new old k (omega arith)))
+      go (no n) (yes l) b =
+          rw (ne-eqb i (from + k) n) (with-before from k new old i l ∙ sym (with-before from (k + 1) new old i l))
+      go (no n) (no a) (yes l) =
+          let e : i ≡ from + (i - from) = omega arith in
+          rw (ne-eqb i (from + k) n)
+          (ap (withBits from k new old) e ∙ with-in from k new old (i - from) (omega arith)
+          ∙ sym (ap (withBits from (k + 1) new old) e ∙ with-in from (k + 1) new old (i - from) (omega arith)))
+      go (no n) (no a) (no b) =
+          rw (ne-eqb i (from + k) n) (with-past from k new old i (omega arith) ∙ sym (with-past from (k + 1) new old i (omega arith)))
+
+  -- one bit more
+  pub with-step : ((k : ℕ) → new k < 2) → ((i : ℕ) → old i < 2) → (n k : ℕ)
+      → withBit (from + k) (new k) (bytesOf n (withBits from k new old)) ≡ bytesOf n (withBits from (k + 1) new old)
+  unfolding withBit
+  with-step a b n k =
+      ap (λ (l : ℕ). bytesOf l (putAt (from + k) (new k) (messageBit (bytesOf n (withBits from k new old))))) (length-bytes n (withBits from k new old))
+      ∙ bytes-ext n _ _ (λ i l.
+      ap (pick (eqb i (from + k)) (new k)) (bits-of-bytes n (withBits from k new old) (λ j h. with-small from k new old a b j) i l) ∙ with-more k i)

@@ -1,0 +1,18 @@
+-- `positions`: a shift that loses nothing. Assumes nothing.
+use Prim.Native.Nat.{ℕ, _^_, _<_}
+use mathlib.Core.Path.{_∙_}
+use native.Mathlib.Nat.{mod-eq-of-lt, one-mul}
+use native.Mathlib.Omega.{arith}
+use borrow.Author.Needs.{needs}
+use Rattle.reed_muller.proofs.MaskTables.{short}
+use Rattle.reed_muller.proofs.positions.Statement.{statement}
+use Rattle.reed_muller.proofs.positions.Tie as tie
+
+shl-result : tie.Need-shl-result
+shl-result c = search needs
+
+returns : tie.Need-returns
+returns c = omega (arith, short (c .pre))
+
+pub positions-spec : {M : Type 1} → statement M
+positions-spec = tie.close (tie.spec shl-result returns)
