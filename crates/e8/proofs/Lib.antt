@@ -1,1 +1,7 @@
 pub mod Example
+pub mod Order
+pub mod Cent
+pub mod Best
+pub mod Group
+pub mod Block
+pub mod Rows

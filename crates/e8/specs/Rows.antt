@@ -12,10 +12,10 @@ abbrev pub ints : List ℕ → List ℤ
 ints [] = []
 ints (s ∷ ss) = pos s ∷ ints ss
 
--- a vector h times
-abbrev pub times : ℕ → List ℤ → List ℤ
-times h [] = []
-times h (w ∷ ws) = (pos h *ℤ w) ∷ times h ws
+-- a vector q times
+abbrev pub times : ℤ → List ℤ → List ℤ
+times q [] = []
+times q (w ∷ ws) = (q *ℤ w) ∷ times q ws
 
 -- twice matrix (39), row by row
 abbrev pub matrix : List (List ℕ)
@@ -32,7 +32,7 @@ matrix =
 
 -- the generators: 2^b times the rows of matrix (39)
 abbrev pub rows : ℕ → List (List ℤ)
-rows h = map (λ row. times h (ints row)) matrix
+rows h = map (λ row. times (pos h) (ints row)) matrix
 
 -- the sum of two vectors, coordinate by coordinate
 abbrev pub add : List ℤ → List ℤ → List ℤ
@@ -40,16 +40,11 @@ add [] ys = []
 add (x ∷ xs) [] = []
 add (x ∷ xs) (y ∷ ys) = (x +ℤ y) ∷ add xs ys
 
--- a vector taken q times
-abbrev pub taken : ℤ → List ℤ → List ℤ
-taken q [] = []
-taken q (w ∷ ws) = (q *ℤ w) ∷ taken q ws
-
 -- the combination of rows of eight numbers with the whole numbers qs
 abbrev pub combination : List ℤ → List (List ℤ) → List ℤ
 combination [] rs = ints (0 ∷ 0 ∷ 0 ∷ 0 ∷ 0 ∷ 0 ∷ 0 ∷ 0 ∷ [])
 combination (q ∷ qs) [] = ints (0 ∷ 0 ∷ 0 ∷ 0 ∷ 0 ∷ 0 ∷ 0 ∷ 0 ∷ [])
-combination (q ∷ qs) (r ∷ rs) = add (taken q r) (combination qs rs)
+combination (q ∷ qs) (r ∷ rs) = add (times q r) (combination qs rs)
 
 -- the rows after the first, taken off as often as the remainder in their own place stays from 0 on; each changes the last place too, by 2h·Q in all
 abbrev pub remainders : ℕ → ℤ → List ℤ → List ℕ
