@@ -14,7 +14,8 @@ use Rattle.integers.proofs.Floor.{modZ-lt, div-mod, rem-is, digits-q, digits-r}
 use Rattle.e8.specs.Lattice.{sum, bit, Each, TwoE8, moved, InBlock}
 use Rattle.e8.specs.Least.{lowered}
 use Rattle.e8.specs.Rows.{ints, remainders, reduced, Below, Ranged}
-use Rattle.e8.proofs.Group.{block-trans, block-sym, block-const, block-length, to-four, of-four}
+use Rattle.e8.proofs.Points.{to-four, of-four}
+use Rattle.e8.proofs.Group.{block-trans, block-sym, block-const}
 
 -- ---- in range
 

@@ -1,6 +1,6 @@
--- The energy of an integer frame and the squared distance of two (document 01, "Shaping"). Clients cite sq, energy, distance. Assumes nothing.
+-- The energy of an integer frame, the squared distance of two, and the size of coordinates (document 01, "Shaping"). Clients cite all of it. Assumes nothing.
 use mathlib.Core.List.{List, [], _∷_}
-use Prim.Native.Nat.{ℕ, _+_, _*_}
+use Prim.Native.Nat.{ℕ, _+_, _*_, _≤_}
 use lib.IntN.{ℤ, _-ℤ_, natAbs}
 
 -- the square of an integer
@@ -17,3 +17,8 @@ unfoldable pub distance : List ℤ → List ℤ → ℕ
 distance [] ys = 0
 distance (x ∷ xs) [] = 0
 distance (x ∷ xs) (y ∷ ys) = sq (x -ℤ y) + distance xs ys
+
+-- every coordinate is at most B in size
+abbrev pub Within : ℕ → List ℤ → Type 0
+Within B [] = Unit {0}
+Within B (z ∷ zs) = (natAbs z ≤ B) × Within B zs
