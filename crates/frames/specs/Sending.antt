@@ -1,14 +1,15 @@
 -- What sending answers: the number of the first test that is not passed, the frame and the energy (document 01, "Numbers"). Assumes nothing.
-use Prim.Native.Nat.{ℕ, zero, suc, _+_, _-_, _*_, _^_}
+use Prim.Native.Nat.{ℕ, zero, suc, _+_, _-_, _*_, _^_, _≤_}
+use mathlib.Core.Path.{_≡_}
 use mathlib.Core.Bool.{Bool, true, false, _&&_, _||_, cond}
 use mathlib.Core.List.{List}
 use lib.Dec.{eqb, leb}
 use lib.ListN.{length}
 use lib.IntN.{ℤ}
 use Rattle.reed_muller.specs.Message.{messageBit}
-use Rattle.e8.specs.Energy.{energy}
-use Rattle.frames.specs.Kind.{isKind, messageBits, messageBytes}
-use Rattle.frames.specs.Frame.{sentFrame}
+use Rattle.e8.specs.Energy.{energy, Within}
+use Rattle.frames.specs.Kind.{isKind, messageBits, messageBytes, scale}
+use Rattle.frames.specs.Frame.{SameClass, sentFrame}
 
 -- one of the n bits from `from` on is set
 unfoldable pub anySet : (ℕ → ℕ) → ℕ → ℕ → Bool
@@ -47,3 +48,10 @@ frameAfter k b bytes f = cond (eqb (sendRefusal k b bytes (length f)) 0) (sentFr
 unfoldable pub energySent : ℕ → ℕ → List ℕ → ℕ → ℕ
 unfolding sendRefusal sentFrame
 energySent k b bytes n = cond (eqb (sendRefusal k b bytes n) 0) (energy (sentFrame k b bytes)) 0
+
+-- what sending promises of the frame that it wrote and of the energy e that it reports: e is the frame's energy, every integer frame
+-- that differs from it by a point of the shaping lattice has at least that, and no coordinate is larger than M in size
+pub record LeastEnergy (k b : ℕ) (f : List ℤ) (e : ℕ) : Type 0 where
+  pub reported : e ≡ energy f
+  pub least : (g : List ℤ) → SameClass k b f g → e ≤ energy g
+  pub small : Within (scale k b) f
