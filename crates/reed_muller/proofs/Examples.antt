@@ -1,7 +1,6 @@
--- What document 01 writes out. Assumes nothing.
-use Prim.Native.Nat.{ℕ}
+-- What document 01 writes out of the level codes. Assumes nothing.
 use mathlib.Core.Path.{_≡_, refl}
-use mathlib.Core.List.{List, [], _∷_}
+use mathlib.Core.List.{[], _∷_}
 use lib.Count.{ones}
 use Rattle.reed_muller.specs.Level.{table, ofWeight, masks, dimension}
 
@@ -10,6 +9,7 @@ pub kind-4-level-1 : masks 3 4 ≡ 0 ∷ 1 ∷ 2 ∷ 4 ∷ 8 ∷ 3 ∷ 5 ∷ 6 �
 unfolding masks ofWeight table ones
 kind-4-level-1 = refl
 
+-- the code dimensions are 4; 5 and 15; 6 and 26
 pub dimensions : dimension 1 3 ∷ dimension 1 4 ∷ dimension 3 4 ∷ dimension 1 5 ∷ dimension 3 5 ∷ [] ≡ 4 ∷ 5 ∷ 15 ∷ 6 ∷ 26 ∷ []
 unfolding dimension masks ofWeight table ones
 dimensions = refl

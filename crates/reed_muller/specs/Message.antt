@@ -1,7 +1,7 @@
 -- The bits of a message's bytes, and bytes with bits put into them.
 -- Clients cite messageBit, bytesOf, withBit and withBits. Assumes nothing.
 use Prim.Native.Nat.{ℕ, _+_, _-_, _*_, _/_, _%_, _^_}
-use mathlib.Core.Bool.{Bool, _&&_}
+use mathlib.Core.Bool.{_&&_}
 use mathlib.Core.List.{List}
 use lib.Dec.{eqb, leb, ltb}
 use lib.ListN.{length, getD}

@@ -211,14 +211,14 @@ pub fn bit_of_mask(word: &[u8], m: usize, mask: usize) -> u8
     s
 }
 
-// Whether a word belongs to RM(r,m): the bit is 0 for every mask past the first `dimension`.
+// Whether a word belongs to RM(r,m): the bit is 0 for every mask of the order from the dimension on.
 pub fn is_codeword(word: &[u8], m: usize, r: usize) -> bool
     requires { ⌜ Tabled m × (r ≤ m) × (2 ^ m ≤ length (now word)) ⌝ }
     ensures { λ b. ⌜ b ≡ belongs r m (λ p. getD (now (word .entry)) p 0) ⌝ }
 {
-    let n = positions(m);
+    let last = positions(m) - 1;
     let mut k = dimension_of(m, r);
-    while k < n {
+    while k <= last {
         if bit_of_mask(word, m, mask_at(m, k)) != 0 {
             return false;
         }

@@ -1,10 +1,10 @@
 -- `bit_of_mask`: the loop keeps the parity of the values passed that lie in the mask. Assumes nothing.
-use Prim.Native.Nat.{ℕ, _+_, _-_, _^_, _≤_, _<_}
+use Prim.Native.Nat.{ℕ, _-_, _^_, _≤_}
 use mathlib.Core.Path.{_≡_, ap, sym, _∙_}
 use mathlib.Core.Bool.{Bool}
 use mathlib.Core.Logic.{⊎-elim}
 use native.Mathlib.Omega.{arith}
-use lib.ListN.{length, getD}
+use lib.ListN.{getD}
 use borrow.Author.Tests.{eq-eqb, ne-eqb}
 use Rattle.reed_muller.specs.Level.{liesIn, backwards}
 use Rattle.reed_muller.proofs.Parity.{tested, tested-none, tested-in, tested-out}

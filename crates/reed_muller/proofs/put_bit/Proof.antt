@@ -1,5 +1,4 @@
 -- `put_bit`: the byte of bit k, less the old bit, and the new one. Assumes nothing.
-use native.Mathlib.Omega.{arith}
 use borrow.Author.Needs.{needs}
 use Rattle.reed_muller.specs.Message.{messageBit}
 use Rattle.reed_muller.proofs.Message.{store-sub, store-fits, store-bit}

@@ -1,11 +1,11 @@
 -- `value_at`: the loop keeps the parity of the message bits passed whose masks lie in p. Assumes nothing.
-use Prim.Native.Nat.{ℕ, _+_, _-_, _≤_, _<_}
+use Prim.Native.Nat.{ℕ, _+_, _-_, _≤_}
 use mathlib.Core.Path.{_≡_, ap, sym, _∙_}
 use mathlib.Core.Bool.{Bool}
 use mathlib.Core.Logic.{⊎-elim}
 use native.Mathlib.Omega.{arith}
 use mathlib.Core.List.{List}
-use lib.ListN.{length, getD}
+use lib.ListN.{getD}
 use borrow.Author.Tests.{eq-eqb, ne-eqb}
 use Rattle.reed_muller.specs.Level.{liesIn, order, dimension, codeword}
 use Rattle.reed_muller.specs.Message.{messageBit}
@@ -14,8 +14,6 @@ use Rattle.reed_muller.proofs.Order.{dimension-small}
 use Rattle.reed_muller.proofs.Parity.{tested, tested-none, tested-small, tested-in, tested-out, message-small}
 use Rattle.reed_muller.proofs.value_at.Statement.{statement}
 use Rattle.reed_muller.proofs.value_at.Tie as tie
-use Rattle.reed_muller.proofs.value_at.Reads as reads
-use Rattle.reed_muller.proofs.value_at.Lts as lts
 
 -- mask k of the order lies in p; message bit k from `from` on
 abbrev in-p : ℕ → ℕ → ℕ → Bool
