@@ -1,14 +1,14 @@
 -- The class of a frame: the lattice point by which two members differ, coordinate by coordinate, and what it leaves alone. Assumes nothing.
-use Prim.Native.Nat.{ℕ, zero, suc, _+_, _-_, _*_, _%_, _/_, _^_, _≤_, _<_}
-use mathlib.Core.Path.{_≡_, refl, sym, ap, _∙_, subst}
-use mathlib.Core.List.{List, [], _∷_}
+use Prim.Native.Nat.{ℕ, suc, _+_, _-_, _*_, _%_, _/_, _^_, _<_}
+use mathlib.Core.Path.{_≡_, sym, ap, _∙_, subst}
+use mathlib.Core.List.{List, []}
 use native.Mathlib.Decide.{decLt}
 use native.Mathlib.Omega.{arith}
 use lib.ListN.{length}
 use lib.Pow.{pow-add}
-use lib.IntN.{ℤ, pos, negℤ, _+ℤ_, _-ℤ_, _*ℤ_}
-use Rattle.integers.proofs.Zed.{E, `_, #_, _⊕_, _⊖_, _⊗_, ⊝_, eq!, eq?}
-use Rattle.e8.specs.Lattice.{TwoE8, moved, InBlock, part, Differ}
+use lib.IntN.{ℤ, pos, negℤ, _-ℤ_, _*ℤ_}
+use Rattle.integers.proofs.Zed.{E, `_, #_, _⊕_, _⊖_, _⊗_, ⊝_, eq! }
+use Rattle.e8.specs.Lattice.{TwoE8, moved, part, Differ}
 use Rattle.frames.specs.Kind.{degrees, levels, blocks, scale}
 use Rattle.frames.specs.Frame.{half, SameClass}
 use Rattle.frames.proofs.Levels.{Fit, Codes}

@@ -8,15 +8,13 @@ use native.Mathlib.Omega.{arith}
 use lib.ListN.{length, getD}
 use lib.Pow.{pow-pos}
 use lib.IntN.{ℤ, pos, _+ℤ_, _-ℤ_, _*ℤ_}
-use Rattle.integers.proofs.Zed.{E, #_, _⊕_, _⊗_, eq! }
+use Rattle.integers.proofs.Zed.{#_, _⊕_, _⊗_, eq! }
 use Rattle.reed_muller.specs.Level.{sumTo}
 use Rattle.reed_muller.specs.Message.{messageBit}
 use Rattle.e8.specs.Energy.{sq, energy, distance, Within}
-use Rattle.e8.specs.Lattice.{Differ}
-use Rattle.e8.specs.Least.{IsLeast, leastFrame}
-use Rattle.e8.proofs.Frame.{differ-refl, differ-sym, differ-trans, frame-size, leastFrame-is, least-only, leastFrame-within}
+use Rattle.e8.proofs.Frame.{differ-refl, differ-sym, differ-trans, leastFrame-is, least-only, leastFrame-within}
 use Rattle.frames.specs.Kind.{isKind, degrees, levels, blocks, scale}
-use Rattle.frames.specs.Message.{Message, blockNumbers, stacked, coordinate, leader}
+use Rattle.frames.specs.Message.{Message, blockNumbers, coordinate, leader}
 use Rattle.frames.specs.Frame.{InCodingSet, half, SameClass, Sent, sentFrame, leastDistance}
 use Rattle.frames.specs.Sending.{isGrade}
 use Rattle.frames.specs.Reading.{openMessage}

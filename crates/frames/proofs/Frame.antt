@@ -2,20 +2,20 @@
 use Prim.Native.Nat.{ℕ, zero, suc, _+_, _-_, _*_, _%_, _/_, _^_, _≤_, _<_}
 use mathlib.Core.Path.{_≡_, refl, sym, ap, ap₂, _∙_, subst, fun-ext}
 use mathlib.Core.Bool.{true}
-use mathlib.Core.List.{List, [], _∷_, _++_, map}
+use mathlib.Core.List.{List, [], _∷_, _++_}
 use native.Mathlib.Nat.{mod-lt, pow-suc, div-add-mod', mul-le-mul-right}
 use native.Mathlib.Decide.{decLt}
 use native.Mathlib.Omega.{arith}
-use lib.ListN.{length, getD, take, drop, length-take, length-drop}
+use lib.ListN.{length, getD, length-take, length-drop}
 use lib.Seq.{getD-take, getD-drop, ext-getD}
 use lib.Pow.{pow-pos}
 use lib.IntN.{ℤ, pos, _+ℤ_, _-ℤ_, _*ℤ_}
 use lib.Signed.{shrZ}
 use Rattle.integers.specs.Integer.{modZ}
-use Rattle.integers.proofs.Zed.{E, `_, #_, _⊕_, _⊖_, _⊗_, eq!, eq?}
+use Rattle.integers.proofs.Zed.{`_, #_, _⊕_, _⊗_, eq!, eq?}
 use Rattle.integers.proofs.Floor.{div-mod, modZ-lt, quot-is, rem-is, shr-one, shr-shr}
 use Rattle.reed_muller.specs.Level.{belongs}
-use Rattle.e8.specs.Lattice.{TwoE8, moved, InBlock, part, Differ}
+use Rattle.e8.specs.Lattice.{moved, part}
 use Rattle.e8.specs.Rows.{ints}
 use Rattle.frames.specs.Frame.{weightBit, levelWord}
 use Rattle.frames.specs.Reading.{levelMessage, levelMessages, quotients}

@@ -1,9 +1,9 @@
 -- One message for each class: the message read from a frame of the coding set has its leader in the frame's class, and no other message has.
 -- For any kind of whole blocks and any grade. Assumes nothing.
 use Prim.Native.Nat.{ℕ, zero, suc, _+_, _-_, _*_, _%_, _/_, _^_, _≤_, _<_}
-use mathlib.Core.Path.{_≡_, refl, sym, ap, ap₂, _∙_, subst, fun-ext}
+use mathlib.Core.Path.{_≡_, sym, ap, ap₂, _∙_, subst, fun-ext}
 use mathlib.Core.List.{List, [], _∷_, _++_}
-use native.Mathlib.Nat.{mod-lt, mul-le-mul-left, div-add-mod', eq-of-mul-eq-mul-left}
+use native.Mathlib.Nat.{mod-lt, mul-le-mul-left, div-add-mod'}
 use native.Mathlib.Decide.{decLt, ℕ-discrete}
 use native.Mathlib.Omega.{arith}
 use lib.Dec.{lit<}
@@ -11,22 +11,20 @@ use lib.ListN.{length, getD, length-append, List·getD-append, List·getD-eq-def
 use lib.Seq.{getD-append-add}
 use lib.Pow.{pow-pos}
 use lib.IntN.{ℤ, pos, _+ℤ_, _-ℤ_, _*ℤ_}
-use lib.Signed.{shrZ}
-use Rattle.integers.proofs.Zed.{E, `_, #_, _⊕_, _⊖_, _⊗_, ⊝_, eq!, eq?}
+use Rattle.integers.proofs.Zed.{`_, #_, _⊕_, _⊖_, _⊗_, eq!, eq?}
 use Rattle.reed_muller.specs.Level.{table, dimension, order, backwards}
 use Rattle.reed_muller.specs.Message.{messageBit, byteOf, bytesOf}
 use Rattle.reed_muller.proofs.Table.{length-table, table-at}
 use Rattle.reed_muller.proofs.Parity.{message-small, backwards-small}
-use Rattle.reed_muller.proofs.Message.{length-bytes, bits-of-bytes, bytes-ext, bytes-of-bits, bit-past, byte-lt}
-use Rattle.e8.specs.Lattice.{TwoE8, moved, InBlock, part, Differ}
-use Rattle.e8.specs.Rows.{ints, reduced, Ranged}
-use Rattle.e8.proofs.Group.{block-length, block-sym}
+use Rattle.reed_muller.proofs.Message.{length-bytes, bits-of-bytes, bytes-of-bits, bit-past, byte-lt}
+use Rattle.e8.specs.Lattice.{InBlock, part}
+use Rattle.e8.specs.Rows.{ints, reduced}
+use Rattle.e8.proofs.Group.{block-length}
 use Rattle.e8.proofs.Rows.{reduced-ranged, reduced-in, ranged-unique}
 use Rattle.frames.specs.Kind.{degrees, levels, blocks, dimensions, levelBits, messageBits, messageBytes}
-use Rattle.frames.specs.Message.{Message, widths, numbers, blockNumbers, stacked, coordinate, leader}
+use Rattle.frames.specs.Message.{Message, widths, blockNumbers, stacked, coordinate, leader}
 use Rattle.frames.specs.Frame.{levelWord, InCodingSet, half, SameClass}
 use Rattle.frames.specs.Reading.{levelMessage, levelMessages, quotients, digits, allDigits, blockMessages, readBits, openMessage}
-use Rattle.frames.proofs.Levels.{Fit, Codes}
 use Rattle.frames.proofs.Stacked.{Agree, stacked-agree, readLevels, levels-length, stacked-read}
 use Rattle.frames.proofs.Numbers.{total, Fits, numbers-fit, fits-length, numbers-agree, all-length, numbers-read, total-widths, fits-ranged, ranged-fits}
 use Rattle.frames.proofs.Frame.{at, codes-of, messages-of, quotient-at, quotients-length, ints-at, ints-length, part-length, part-at, moved-at, is-moved}

@@ -1,14 +1,13 @@
 -- At each kind and grade two messages are sent at exactly the least distance: all zeros, and the message with the bit of mask 1 at level 0.
 -- Assumes nothing.
-use Prim.Native.Nat.{ℕ, zero, suc, _+_, _-_, _*_, _/_, _%_, _^_, _≤_, _<_}
-use mathlib.Core.Path.{_≡_, refl, sym, ap, _∙_}
+use Prim.Native.Nat.{ℕ, zero, suc, _-_, _/_, _%_, _^_, _≤_, _<_}
+use mathlib.Core.Path.{_≡_, refl, ap, _∙_}
 use mathlib.Core.Bool.{true}
-use mathlib.Core.List.{List, [], _∷_}
+use mathlib.Core.List.{List, _∷_}
 use native.Mathlib.Nat.{zero-div}
 use native.Mathlib.Omega.{arith}
 use lib.Count.{ones}
-use lib.ListN.{length, getD, replicate, length-replicate}
-use lib.IntN.{ℤ}
+use lib.ListN.{getD, replicate, length-replicate}
 use Rattle.reed_muller.specs.Level.{sumTo, table, ofWeight, masks, order, dimension, codeword}
 use Rattle.reed_muller.specs.Message.{messageBit}
 use Rattle.e8.specs.Energy.{sq, energy, distance}

@@ -1,13 +1,13 @@
 -- What the table of kinds says, kind by kind, and what it gives the laws. Assumes nothing.
-use Prim.Native.Nat.{ℕ, zero, suc, _+_, _*_, _/_, _^_, _≤_, _<_}
-use mathlib.Core.Path.{_≡_, refl, sym, ap, _∙_, subst}
+use Prim.Native.Nat.{ℕ, zero, suc, _+_, _*_, _≤_}
+use mathlib.Core.Path.{_≡_, refl, sym, subst}
 use mathlib.Core.Bool.{Bool, true, false, _&&_, _||_, true≢false}
 use native.Mathlib.Omega.{arith}
 use lib.Count.{ones}
 use lib.Dec.{eqb, leb}
 use borrow.Author.Tests.{eqb-true, leb-true}
 use Rattle.reed_muller.specs.Level.{dimension, masks, ofWeight, table}
-use Rattle.frames.specs.Kind.{kinds, isKind, degrees, levels, levelBits, messageBits, messageBytes, scale}
+use Rattle.frames.specs.Kind.{kinds, isKind, degrees, levelBits, messageBits, messageBytes}
 use Rattle.frames.specs.Frame.{leastDistance}
 use Rattle.frames.specs.Sending.{isGrade}
 use Rattle.frames.proofs.Levels.{apartBy}

@@ -4,3 +4,4 @@ pub mod Front
 pub mod Answers
 pub mod Stack
 pub mod Block
+pub mod Turn

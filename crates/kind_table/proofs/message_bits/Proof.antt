@@ -1,7 +1,7 @@
 -- `kind_table::message_bits` meets its contract. Assumes nothing.
 use native.Mathlib.Omega.{arith}
-use Prim.Native.Nat.{ℕ, _*_, _≤_, _^_}
-use mathlib.Core.Path.{_≡_, ap, ap₂}
+use Prim.Native.Nat.{ℕ, _*_, _≤_}
+use mathlib.Core.Path.{ap}
 use Rattle.frames.specs.Kind.{messageBits}
 use Rattle.kind_table.proofs.Each.{bits-row, coordinate-bits}
 use borrow.Author.Needs.{needs}

@@ -1,6 +1,6 @@
 -- `kind_table::message_bytes` meets its contract. Assumes nothing.
 use native.Mathlib.Omega.{arith}
-use Rattle.frames.specs.Kind.{messageBits, messageBytes}
+use Rattle.frames.specs.Kind.{messageBytes}
 use Rattle.kind_table.proofs.Each.{message-small}
 use borrow.Author.Needs.{needs}
 use Rattle.kind_table.proofs.message_bytes.Statement.{statement}

@@ -1,6 +1,6 @@
 -- `leader::add_level` meets its contract: the codeword, and it under the sums. Assumes nothing.
 use Prim.Native.Nat.{ℕ, _+_, _^_, _<_}
-use mathlib.Core.Path.{_≡_, refl, sym, ap, _∙_, subst}
+use mathlib.Core.Path.{sym, ap, _∙_, subst}
 use mathlib.Core.List.{List}
 use lib.ListN.{length, getD}
 use Rattle.reed_muller.specs.Level.{codeword}
@@ -10,16 +10,10 @@ use Rattle.sending.proofs.Stack.{word-below, level-under}
 use borrow.Author.Needs.{needs}
 use Rattle.sending.proofs.leader.add_level.Statement.{statement}
 use Rattle.sending.proofs.leader.add_level.Tie as tie
-use Rattle.sending.proofs.leader.add_level.Reads as reads
-use Rattle.sending.proofs.leader.add_level.Lts as lts
-use Rattle.reed_muller.proofs.encode.Reads as encode-reads
-use Rattle.sending.proofs.leader.under.Reads as under-reads
 
--- src/leader.rt:62:5
 encode-requires : tie.Need-encode-requires
 encode-requires c κs = search needs
 
--- src/leader.rt:63:5
 under-requires : tie.Need-under-requires
 under-requires c κs =
     let e = c .before .before .before .before in
@@ -32,15 +26,12 @@ under-requires c κs =
       ),
     )
 
--- src/leader.rt:56:1
 same-length : tie.Need-same-length
 same-length c = search needs
 
--- src/leader.rt:56:1
 same-length-2 : tie.Need-same-length-2
 same-length-2 c = search needs
 
--- src/leader.rt:56:1
 returns : tie.Need-returns
 returns c =
     let u = c .before .before in

@@ -1,12 +1,11 @@
 -- `leader::block` meets its contract: the coordinates passed so far are made. Assumes nothing.
 use Prim.Native.Nat.{ℕ, _+_, _-_, _*_, _^_, _≤_, _<_, _%_}
-use mathlib.Core.Path.{_≡_, refl, sym, ap, ap₂, _∙_, subst}
-use mathlib.Core.List.{List}
+use mathlib.Core.Path.{_≡_, refl, sym, ap, ap₂, _∙_}
 use native.Mathlib.Omega.{arith}
 use native.Mathlib.Numerals.{add-one}
-use lib.ListN.{length, getD, take, set, length-set}
+use lib.ListN.{length, getD, take, length-set}
 use lib.Seq.{take-all}
-use lib.IntN.{ℤ, pos}
+use lib.IntN.{pos}
 use mir.Syntax.{w32}
 use mir.Val.{toZ}
 use mir.Facts.{toZ-pos}
@@ -20,10 +19,6 @@ use Rattle.sending.proofs.Bits.{number-small}
 use Rattle.sending.proofs.Block.{numbers-at, total-suc, total-le, ints-more, ints-none, width-small, widths-total, place-fits, scaled-small}
 use Rattle.sending.proofs.leader.block.Statement.{statement}
 use Rattle.sending.proofs.leader.block.Tie as tie
-use Rattle.sending.proofs.leader.block.Reads as reads
-use Rattle.sending.proofs.leader.block.Lts as lts
-use Rattle.sending.proofs.leader.number.Reads as number-reads
-use Rattle.sending.proofs.leader.width.Reads as width-reads
 
 abbrev Inv-loop : tie.InvT-loop
 Inv-loop message from grade a sums x₀ at₀ c₀ x at c =
@@ -32,17 +27,14 @@ Inv-loop message from grade a sums x₀ at₀ c₀ x at c =
 abbrev μ-loop : tie.MeasureT-loop
 μ-loop message from grade a sums x₀ at₀ c₀ x at c = 8 - c
 
--- src/leader.rt:84:5
 loop-holds : tie.Need-loop-holds Inv-loop μ-loop
 loop-holds c = (omega arith, (omega arith, (refl, ints-none _)))
 
--- src/leader.rt:85:13
 width-requires : tie.Need-width-requires Inv-loop μ-loop
 width-requires c κs =
     let s = c .before .before .before .before in
     (s .pre .0 .0, s .pre .0 .1, c .loop-test .taken)
 
--- src/leader.rt:86:17
 number-requires : tie.Need-number-requires Inv-loop μ-loop
 number-requires c κs =
     let a = c .before .before in
@@ -53,11 +45,9 @@ number-requires c κs =
       omega (arith, a .loop .inv .1 .0, s .pre .0 .3, s .pre .0 .1, total-le (widths (s .args .grade)) (a .loop .c), widths-total (s .args .grade) (s .pre .0 .0)),
     )
 
--- src/leader.rt:86:17
 shl-s : tie.Need-shl-s Inv-loop μ-loop
 shl-s c = omega arith
 
--- src/leader.rt:87:21
 shared-slice-read-x : tie.Need-shared-slice-read-x Inv-loop μ-loop
 shared-slice-read-x c = omega arith
 
@@ -87,51 +77,42 @@ value c =
     ∙ sym (numbers-at (messageBit (s .args .message .now)) (s .args .from) (widths (s .args .grade)) (a .loop .c) (c .before .before .before .loop-test .taken)) in
     omega (arith, small c, ap (λ (n : ℕ). n * 2 ^ s .args .a) e)
 
--- src/leader.rt:87:21
 cast-x : tie.Need-cast-x Inv-loop μ-loop
 cast-x c =
     let a = c .before .before .before .before in
     let s = a .before .before .before in
     omega (arith, s .pre .1 .1 (a .loop .c))
 
--- src/leader.rt:87:17
 add-x : tie.Need-add-x Inv-loop μ-loop
 add-x c =
     let a = c .before .before .before .before in
     let s = a .before .before .before in
     omega (arith, s .pre .1 .1 (a .loop .c), small c)
 
--- src/leader.rt:87:16
 cast-x-2 : tie.Need-cast-x-2 Inv-loop μ-loop
 cast-x-2 c =
     let a = c .before .before .before .before in
     let s = a .before .before .before in
     record { sfits = omega (arith, s .pre .1 .1 (a .loop .c), small c) }
 
--- src/leader.rt:87:9
 mul-x : tie.Need-mul-x Inv-loop μ-loop
 mul-x c = omega arith
 
--- src/leader.rt:87:9
 array-set-from-x : tie.Need-array-set-from-x Inv-loop μ-loop
 array-set-from-x c = omega arith
 
--- src/leader.rt:88:9
 add-at : tie.Need-add-at Inv-loop μ-loop
 add-at c =
     let a = c .before .before .before .before in
     let s = a .before .before .before in
     omega (arith, a .loop .inv .1 .0, s .pre .0 .3, s .pre .0 .1, total-le (widths (s .args .grade)) (a .loop .c), widths-total (s .args .grade) (s .pre .0 .0), c .before .before .width .ensures, width-small (s .args .grade) (a .loop .c) (s .pre .0 .1) (c .before .before .before .loop-test .taken))
 
--- src/leader.rt:89:9
 add-c : tie.Need-add-c Inv-loop μ-loop
 add-c c = omega arith
 
--- src/leader.rt:84:5
 loop-less : tie.Need-loop-less Inv-loop μ-loop
 loop-less c = omega arith
 
--- src/leader.rt:84:5
 loop-again : tie.Need-loop-again Inv-loop μ-loop
 loop-again c =
     let a = c .before .before .before .before in
@@ -149,7 +130,6 @@ loop-again c =
       ),
     )
 
--- src/leader.rt:75:1
 returns : tie.Need-returns Inv-loop μ-loop
 returns c =
     let l = c .before .loop in

@@ -1,6 +1,6 @@
 -- `leader::number` meets its contract: the bits passed so far make their number. Assumes nothing.
-use Prim.Native.Nat.{ℕ, _≤_, _<_, _-_, _+_, _*_, _^_, _%_}
-use mathlib.Core.Path.{_≡_, refl, sym, ap, _∙_}
+use Prim.Native.Nat.{ℕ, _≤_, _-_, _+_, _*_, _^_}
+use mathlib.Core.Path.{_≡_, ap, _∙_}
 use mathlib.Core.List.{List}
 use native.Mathlib.Omega.{arith}
 use Rattle.reed_muller.specs.Message.{messageBit}
@@ -9,9 +9,6 @@ use Rattle.frames.specs.Message.{number}
 use Rattle.sending.proofs.Bits.{number-none, number-more, weight-small, number-small}
 use Rattle.sending.proofs.leader.number.Statement.{statement}
 use Rattle.sending.proofs.leader.number.Tie as tie
-use Rattle.sending.proofs.leader.number.Reads as reads
-use Rattle.sending.proofs.leader.number.Lts as lts
-use Rattle.reed_muller.proofs.bit.Reads as bit-reads
 
 abbrev Inv-loop : tie.InvT-loop
 Inv-loop message from w s₀ i₀ s i =
@@ -20,16 +17,13 @@ Inv-loop message from w s₀ i₀ s i =
 abbrev μ-loop : tie.MeasureT-loop
 μ-loop message from w s₀ i₀ s i = w - i
 
--- src/leader.rt:33:5
 loop-holds : tie.Need-loop-holds Inv-loop μ-loop
 loop-holds c =
     (omega arith, number-none (messageBit (c .before .args .message .now)) (c .before .args .from))
 
--- src/leader.rt:34:43
 add-bit : tie.Need-add-bit Inv-loop μ-loop
 add-bit c = omega arith
 
--- src/leader.rt:34:17
 bit-requires : tie.Need-bit-requires Inv-loop μ-loop
 bit-requires c κs = omega arith
 
@@ -47,37 +41,29 @@ weight c =
     let e = ap (λ (n : ℕ). n * 2 ^ c .before .before .loop .i) (c .bit .ensures) in
     (e, omega (arith, e, weight-small (messageBit (msg c)) (from c) (message-small (msg c)) (c .before .before .loop .i) (omega arith)))
 
--- src/leader.rt:34:17
 cast-b : tie.Need-cast-b Inv-loop μ-loop
 cast-b c = omega (arith, message-small (msg c) (from c + c .before .before .loop .i), c .bit .ensures)
 
--- src/leader.rt:35:19
 cast-s : tie.Need-cast-s Inv-loop μ-loop
 cast-s c = omega arith
 
--- src/leader.rt:35:14
 shl-s : tie.Need-shl-s Inv-loop μ-loop
 shl-s c = omega arith
 
--- src/leader.rt:35:9
 add-s : tie.Need-add-s Inv-loop μ-loop
 add-s c =
     omega (arith, weight c, number-small (messageBit (msg c)) (from c) (message-small (msg c)) (c .before .before .loop .i) (omega arith))
 
--- src/leader.rt:36:9
 add-i : tie.Need-add-i Inv-loop μ-loop
 add-i c = omega arith
 
--- src/leader.rt:33:5
 loop-less : tie.Need-loop-less Inv-loop μ-loop
 loop-less c = omega arith
 
--- src/leader.rt:33:5
 loop-again : tie.Need-loop-again Inv-loop μ-loop
 loop-again c =
     (omega arith, rw (number-more (messageBit (msg c)) (from c) (c .before .before .loop .i)) (omega (arith, weight c)))
 
--- src/leader.rt:27:1
 returns : tie.Need-returns Inv-loop μ-loop
 returns c =
     let l = c .before .loop in

@@ -1,28 +1,19 @@
 -- `leader::stack` meets its contract: the levels from i on are stacked. Assumes nothing.
-use Prim.Native.Nat.{ℕ, zero, suc, _+_, _-_, _*_, _^_, _≤_, _<_}
+use Prim.Native.Nat.{ℕ, _+_, _-_, _^_, _≤_, _<_}
 use mathlib.Core.Path.{_≡_, refl, sym, ap, _∙_, subst}
-use mathlib.Core.Bool.{true}
 use mathlib.Core.List.{List}
 use native.Mathlib.Omega.{arith}
-use lib.ListN.{length, getD, take, drop}
+use lib.ListN.{length, getD, drop}
 use lib.Seq.{take-length}
-use Rattle.reed_muller.specs.Level.{table, dimension, codeword}
+use Rattle.reed_muller.specs.Level.{dimension}
 use Rattle.reed_muller.specs.Message.{messageBit}
 use Rattle.reed_muller.proofs.Table.{length-table}
-use Rattle.frames.specs.Kind.{isKind, degrees, levels, dimensions, levelBits}
+use Rattle.frames.specs.Kind.{degrees, levels, dimensions, levelBits}
 use Rattle.frames.specs.Message.{stacked}
-use Rattle.frames.proofs.Rows.{shape}
 use Rattle.kind_table.proofs.Each.{size, bits-row}
-use Rattle.sending.proofs.Stack.{offset, offset-suc, offset-le, degree-fits, from-level, none-stacked, level-below, turn-degree, turn-split, turn-from, turn-room, turn-stack, few-levels}
+use Rattle.sending.proofs.Stack.{offset, from-level, none-stacked, level-below, turn-degree, turn-split, turn-room, turn-stack, few-levels}
 use Rattle.sending.proofs.leader.stack.Statement.{statement}
 use Rattle.sending.proofs.leader.stack.Tie as tie
-use Rattle.sending.proofs.leader.stack.Reads as reads
-use Rattle.sending.proofs.leader.stack.Lts as lts
-use Rattle.kind_table.proofs.degree.Reads as degree-reads
-use Rattle.kind_table.proofs.level_bits.Reads as level-bits-reads
-use Rattle.kind_table.proofs.levels.Reads as levels-reads
-use Rattle.reed_muller.proofs.dimension_of.Reads as dimension-of-reads
-use Rattle.sending.proofs.leader.add_level.Reads as add-level-reads
 
 abbrev Inv-loop : tie.InvT-loop
 Inv-loop kind message word₀ sums₀ m from₀ i₀ word sums from i =
@@ -31,15 +22,12 @@ Inv-loop kind message word₀ sums₀ m from₀ i₀ word sums from i =
 abbrev μ-loop : tie.MeasureT-loop
 μ-loop kind message word₀ sums₀ m from₀ i₀ word sums from i = i
 
--- src/leader.rt:73:9
 level-bits-requires : tie.Need-level-bits-requires Inv-loop μ-loop
 level-bits-requires c κs = c .before .before .before .pre .0 .0
 
--- src/leader.rt:74:9
 levels-requires : tie.Need-levels-requires Inv-loop μ-loop
 levels-requires c κs = c .before .before .before .before .pre .0 .0
 
--- src/leader.rt:75:5
 loop-holds : tie.Need-loop-holds Inv-loop μ-loop
 unfolding levels levelBits
 loop-holds c =
@@ -56,11 +44,9 @@ loop-holds c =
       ),
     )
 
--- src/leader.rt:76:9
 sub-i : tie.Need-sub-i Inv-loop μ-loop
 sub-i c = omega arith
 
--- src/leader.rt:77:13
 degree-requires : tie.Need-degree-requires Inv-loop μ-loop
 degree-requires c κs = (c .before .before .before .before .before .before .before .pre .0 .0, omega arith)
 
@@ -88,17 +74,14 @@ room c =
     turn-room (s .args .kind) (a .loop .i) (a .loop .from) (c .before .degree .result) (c .dimension-of .result) (s .pre .0 .0) (c .before .before .loop-test .taken)
     (a .loop .inv .0) (a .loop .inv .1 .1 .0) (c .before .degree .ensures) (c .dimension-of .ensures)
 
--- src/leader.rt:78:17
 dimension-of-requires : tie.Need-dimension-of-requires Inv-loop μ-loop
 dimension-of-requires c κs =
     let k = c .before .before .before .before .before .before .before .before in
     ((size (k .args .kind) (k .pre .0 .0) .low, size (k .args .kind) (k .pre .0 .0) .high), fits c)
 
--- src/leader.rt:78:9
 sub-from : tie.Need-sub-from Inv-loop μ-loop
 sub-from c = omega (arith, split c)
 
--- src/leader.rt:79:9
 add-level-requires : tie.Need-add-level-requires Inv-loop μ-loop
 unfolding levels
 add-level-requires c κs =
@@ -115,11 +98,9 @@ add-level-requires c κs =
       ),
     )
 
--- src/leader.rt:75:5
 loop-less : tie.Need-loop-less Inv-loop μ-loop
 loop-less c = omega arith
 
--- src/leader.rt:75:5
 loop-again : tie.Need-loop-again Inv-loop μ-loop
 loop-again c =
     let u = c .before .before .before .before in
@@ -138,18 +119,15 @@ loop-again c =
       ),
     )
 
--- src/leader.rt:67:1
 same-length : tie.Need-same-length Inv-loop μ-loop
 same-length c =
     c .before .loop .inv .1 .0 ∙ sym (c .before .before .before .before .before .before .before .pre .1 .0)
 
--- src/leader.rt:67:1
 same-length-2 : tie.Need-same-length-2 Inv-loop μ-loop
 same-length-2 c =
     let s = c .before .before .before .before .before .before .before in
     ap length (c .before .loop .inv .1 .1 .1) ∙ length-table _ (2 ^ s .args .kind) ∙ sym (ap length (s .pre .1 .1) ∙ length-table _ (2 ^ s .args .kind))
 
--- src/leader.rt:67:1
 returns : tie.Need-returns Inv-loop μ-loop
 returns c =
     let s = c .before .before .before .before .before .before .before in

@@ -1,14 +1,12 @@
 -- `leader::width` meets its contract. Assumes nothing.
-use Prim.Native.Nat.{ℕ, zero, suc, _<_, _-_, _+_}
-use mathlib.Core.Path.{_≡_, refl, sym, ap, _∙_, subst}
+use Prim.Native.Nat.{ℕ, zero, suc, _<_, _-_}
+use mathlib.Core.Path.{_≡_, refl, sym, ap}
 use native.Mathlib.Omega.{arith}
 use lib.ListN.{getD}
 use Rattle.frames.specs.Message.{widths}
 use borrow.Author.Needs.{needs}
 use Rattle.sending.proofs.leader.width.Statement.{statement}
 use Rattle.sending.proofs.leader.width.Tie as tie
-use Rattle.sending.proofs.leader.width.Reads as reads
-use Rattle.sending.proofs.leader.width.Lts as lts
 
 -- the numbers between the first and the last have b bits
 middle : (b i : ℕ) → i < 8 → (i ≡ 0 → ⊥) → (i ≡ 7 → ⊥) → b ≡ getD (widths b) i 0
@@ -22,23 +20,18 @@ middle b (suc (suc (suc (suc (suc (suc zero)))))) h f l = refl
 middle b (suc (suc (suc (suc (suc (suc (suc zero))))))) h f l = absurd (l refl)
 middle b (suc (suc (suc (suc (suc (suc (suc (suc i)))))))) h f l = absurd (omega arith)
 
--- src/leader.rt:18:16
 sub-result : tie.Need-sub-result
 sub-result c = search needs
 
--- src/leader.rt:18:9
 returns : tie.Need-returns
 returns c = ap (λ (i : ℕ). getD (widths (c .before .args .grade)) i 0) (sym (c .if1 .taken))
 
--- src/leader.rt:21:16
 add-result : tie.Need-add-result
 add-result c = search needs
 
--- src/leader.rt:21:9
 returns-2 : tie.Need-returns-2
 returns-2 c = ap (λ (i : ℕ). getD (widths (c .before .before .args .grade)) i 0) (sym (c .if2 .taken))
 
--- src/leader.rt:13:1
 returns-3 : tie.Need-returns-3
 returns-3 c =
     middle (c .before .before .args .grade) (c .before .before .args .c) (c .before .before .pre .2) (c .before .if1 .left) (c .if2 .left)

@@ -1,6 +1,5 @@
 -- `refusal::refusal` meets its contract: at each return the answer by the tests that led there. Assumes nothing.
-use Prim.Native.Nat.{ℕ, _≤_, _<_, _^_}
-use mathlib.Core.Path.{_≡_, sym, ap, _∙_}
+use mathlib.Core.Path.{_≡_, sym, _∙_}
 use mathlib.Core.Bool.{true, false}
 use native.Mathlib.Omega.{arith}
 use lib.ListN.{length}
@@ -11,14 +10,7 @@ use Rattle.sending.proofs.Answers.{grade-none, grade-over, grade-is, no
 use borrow.Author.Needs.{needs}
 use Rattle.sending.proofs.refusal.refusal.Statement.{statement}
 use Rattle.sending.proofs.refusal.refusal.Tie as tie
-use Rattle.sending.proofs.refusal.refusal.Reads as reads
-use Rattle.sending.proofs.refusal.refusal.Lts as lts
-use Rattle.kind_table.proofs.is_kind.Reads as is-kind-reads
-use Rattle.kind_table.proofs.message_bytes.Reads as message-bytes-reads
-use Rattle.kind_table.proofs.positions.Reads as positions-reads
-use Rattle.sending.proofs.refusal.spare_set.Reads as spare-set-reads
 
--- src/refusal.rt:39:9
 is-kind-requires : tie.Need-is-kind-requires
 is-kind-requires c κs = search needs
 
@@ -32,40 +24,33 @@ graded c = grade-is (c .before .before .before .before .before .args .grade) (c 
 long : (c : tie.Else4) → let s = c .before .before .before .before .before .before .before .args in length (s .message .now) ≡ messageBytes (s .kind) (s .grade)
 long c = c .if4 .left ∙ c .before .message-bytes .ensures
 
--- src/refusal.rt:40:9
 returns : tie.Need-returns
 returns c =
     let s = c .before .before .before .args in
     no-kind (s .kind) (s .grade) (s .message .now) (s .n) (sym (c .before .is-kind .ensures) ∙ not-true (c .before .is-kind .result) (c .if1 .taken))
 
--- src/refusal.rt:43:9
 returns-2 : tie.Need-returns-2
 returns-2 c =
     let s = c .before .before .before .before .args in
     no-grade (s .kind) (s .grade) (s .message .now) (s .n) (known (c .before)) (grade-none (s .grade) (c .if2 .taken))
 
--- src/refusal.rt:46:9
 returns-3 : tie.Need-returns-3
 returns-3 c =
     let s = c .before .before .before .before .before .args in
     no-grade (s .kind) (s .grade) (s .message .now) (s .n) (known (c .before .before)) (grade-over (s .grade) (c .if3 .taken))
 
--- src/refusal.rt:49:25
 message-bytes-requires : tie.Need-message-bytes-requires
 message-bytes-requires c κs = (known (c .before .before), omega arith)
 
--- src/refusal.rt:50:9
 returns-4 : tie.Need-returns-4
 returns-4 c =
     let d = c .before .before in
     let s = d .before .before .before .before .before .args in
     other-bytes (s .kind) (s .grade) (s .message .now) (s .n) (known (d .before .before)) (graded d) (λ e. c .if4 .taken (e ∙ sym (c .before .message-bytes .ensures)))
 
--- src/refusal.rt:52:13
 positions-requires : tie.Need-positions-requires
 positions-requires c κs = known (c .before .before .before .before)
 
--- src/refusal.rt:53:9
 returns-5 : tie.Need-returns-5
 returns-5 c =
     let e = c .before .before in
@@ -73,14 +58,12 @@ returns-5 c =
     let s = d .before .before .before .before .before .args in
     other-length (s .kind) (s .grade) (s .message .now) (s .n) (known (d .before .before)) (graded d) (long e) (λ q. c .if5 .taken (q ∙ sym (c .before .positions .ensures)))
 
--- src/refusal.rt:55:8
 spare-set-requires : tie.Need-spare-set-requires
 spare-set-requires c κs =
     let e = c .before .before in
     let d = e .before .before in
     (known (d .before .before), omega arith, long e)
 
--- src/refusal.rt:56:9
 returns-6 : tie.Need-returns-6
 returns-6 c =
     let f = c .before .before in
@@ -89,7 +72,6 @@ returns-6 c =
     let s = d .before .before .before .before .before .args in
     spare-bit (s .kind) (s .grade) (s .message .now) (s .n) (known (d .before .before)) (graded d) (long e) (f .if5 .left ∙ f .before .positions .ensures) (sym (c .before .spare-set .ensures) ∙ c .if6 .taken)
 
--- src/refusal.rt:36:1
 returns-7 : tie.Need-returns-7
 returns-7 c =
     let f = c .before .before in

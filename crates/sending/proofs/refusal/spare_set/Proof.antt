@@ -1,43 +1,33 @@
 -- `refusal::spare_set` meets its contract: the spare bits are those from the message bits to the end of the bytes. Assumes nothing.
-use Prim.Native.Nat.{ℕ, _*_, _-_, _≤_}
-use mathlib.Core.Path.{_≡_, sym, ap, ap₂, _∙_}
+use Prim.Native.Nat.{ℕ, _*_, _-_}
+use mathlib.Core.Path.{ap₂, _∙_}
 use native.Mathlib.Omega.{arith}
 use Rattle.reed_muller.specs.Message.{messageBit}
-use Rattle.frames.specs.Kind.{messageBits, messageBytes}
 use Rattle.frames.specs.Sending.{anySet, spareSet}
 use Rattle.kind_table.proofs.Each.{message-small}
 use Rattle.sending.proofs.Answers.{bytes-low, bytes-high}
 use borrow.Author.Needs.{needs}
 use Rattle.sending.proofs.refusal.spare_set.Statement.{statement}
 use Rattle.sending.proofs.refusal.spare_set.Tie as tie
-use Rattle.sending.proofs.refusal.spare_set.Reads as reads
-use Rattle.sending.proofs.refusal.spare_set.Lts as lts
-use Rattle.kind_table.proofs.message_bits.Reads as message-bits-reads
-use Rattle.sending.proofs.refusal.any_set.Reads as any-set-reads
 
--- src/refusal.rt:30:9
 message-bits-requires : tie.Need-message-bits-requires
 message-bits-requires c κs = search needs
 
--- src/refusal.rt:31:17
 mul-count : tie.Need-mul-count
 mul-count c =
     let s = c .before .before in
     omega (arith, s .pre .2, bytes-low (s .args .kind) (s .args .grade), bytes-high (s .args .kind) (s .args .grade), message-small (s .args .kind) (s .args .grade) (s .pre .0) (s .pre .1), c .message-bits .ensures)
 
--- src/refusal.rt:31:17
 sub-count : tie.Need-sub-count
 sub-count c =
     let s = c .before .before in
     omega (arith, s .pre .2, bytes-low (s .args .kind) (s .args .grade), bytes-high (s .args .kind) (s .args .grade), message-small (s .args .kind) (s .args .grade) (s .pre .0) (s .pre .1), c .message-bits .ensures)
 
--- src/refusal.rt:32:5
 any-set-requires : tie.Need-any-set-requires
 any-set-requires c κs =
     let s = c .before .before in
     (omega (arith, s .pre .2, bytes-low (s .args .kind) (s .args .grade), bytes-high (s .args .kind) (s .args .grade), message-small (s .args .kind) (s .args .grade) (s .pre .0) (s .pre .1), c .message-bits .ensures), omega (arith, s .pre .2, bytes-low (s .args .kind) (s .args .grade), bytes-high (s .args .kind) (s .args .grade), message-small (s .args .kind) (s .args .grade) (s .pre .0) (s .pre .1), c .message-bits .ensures))
 
--- src/refusal.rt:26:1
 returns : tie.Need-returns
 unfolding spareSet
 returns c =
