@@ -108,7 +108,8 @@ unfolding lineOf
 returns c =
     let b = c .before .before in
     let p = b .before .before .before .before in
-    within-more 1 (far₆ p) (b .put-byte3 .ensures) (omega arith) (omega (arith, start₆ p .pre)) .put
+    let w = within-more 1 (far₆ p) (b .put-byte3 .ensures) (omega arith) (omega (arith, start₆ p .pre)) in
+    (w .put, omega (arith, w .most))
 
 pub put-line-spec : {M : Type 1} → statement M
 put-line-spec =

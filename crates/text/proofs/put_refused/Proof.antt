@@ -44,7 +44,8 @@ returns c =
     let b = c .before .before in
     let d = b .before .before .before .before in
     let s = d .before .before .before .before .before .before .before .before in
-    within-more 1 (number d) (b .put-byte .ensures) (omega arith) (omega (arith, s .pre)) .put
+    let w = within-more 1 (number d) (b .put-byte .ensures) (omega arith) (omega (arith, s .pre)) in
+    (w .put, w .most)
 
 pub put-refused-spec : {M : Type 1} → statement M
 put-refused-spec =
