@@ -1,0 +1,4 @@
+pub mod Buffer
+pub mod Decimal
+pub mod Coordinates
+pub mod Examples
