@@ -38,11 +38,11 @@ pub fn load(part: &[i32]) -> [i32; 8]
     ensures { λ r. ⌜ r ≡ now (part .entry) ⌝ }
 {
     let mut r = [0i32; 8];
-    let mut i: usize = 0;
-    while i < 8 {
-        let z = part[i];
-        r[i] = z;
-        i += 1;
+    let mut j: usize = 0;
+    while j < 8 {
+        let z = part[j];
+        r[j] = z;
+        j += 1;
     }
     r
 }
@@ -52,11 +52,11 @@ pub fn store(x: [i32; 8], part: &mut [i32])
     requires { ⌜ length (now part) ≡ 8 ⌝ }
     ensures { λ _. ⌜ now (part .exit) ≡ x ⌝ }
 {
-    let mut i: usize = 0;
-    while i < 8 {
-        let z = x[i];
-        part[i] = z;
-        i += 1;
+    let mut p: usize = 0;
+    while p < 8 {
+        let z = x[p];
+        part[p] = z;
+        p += 1;
     }
 }
 
