@@ -3,19 +3,19 @@ use mathlib.Core.Path.{_≡_, refl, sym, _∙_, ap, subst}
 use mathlib.Core.Logic.{_⊎_, inl, inr}
 use mathlib.Core.Bool.{Bool, true, false, not, true≢false}
 use mathlib.Core.List.{List, [], _∷_}
-use Prim.Native.Nat.{ℕ, zero, suc, _+_, _*_, _-_, _<_, _≤_}
+use Prim.Native.Nat.{ℕ, zero, suc, _+_, _*_, _<_}
 use native.Mathlib.Nat.{eq-of-mul-eq-mul-left}
 use native.Mathlib.Omega.{arith}
 use lib.ListN.{length, getD}
-use lib.IntN.{ℤ, pos, negsuc, negℤ, _+ℤ_, _-ℤ_, _*ℤ_, natAbs}
-use lib.Signed.{_≤ℤ_, _<ℤ_, shrZ}
-use Rattle.integers.proofs.Zed.{E, `_, #_, _⊕_, _⊖_, _⊗_, ⊝_, up, down, eq!, le!, lt!, eq?, le?, lt?, eq-ud, ud-eq, ud-le, ud-lt, le-ud, lt-ud}
+use lib.IntN.{ℤ, pos, _+ℤ_, _-ℤ_, _*ℤ_}
+use lib.Signed.{_<ℤ_, shrZ}
+use Rattle.integers.proofs.Zed.{`_, #_, _⊕_, _⊖_, _⊗_, up, down, eq!, eq?, le-ud, lt-ud}
 use Rattle.integers.proofs.Floor.{modZ-lt, div-mod}
 use Rattle.integers.specs.Integer.{modZ}
-use Rattle.e8.specs.Energy.{sq, energy}
+use Rattle.e8.specs.Energy.{energy}
 use Rattle.e8.specs.Order.{Reads}
 use Rattle.e8.specs.Lattice.{sum, bit, moved}
-use Rattle.e8.specs.Least.{cent, better, best}
+use Rattle.e8.specs.Least.{cent, best}
 use Rattle.e8.proofs.Order.{_≼_, trans, better-left, better-right, better-is, int-cases}
 use Rattle.e8.proofs.Cent.{cent-is, cent-range, turns, First, first, Range}
 

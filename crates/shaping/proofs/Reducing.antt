@@ -1,20 +1,20 @@
 -- The loop over the rows after the first: the places written, the multiple taken off the last place, and what is left to do
 use mathlib.Core.Path.{_≡_, refl, sym, _∙_, ap, ap₂, subst}
 use mathlib.Core.List.{List, [], _∷_}
-use Prim.Native.Nat.{ℕ, zero, suc, _+_, _*_, _-_, _^_, _<_, _≤_}
+use Prim.Native.Nat.{ℕ, suc, _+_, _*_, _^_, _<_, _≤_}
 use native.Mathlib.Numerals.{add-one}
 use native.Mathlib.Omega.{arith}
 use lib.ListN.{length, drop, getD, set, length-drop}
 use lib.Seq.{drop-cons}
-use lib.IntN.{ℤ, pos, negsuc, _+ℤ_, _-ℤ_, _*ℤ_, natAbs}
+use lib.IntN.{ℤ, pos, _+ℤ_, _-ℤ_, _*ℤ_, natAbs}
 use lib.Signed.{shrZ}
 use Rattle.integers.specs.Integer.{modZ}
-use Rattle.integers.proofs.Zed.{E, `_, #_, _⊕_, _⊖_, _⊗_, eq!, eq?, abs-ud}
+use Rattle.integers.proofs.Zed.{`_, #_, _⊕_, _⊖_, _⊗_, eq!, eq?, abs-ud}
 use Rattle.integers.proofs.Floor.{modZ-lt, div-mod}
 use Rattle.e8.specs.Least.{lowered}
 use Rattle.e8.specs.Rows.{ints, remainders, reduced}
 use Rattle.shaping.proofs.Size.{abs! }
-use Rattle.shaping.proofs.Filled.{Filled, filled-none, filled-next, filled-all}
+use Rattle.shaping.proofs.Filled.{Filled, filled-next, filled-all}
 use Rattle.shaping.proofs.Walking.{drop-last}
 
 -- what is written in the end

@@ -1,11 +1,8 @@
 -- `begin` meets its contract
-use mathlib.Core.Path.{_≡_, refl, sym, _∙_, ap, ap₂, subst, subst₂}
-use mathlib.Core.Bool.{Bool, true, false, not, cond}
-use mathlib.Core.List.{List, [], _∷_}
-use Prim.Native.Nat.{ℕ, zero, suc, _+_, _*_, _-_, _^_, _<_, _≤_}
-use native.Mathlib.Omega.{arith}
+use mathlib.Core.Path.{_≡_, sym, _∙_, ap, subst₂}
+use mathlib.Core.List.{[], _∷_}
+use Prim.Native.Nat.{_^_}
 use lib.IntN.{ℤ, pos, _-ℤ_}
-use borrow.Author.Needs.{needs}
 use Rattle.e8.specs.Energy.{sq}
 use Rattle.e8.specs.Least.{cent}
 use Rattle.shaping.specs.Walk.{Keeps}

@@ -1,7 +1,6 @@
 -- `either` meets its contract
-use mathlib.Core.Path.{_≡_, refl, sym, _∙_, ap, subst}
-use Prim.Native.Nat.{ℕ, zero, suc, _^_, _<_, _≤_}
-use native.Mathlib.Omega.{arith}
+use mathlib.Core.Path.{_≡_, refl, sym, _∙_, ap}
+use Prim.Native.Nat.{ℕ, zero, suc, _^_}
 use lib.IntN.{ℤ, pos, _-ℤ_}
 use Rattle.e8.specs.Least.{cent}
 use Rattle.shaping.specs.Walk.{choice}

@@ -1,10 +1,7 @@
 -- `step` meets its contract
-use mathlib.Core.Path.{_≡_, refl, sym, _∙_, ap, subst}
-use Prim.Native.Nat.{ℕ, _+_, _^_, _<_, _≤_}
-use native.Mathlib.Omega.{arith}
-use lib.IntN.{ℤ, pos, _-ℤ_, natAbs}
+use Prim.Native.Nat.{_^_, _≤_}
+use lib.IntN.{pos, _-ℤ_, natAbs}
 use Rattle.e8.specs.Least.{cent}
-use Rattle.shaping.specs.Walk.{Keeps, Low}
 use Rattle.shaping.proofs.Reading.{read, scale, coordinate, in-range, less-fits, less, less-range, centred, centred-size}
 use Rattle.shaping.proofs.Walking.{more-keeps}
 use Rattle.shaping.proofs.step.Statement.{statement}
