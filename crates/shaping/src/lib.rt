@@ -86,7 +86,7 @@ ghost use mathlib.Core.List.{List, [], _∷_};
 ghost use lib.IntN.{ℤ, _-ℤ_};
 ghost use Rattle.e8.specs.Energy.{sq};
 ghost use Rattle.e8.specs.Least.{cent as centred, best, lowered as less, leastBlock};
-ghost use Rattle.shaping.specs.Walk.{Scale, choice, sooner, chosen, Keeps, Low};
+ghost use Rattle.shaping.specs.Walk.{Scale, across, choice, sooner, chosen, Keeps, Low};
 
 // The best choices for the coordinates passed, when the sum is to be even or odd, and their energy.
 struct Suffix {
@@ -114,16 +114,21 @@ fn cent(k: u32, m: i32, x: i32) -> i32
     remainder(k + 1, m + m, x + m) - m
 }
 
+// From the first candidate for a coordinate to the second: M up where it is negative, and down where it is not.
+fn other(m: i32, c: i32) -> i32
+    requires { ⌜ (natAbs m ≤ 2 ^ 7) × (natAbs c ≤ 2 ^ 7) ⌝ }
+    ensures { λ r. ⌜ r ≡ across m c ⌝ }
+{
+    if c < 0 { c + m } else { c - m }
+}
+
 // One of the two candidates for a coordinate.
 fn either(k: u32, m: i32, x: i32, second: u32) -> i32
     requires { ⌜ Scale k m × (natAbs x ≤ 2 ^ 24 + 2 ^ 7) ⌝ }
     ensures { λ r. ⌜ r ≡ choice (2 ^ k) second x ⌝ }
 {
-    if second == 0 {
-        cent(k, m, x)
-    } else {
-        cent(k, m, x - m)
-    }
+    let c = cent(k, m, x);
+    if second == 0 { c } else { other(m, c) }
 }
 
 fn square(z: i32) -> u32
@@ -169,7 +174,7 @@ fn begin(k: u32, m: i32, v: i32) -> State
     ensures { λ r. ⌜ Keeps (2 ^ k) (v ∷ []) (r .even .energy) (r .odd .energy) (r .even .choices) (r .odd .choices) ⌝ }
 {
     let c = cent(k, m, v);
-    let d = cent(k, m, v - m);
+    let d = other(m, c);
     let e = square(c);
     let f = square(d);
     let even = Suffix {
@@ -193,11 +198,11 @@ fn step(k: u32, m: i32, v: i32, w: State) -> State
     ensures { λ r. ⌜ ((xs : List ℤ) → 0 < length xs → Keeps (2 ^ k) xs (w .even .energy) (w .odd .energy) (w .even .choices) (w .odd .choices) → Keeps (2 ^ k) (v ∷ xs) (r .even .energy) (r .odd .energy) (r .even .choices) (r .odd .choices)) ⌝ }
 {
     let c = cent(k, m, v);
-    let d = cent(k, m, v - m);
+    let d = other(m, c);
     let one = w.even;
-    let other = w.odd;
-    let even = extend(c, d, one, other);
-    let odd = extend(c, d, other, one);
+    let two = w.odd;
+    let even = extend(c, d, one, two);
+    let odd = extend(c, d, two, one);
     State {
         even: even,
         odd: odd,
