@@ -1,21 +1,22 @@
 -- the least member of a class D_p(xs), for lists of any length
 use mathlib.Core.Path.{_≡_, refl, sym, _∙_, ap, subst}
 use mathlib.Core.Logic.{_⊎_, inl, inr}
-use mathlib.Core.Bool.{Bool, true, false, not, true≢false}
+use mathlib.Core.Bool.{Bool, true, false, not, true≢false, cond}
 use mathlib.Core.List.{List, [], _∷_}
 use Prim.Native.Nat.{ℕ, zero, suc, _+_, _*_, _-_, _<_, _≤_}
 use native.Mathlib.Nat.{eq-of-mul-eq-mul-left}
 use native.Mathlib.Omega.{arith}
+use lib.Dec.{T}
 use lib.ListN.{length, getD}
-use lib.IntN.{ℤ, pos, negsuc, negℤ, _+ℤ_, _-ℤ_, _*ℤ_, natAbs}
-use lib.Signed.{_≤ℤ_, _<ℤ_, shrZ}
-use Rattle.integers.proofs.Zed.{E, `_, #_, _⊕_, _⊖_, _⊗_, ⊝_, up, down, eq!, le!, lt!, eq?, le?, lt?, eq-ud, ud-eq, ud-le, ud-lt, le-ud, lt-ud}
-use Rattle.integers.proofs.Floor.{modZ-lt, div-mod}
+use lib.IntN.{ℤ, pos, _+ℤ_, _-ℤ_, _*ℤ_}
+use lib.Signed.{_<ℤ_, shrZ, ltZ, ltZ-yes, ltZ-no}
+use Rattle.integers.proofs.Zed.{`_, #_, _⊕_, _⊖_, _⊗_, up, down, eq!, eq?, le?, lt?, le-ud, lt-ud}
+use Rattle.integers.proofs.Floor.{modZ-lt, div-mod, rem-is}
 use Rattle.integers.specs.Integer.{modZ}
-use Rattle.e8.specs.Energy.{sq, energy}
+use Rattle.e8.specs.Energy.{energy}
 use Rattle.e8.specs.Order.{Reads}
 use Rattle.e8.specs.Lattice.{sum, bit, moved}
-use Rattle.e8.specs.Least.{cent, better, best}
+use Rattle.e8.specs.Least.{cent, best}
 use Rattle.e8.proofs.Order.{_≼_, trans, better-left, better-right, better-is, int-cases}
 use Rattle.e8.proofs.Cent.{cent-is, cent-range, turns, First, first, Range}
 
@@ -203,6 +204,35 @@ cents-differ M x h e =
     omega (arith, eq? (` x ⊖ # M ⊗ (# 2 ⊗ ` t)) (` x ⊖ # M ⊖ # M ⊗ (# 2 ⊗ ` u)) (sym (cent-is M x h) ∙ e ∙ cent-is M (x -ℤ pos M) h)) in
     let g : 2 * up t + 2 * down u ≡ 2 * down t + 2 * up u + 1 = eq-of-mul-eq-mul-left M h (2 * up t + 2 * down u) (2 * down t + 2 * up u + 1) f in
     omega arith
+
+-- M up or down from the first candidate is the second
+pub cent-across : (M : ℕ) (x : ℤ) → 0 < M → cent M (x -ℤ pos M) ≡ cond (ltZ (cent M x) (pos 0)) (cent M x +ℤ pos M) (cent M x -ℤ pos M)
+unfolding cent
+cent-across M x h = go (ltZ (pos n -ℤ pos M) (pos 0)) refl
+  where
+    n : ℕ
+    n = modZ (x +ℤ pos M) (2 * M)
+
+    q : ℤ
+    q = shrZ (x +ℤ pos M) (2 * M)
+
+    lt : n < 2 * M
+    lt = modZ-lt (x +ℤ pos M) (2 * M) (omega arith)
+
+    d : up x + M + 2 * M * down q ≡ 2 * M * up q + n + down x
+    d = omega (arith, eq? (` x ⊕ # M) (# (2 * M) ⊗ ` q ⊕ # n) (div-mod (x +ℤ pos M) (2 * M) (omega arith)))
+
+    go : (t : Bool) → ltZ (pos n -ℤ pos M) (pos 0) ≡ t → pos (modZ (x -ℤ pos M +ℤ pos M) (2 * M)) -ℤ pos M ≡ cond t (pos n -ℤ pos M +ℤ pos M) (pos n -ℤ pos M -ℤ pos M)
+    go true e =
+        let l : n < M = omega (arith, lt? (# n ⊖ # M) (# 0) (ltZ-yes (subst T (sym e) tt))) in
+        let r : modZ (x -ℤ pos M +ℤ pos M) (2 * M) ≡ n + M =
+        rem-is (x -ℤ pos M +ℤ pos M) (2 * M) (q -ℤ pos 1) (n + M) (omega arith) (eq! (` x ⊖ # M ⊕ # M) (# (2 * M) ⊗ (` q ⊖ # 1) ⊕ # (n + M)) (omega (arith, d))) in
+        ap (λ (m : ℕ). pos m -ℤ pos M) r ∙ eq! (# (n + M) ⊖ # M) (# n ⊖ # M ⊕ # M) (omega arith)
+    go false e =
+        let l : M ≤ n = omega (arith, le? (# 0) (# n ⊖ # M) (ltZ-no {a = pos n -ℤ pos M} {b = pos 0} (subst (λ t. T (not t)) (sym e) tt))) in
+        let r : modZ (x -ℤ pos M +ℤ pos M) (2 * M) ≡ n - M =
+        rem-is (x -ℤ pos M +ℤ pos M) (2 * M) q (n - M) (omega (arith, lt)) (eq! (` x ⊖ # M ⊕ # M) (# (2 * M) ⊗ ` q ⊕ # (n - M)) (omega (arith, d))) in
+        ap (λ (m : ℕ). pos m -ℤ pos M) r ∙ eq! (# (n - M) ⊖ # M) (# n ⊖ # M ⊖ # M) (omega arith)
 
 -- the first coordinate of the best differs from x by a multiple of M
 pub best-head : (M : ℕ) (p : Bool) (x : ℤ) (xs : List ℤ) → 0 < M → (u : ℤ) × (getD (best M p (x ∷ xs)) 0 (pos 0) ≡ x -ℤ pos M *ℤ u)

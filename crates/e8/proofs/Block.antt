@@ -1,18 +1,17 @@
 -- The class of a block is the whole part and the half part together, and leastBlock is its least member.
 -- Stated for every length that 4 divides; E8 is length 8
-use mathlib.Core.Path.{_≡_, refl, sym, _∙_, ap, subst}
-use mathlib.Core.Logic.{_⊎_, inl, inr}
-use mathlib.Core.Bool.{Bool, true, false, not}
-use mathlib.Core.List.{List, [], _∷_, map}
-use Prim.Native.Nat.{ℕ, zero, suc, _+_, _*_, _-_, _<_, _≤_}
+use mathlib.Core.Path.{_≡_, refl, sym, _∙_, ap}
+use mathlib.Core.Bool.{Bool, true, false}
+use mathlib.Core.List.{List, [], _∷_}
+use Prim.Native.Nat.{ℕ, suc, _*_, _<_}
 use native.Mathlib.Omega.{arith}
 use lib.ListN.{length}
-use lib.IntN.{ℤ, pos, negsuc, negℤ, _+ℤ_, _-ℤ_, _*ℤ_, natAbs}
-use lib.Signed.{_≤ℤ_, _<ℤ_, shrZ}
-use Rattle.integers.proofs.Zed.{E, `_, #_, _⊕_, _⊖_, _⊗_, ⊝_, up, down, eq!, eq?}
+use lib.IntN.{ℤ, pos, _+ℤ_, _-ℤ_, _*ℤ_}
+use lib.Signed.{shrZ}
+use Rattle.integers.proofs.Zed.{`_, #_, _⊕_, _⊖_, _⊗_, eq!, eq?}
 use Rattle.integers.specs.Integer.{modZ}
-use Rattle.integers.proofs.Floor.{modZ-lt, div-mod, rem-is}
-use Rattle.e8.specs.Lattice.{sum, bit, Each, TwoE8, moved, InBlock}
+use Rattle.integers.proofs.Floor.{div-mod, rem-is}
+use Rattle.e8.specs.Lattice.{sum, bit, Each, moved, InBlock}
 use Rattle.e8.specs.Least.{better, best, lowered, leastBlock}
 use Rattle.e8.proofs.Order.{_≼_, trans, better-left, better-right, better-is}
 use Rattle.e8.proofs.Cent.{Range}

@@ -1,12 +1,12 @@
 -- one coordinate: among the numbers that differ from x by multiples of 2M, the first by energy and then by value
-use mathlib.Core.Path.{_≡_, refl, sym, _∙_, ap, subst}
+use mathlib.Core.Path.{_≡_, refl, ap}
 use mathlib.Core.Logic.{_⊎_, inl, inr}
-use Prim.Native.Nat.{ℕ, zero, suc, _+_, _*_, _-_, _<_, _≤_}
+use Prim.Native.Nat.{ℕ, zero, suc, _+_, _*_, _<_, _≤_}
 use native.Mathlib.Nat.{mul-le-mul, eq-or-lt-of-le}
 use native.Mathlib.Omega.{arith}
-use lib.IntN.{ℤ, pos, negsuc, negℤ, _+ℤ_, _-ℤ_, _*ℤ_, natAbs}
-use lib.Signed.{_≤ℤ_, _<ℤ_, shrZ}
-use Rattle.integers.proofs.Zed.{E, `_, #_, _⊕_, _⊖_, _⊗_, ⊝_, up, down, eq!, le!, lt!, eq?, le?, lt?, eq-ud, ud-eq, ud-le}
+use lib.IntN.{ℤ, pos, negsuc, _+ℤ_, _-ℤ_, _*ℤ_, natAbs}
+use lib.Signed.{_≤ℤ_, shrZ}
+use Rattle.integers.proofs.Zed.{`_, #_, _⊕_, _⊖_, _⊗_, ⊝_, up, down, eq!, le!, eq?, ud-le}
 use Rattle.integers.proofs.Floor.{modZ-lt, div-mod}
 use Rattle.integers.specs.Integer.{modZ}
 use Rattle.e8.specs.Energy.{sq}

@@ -1,6 +1,6 @@
 -- Frames of n blocks: to differ by a point of the shaping lattice is an equivalence, and leastFrame is what the rule asks, and the only one
 use mathlib.Core.Path.{_≡_, refl, sym, _∙_, ap, subst, subst₂}
-use mathlib.Core.Logic.{_⊎_, inl, inr}
+use mathlib.Core.Logic.{inl, inr}
 use mathlib.Core.List.{List, [], _∷_, _++_, append-nil, append-assoc}
 use Prim.Native.Nat.{ℕ, zero, suc, _+_, _*_, _-_, _<_, _≤_}
 use native.Mathlib.Decide.{decLt}
@@ -11,7 +11,6 @@ use lib.IntN.{ℤ, pos, negsuc, negℤ, _-ℤ_, _*ℤ_, natAbs}
 use lib.Signed.{_≤ℤ_, _<ℤ_}
 use Rattle.integers.proofs.Zed.{`_, #_, _⊖_, _⊗_, ⊝_, eq!, le!, lt! }
 use Rattle.e8.specs.Energy.{energy, Within}
-use Rattle.e8.specs.Order.{Reads}
 use Rattle.e8.specs.Lattice.{moved, InBlock, part, Differ}
 use Rattle.e8.specs.Least.{IsLeast, leastBlock, leastFrame}
 use Rattle.e8.proofs.Order.{_≼_, reads-antisym, append-mono}

@@ -2,15 +2,15 @@
 use mathlib.Core.Path.{_≡_, refl, sym, _∙_, ap, subst}
 use mathlib.Core.Bool.{Bool, true, false}
 use mathlib.Core.List.{List, [], _∷_}
-use Prim.Native.Nat.{ℕ, suc, _+_, _*_, _<_}
+use Prim.Native.Nat.{ℕ, _*_}
 use native.Mathlib.Omega.{arith}
 use lib.ListN.{length}
-use lib.IntN.{ℤ, pos, negsuc, _+ℤ_, _-ℤ_, _*ℤ_}
+use lib.IntN.{ℤ, pos, _+ℤ_, _-ℤ_, _*ℤ_}
 use lib.Signed.{shrZ}
 use Rattle.integers.specs.Integer.{modZ}
-use Rattle.integers.proofs.Zed.{E, `_, #_, _⊕_, _⊖_, _⊗_, ⊝_, up, down, ⟦_⟧, eq!, eq?}
+use Rattle.integers.proofs.Zed.{E, `_, #_, _⊕_, _⊖_, _⊗_, ⟦_⟧, eq!, eq?}
 use Rattle.e8.specs.Lattice.{sum, bit, Each, TwoE8}
-use Rattle.e8.specs.Rows.{ints, times, add, matrix, rows, combination}
+use Rattle.e8.specs.Rows.{ints, times, add, rows, combination}
 use Rattle.e8.proofs.Points.{of-bit, of-four, add-length, add-point, times-length, times-point}
 
 -- v is h times a point of 2·E8

@@ -1,16 +1,15 @@
 -- To differ by a point of H·(2·E8) is an equivalence: the classes of blocks
-use mathlib.Core.Path.{_≡_, refl, sym, _∙_, ap, subst}
-use mathlib.Core.Bool.{Bool, true, false, not}
+use mathlib.Core.Path.{_≡_, refl, sym, _∙_, ap}
+use mathlib.Core.Bool.{Bool, false}
 use mathlib.Core.List.{List, [], _∷_}
-use Prim.Native.Nat.{ℕ, zero, suc, _+_, _*_, _-_, _<_, _≤_}
+use Prim.Native.Nat.{ℕ, suc, _*_}
 use native.Mathlib.Omega.{arith}
 use lib.ListN.{length}
-use lib.IntN.{ℤ, pos, negsuc, negℤ, _+ℤ_, _-ℤ_, _*ℤ_}
-use lib.Signed.{shrZ}
+use lib.IntN.{ℤ, pos, negsuc, _-ℤ_, _*ℤ_}
 use Rattle.integers.specs.Integer.{modZ}
-use Rattle.integers.proofs.Zed.{E, `_, #_, _⊕_, _⊖_, _⊗_, ⊝_, up, down, eq!, eq?}
-use Rattle.integers.proofs.Floor.{modZ-lt, div-mod, rem-is}
-use Rattle.e8.specs.Lattice.{sum, bit, Each, TwoE8, moved, InBlock}
+use Rattle.integers.proofs.Zed.{`_, #_, _⊕_, _⊖_, _⊗_, ⊝_, up, down, eq!, eq?}
+use Rattle.integers.proofs.Floor.{modZ-lt}
+use Rattle.e8.specs.Lattice.{sum, bit, Each, moved, InBlock}
 use Rattle.e8.specs.Least.{lowered}
 use Rattle.e8.specs.Rows.{add, times}
 use Rattle.e8.proofs.Points.{to-four, add-length, add-point, bool-of, times-length, times-point}

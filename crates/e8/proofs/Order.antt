@@ -1,9 +1,9 @@
 -- The order by energy, then reading order. It is total, so a class has one least member; `better` takes the first of two
-use mathlib.Core.Path.{_≡_, refl, sym, _∙_, ap, subst}
+use mathlib.Core.Path.{_≡_, refl, sym, _∙_, subst}
 use mathlib.Core.Logic.{_⊎_, inl, inr}
 use mathlib.Core.Bool.{Bool, true, false, not, cond}
 use mathlib.Core.List.{List, [], _∷_, _++_}
-use Prim.Native.Nat.{ℕ, zero, suc, _+_, _*_, _-_, _<_, _≤_}
+use Prim.Native.Nat.{ℕ, _+_, _<_, _≤_}
 use native.Mathlib.Nat.{eq-or-lt-of-le}
 use native.Mathlib.Decide.{decLe}
 use native.Mathlib.Omega.{arith}
@@ -12,9 +12,9 @@ use lib.Dec.{T, leb, ltb, ltb→lt, nltb→le}
 use borrow.Author.Tests.{leb-true, leb-false, ltb-true, ltb-false}
 use lib.ListN.{length}
 use lib.IntN.{ℤ}
-use lib.Signed.{_≤ℤ_, _<ℤ_, ltZ, ltZ-yes, ltZ-no}
+use lib.Signed.{_<ℤ_, ltZ, ltZ-yes, ltZ-no}
 use Rattle.integers.proofs.Zed.{up, down, ud-eq, eq-ud, le-ud, ud-lt, lt-ud}
-use Rattle.e8.specs.Energy.{sq, energy}
+use Rattle.e8.specs.Energy.{energy}
 use Rattle.e8.specs.Order.{Reads, before}
 use Rattle.e8.specs.Least.{better}
 

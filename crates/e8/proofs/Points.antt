@@ -1,14 +1,14 @@
 -- The points of 2·E8 are a group: sums, multiples and 0 of them are points
-use mathlib.Core.Path.{_≡_, refl, sym, _∙_, ap, subst}
+use mathlib.Core.Path.{_≡_, refl, _∙_, ap}
 use mathlib.Core.Bool.{Bool, true, false, not}
 use mathlib.Core.List.{List, [], _∷_}
-use Prim.Native.Nat.{ℕ, zero, suc, _+_, _*_, _-_, _<_, _≤_}
+use Prim.Native.Nat.{ℕ, zero, suc, _+_, _*_, _<_}
 use native.Mathlib.Omega.{arith}
 use lib.ListN.{length}
-use lib.IntN.{ℤ, pos, negsuc, negℤ, _+ℤ_, _-ℤ_, _*ℤ_}
+use lib.IntN.{ℤ, pos, _+ℤ_, _*ℤ_}
 use lib.Signed.{shrZ}
 use Rattle.integers.specs.Integer.{modZ}
-use Rattle.integers.proofs.Zed.{E, `_, #_, _⊕_, _⊖_, _⊗_, ⊝_, up, down, eq!, eq?}
+use Rattle.integers.proofs.Zed.{`_, #_, _⊕_, _⊗_, up, down, eq!, eq?}
 use Rattle.integers.proofs.Floor.{modZ-lt, div-mod, rem-is}
 use Rattle.e8.specs.Lattice.{sum, bit, Each, TwoE8}
 use Rattle.e8.specs.Rows.{add, times}

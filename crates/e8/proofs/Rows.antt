@@ -1,17 +1,17 @@
 -- One message for each class: the reduction by the rows of matrix (39) is in the class, in range, and the only one so.
 -- Stated for every length that 4 divides; E8 is length 8
-use mathlib.Core.Path.{_≡_, refl, sym, _∙_, ap, subst}
-use mathlib.Core.Bool.{Bool, true, false, not}
+use mathlib.Core.Path.{_≡_, refl, ap}
+use mathlib.Core.Bool.{Bool, true, false}
 use mathlib.Core.List.{List, [], _∷_}
-use Prim.Native.Nat.{ℕ, zero, suc, _+_, _*_, _-_, _<_, _≤_}
+use Prim.Native.Nat.{ℕ, suc, _*_, _<_}
 use native.Mathlib.Omega.{arith}
 use lib.ListN.{length}
-use lib.IntN.{ℤ, pos, negsuc, negℤ, _+ℤ_, _-ℤ_, _*ℤ_, natAbs}
-use lib.Signed.{_≤ℤ_, _<ℤ_, shrZ}
-use Rattle.integers.proofs.Zed.{E, `_, #_, _⊕_, _⊖_, _⊗_, ⊝_, up, down, eq!, eq?, eq-ud}
+use lib.IntN.{ℤ, pos, _+ℤ_, _-ℤ_, _*ℤ_}
+use lib.Signed.{shrZ}
+use Rattle.integers.proofs.Zed.{`_, #_, _⊕_, _⊖_, _⊗_, eq!, eq?}
 use Rattle.integers.specs.Integer.{modZ}
 use Rattle.integers.proofs.Floor.{modZ-lt, div-mod, rem-is, digits-q, digits-r}
-use Rattle.e8.specs.Lattice.{sum, bit, Each, TwoE8, moved, InBlock}
+use Rattle.e8.specs.Lattice.{sum, Each, moved, InBlock}
 use Rattle.e8.specs.Least.{lowered}
 use Rattle.e8.specs.Rows.{ints, remainders, reduced, Below, Ranged}
 use Rattle.e8.proofs.Points.{to-four, of-four}

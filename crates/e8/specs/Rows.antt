@@ -1,7 +1,7 @@
 -- One message for each class: the rows of matrix (39), and the reduction of a block by them (document 01, "Shaping"; document 003, example 1).
 -- Twice matrix (39) is whole, so 2^b times it is h times that, with h = 2^(b − 1). Clients cite rows, combination, reduced, Ranged, ints. Assumes nothing.
 use mathlib.Core.List.{List, [], _∷_, map}
-use Prim.Native.Nat.{ℕ, _+_, _*_, _<_}
+use Prim.Native.Nat.{ℕ, _*_, _<_}
 use lib.IntN.{ℤ, pos, _+ℤ_, _-ℤ_, _*ℤ_}
 use lib.Signed.{shrZ}
 use Rattle.integers.specs.Integer.{modZ}

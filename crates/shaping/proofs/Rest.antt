@@ -1,21 +1,21 @@
 -- What fits on the way to a remainder modulo 2^k, and to a coordinate centred
-use mathlib.Core.Path.{_≡_, refl, sym, _∙_, ap, subst}
-use Prim.Native.Nat.{ℕ, zero, suc, _+_, _*_, _-_, _^_, _<_, _≤_}
+use mathlib.Core.Path.{_≡_}
+use Prim.Native.Nat.{ℕ, _+_, _*_, _^_, _<_, _≤_}
 use native.Mathlib.Nat.{pow-succ'}
 use native.Mathlib.Numerals.{add-one}
 use native.Mathlib.Omega.{arith}
 use lib.Pow.{pow-mono, pow-pos}
-use lib.IntN.{ℤ, pos, negsuc, _+ℤ_, _-ℤ_, _*ℤ_, natAbs}
+use lib.IntN.{ℤ, pos, _-ℤ_, _*ℤ_, natAbs}
 use lib.Signed.{shrZ, mag-shr}
 use mir.Syntax.{w32}
 use mir.Val.{SFits}
 use mir.ValLaws.{sfits-le}
 use Rattle.integers.specs.Integer.{modZ}
-use Rattle.integers.proofs.Zed.{E, `_, #_, _⊕_, _⊖_, _⊗_, P, N, up, down, eq!, eq?, sfits!, abs-ud}
+use Rattle.integers.proofs.Zed.{`_, #_, _⊕_, _⊖_, _⊗_, P, N, eq!, eq?, sfits!, abs-ud}
 use Rattle.integers.proofs.Floor.{modZ-lt, div-mod}
 use Rattle.shaping.proofs.Size.{fits}
 
-module _ (k : ℕ) (z : ℤ) (small : k ≤ 9) (size : natAbs z ≤ 2 ^ 29) where
+module _ (k : ℕ) (z : ℤ) (small : k ≤ 9) (size : natAbs z ≤ 2 ^ 30) where
   M-pos : 0 < 2 ^ k
   M-pos = pow-pos k
 

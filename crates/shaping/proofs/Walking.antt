@@ -9,15 +9,15 @@ use native.Mathlib.Omega.{arith}
 use lib.Pow.{pow-mono, pow-pos}
 use lib.ListN.{length, drop, getD, drop-of-length-le}
 use lib.Seq.{drop-cons}
-use lib.IntN.{ℤ, pos, negsuc, _-ℤ_, _*ℤ_, natAbs}
-use Rattle.e8.specs.Energy.{sq, energy, Within}
+use lib.IntN.{ℤ, pos, negsuc, _-ℤ_, natAbs}
+use Rattle.e8.specs.Energy.{sq, energy}
 use Rattle.e8.specs.Least.{cent, better, best, lowered, leastBlock}
 use Rattle.e8.proofs.Order.{better-heads}
 use Rattle.e8.proofs.Cent.{cent-range, Range}
 use Rattle.e8.proofs.Best.{cents-differ, best-head, parts-differ, best-length}
 use Rattle.shaping.proofs.Size.{lowered-length}
 use Rattle.shaping.proofs.Rest.{double}
-use Rattle.shaping.specs.Walk.{Scale, choice, sooner, chosen, Kept, Keeps, Low}
+use Rattle.shaping.specs.Walk.{choice, sooner, chosen, Kept, Keeps, Low}
 
 -- ---- sizes
 

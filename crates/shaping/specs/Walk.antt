@@ -6,7 +6,7 @@ use mathlib.Core.List.{List, [], _∷_}
 use Prim.Native.Nat.{ℕ, zero, suc, _*_, _^_, _/_, _%_, _<_, _≤_}
 use lib.Dec.{leb, ltb}
 use lib.ListN.{length}
-use lib.IntN.{ℤ, pos, _-ℤ_}
+use lib.IntN.{ℤ, pos, _+ℤ_, _-ℤ_}
 use lib.Signed.{ltZ}
 use Rattle.e8.specs.Energy.{energy}
 use Rattle.e8.specs.Least.{cent, best}
@@ -15,6 +15,10 @@ use Rattle.e8.specs.Least.{cent, best}
 pub record Scale (k : ℕ) (m : ℤ) : Type 0 where
   pub small : k ≤ 7
   pub is : m ≡ pos (2 ^ k)
+
+-- M up from a negative number, and down from any other
+abbrev pub across : ℤ → ℤ → ℤ
+across m c = cond (ltZ c (pos 0)) (c +ℤ m) (c -ℤ m)
 
 -- one of the two candidates for a coordinate: 0 names the first
 abbrev pub choice : ℕ → ℕ → ℤ → ℤ

@@ -38,11 +38,11 @@ pub fn load(part: &[i32]) -> [i32; 8]
     ensures { λ r. ⌜ r ≡ now (part .entry) ⌝ }
 {
     let mut r = [0i32; 8];
-    let mut i: usize = 0;
-    while i < 8 {
-        let z = part[i];
-        r[i] = z;
-        i += 1;
+    let mut j: usize = 0;
+    while j < 8 {
+        let z = part[j];
+        r[j] = z;
+        j += 1;
     }
     r
 }
@@ -52,11 +52,11 @@ pub fn store(x: [i32; 8], part: &mut [i32])
     requires { ⌜ length (now part) ≡ 8 ⌝ }
     ensures { λ _. ⌜ now (part .exit) ≡ x ⌝ }
 {
-    let mut i: usize = 0;
-    while i < 8 {
-        let z = x[i];
-        part[i] = z;
-        i += 1;
+    let mut p: usize = 0;
+    while p < 8 {
+        let z = x[p];
+        part[p] = z;
+        p += 1;
     }
 }
 
@@ -72,7 +72,7 @@ fn power(k: u32) -> i32
 
 // The remainder modulo m = 2^k, which is never negative.
 fn remainder(k: u32, m: i32, z: i32) -> i32
-    requires { ⌜ (k ≤ 9) × (m ≡ pos (2 ^ k)) × (natAbs z ≤ 2 ^ 29) ⌝ }
+    requires { ⌜ (k ≤ 9) × (m ≡ pos (2 ^ k)) × (natAbs z ≤ 2 ^ 30) ⌝ }
     ensures { λ r. ⌜ r ≡ pos (modZ z (2 ^ k)) ⌝ }
 {
     let q = z >> k;
@@ -86,7 +86,7 @@ ghost use mathlib.Core.List.{List, [], _∷_};
 ghost use lib.IntN.{ℤ, _-ℤ_};
 ghost use Rattle.e8.specs.Energy.{sq};
 ghost use Rattle.e8.specs.Least.{cent as centred, best, lowered as less, leastBlock};
-ghost use Rattle.shaping.specs.Walk.{Scale, choice, sooner, chosen, Keeps, Low};
+ghost use Rattle.shaping.specs.Walk.{Scale, across, choice, sooner, chosen, Keeps, Low};
 
 // The best choices for the coordinates passed, when the sum is to be even or odd, and their energy.
 struct Suffix {
@@ -114,16 +114,21 @@ fn cent(k: u32, m: i32, x: i32) -> i32
     remainder(k + 1, m + m, x + m) - m
 }
 
+// From the first candidate for a coordinate to the second: M up where it is negative, and down where it is not.
+fn other(m: i32, c: i32) -> i32
+    requires { ⌜ (natAbs m ≤ 2 ^ 7) × (natAbs c ≤ 2 ^ 7) ⌝ }
+    ensures { λ r. ⌜ r ≡ across m c ⌝ }
+{
+    if c < 0 { c + m } else { c - m }
+}
+
 // One of the two candidates for a coordinate.
 fn either(k: u32, m: i32, x: i32, second: u32) -> i32
     requires { ⌜ Scale k m × (natAbs x ≤ 2 ^ 24 + 2 ^ 7) ⌝ }
     ensures { λ r. ⌜ r ≡ choice (2 ^ k) second x ⌝ }
 {
-    if second == 0 {
-        cent(k, m, x)
-    } else {
-        cent(k, m, x - m)
-    }
+    let c = cent(k, m, x);
+    if second == 0 { c } else { other(m, c) }
 }
 
 fn square(z: i32) -> u32
@@ -169,7 +174,7 @@ fn begin(k: u32, m: i32, v: i32) -> State
     ensures { λ r. ⌜ Keeps (2 ^ k) (v ∷ []) (r .even .energy) (r .odd .energy) (r .even .choices) (r .odd .choices) ⌝ }
 {
     let c = cent(k, m, v);
-    let d = cent(k, m, v - m);
+    let d = other(m, c);
     let e = square(c);
     let f = square(d);
     let even = Suffix {
@@ -193,11 +198,11 @@ fn step(k: u32, m: i32, v: i32, w: State) -> State
     ensures { λ r. ⌜ ((xs : List ℤ) → 0 < length xs → Keeps (2 ^ k) xs (w .even .energy) (w .odd .energy) (w .even .choices) (w .odd .choices) → Keeps (2 ^ k) (v ∷ xs) (r .even .energy) (r .odd .energy) (r .even .choices) (r .odd .choices)) ⌝ }
 {
     let c = cent(k, m, v);
-    let d = cent(k, m, v - m);
+    let d = other(m, c);
     let one = w.even;
-    let other = w.odd;
-    let even = extend(c, d, one, other);
-    let odd = extend(c, d, other, one);
+    let two = w.odd;
+    let even = extend(c, d, one, two);
+    let odd = extend(c, d, two, one);
     State {
         even: even,
         odd: odd,
@@ -255,7 +260,7 @@ fn best_of(k: u32, m: i32, x: [i32; 8]) -> Candidate
 
 // A block, h less at each coordinate.
 fn lowered(h: i32, x: [i32; 8]) -> [i32; 8]
-    requires { ⌜ (natAbs h ≤ 2 ^ 7) × Within (2 ^ 24) x ⌝ }
+    requires { ⌜ (natAbs h ≤ 2 ^ 25) × Within (2 ^ 24) x ⌝ }
     ensures { λ r. ⌜ r ≡ less h x ⌝ }
 {
     let mut r = x;
@@ -288,4 +293,42 @@ pub fn least(k: u32, x: [i32; 8]) -> [i32; 8]
     } else {
         b
     }
+}
+
+// ---- the reduction to a message
+
+ghost use lib.ListN.{drop, getD};
+ghost use Rattle.e8.specs.Rows.{ints, remainders, reduced};
+
+// The rows of matrix (39) after the first, taken off a block, for h = 2^k and m = 2h: each changes its own place and the last.
+fn later_rows(k: u32, m: i32, y: [i32; 8]) -> [i32; 8]
+    requires { ⌜ Scale (k + 1) m × Within (2 ^ 26) y ⌝ }
+    ensures { λ r. ⌜ r ≡ getD y 0 (pos 0) ∷ ints (remainders (2 ^ k) (pos 0) (drop 1 y)) ⌝ }
+{
+    let mut r = y;
+    let mut q: i32 = 0;
+    let mut i: usize = 1;
+    while i < 7 {
+        let z = y[i];
+        let s = remainder(k + 1, m, z);
+        r[i] = s;
+        q = q + (z - s);
+        i += 1;
+    }
+    let z = y[7];
+    let s = remainder(k + 2, m + m, z - q);
+    r[7] = s;
+    r
+}
+
+// A block reduced to s1 .. s8 by 2^b times the rows of matrix (39), for b = k + 1: the first row comes off every place.
+pub fn reduce(k: u32, v: [i32; 8]) -> [i32; 8]
+    requires { ⌜ (k ≤ 6) × Within (2 ^ 24) v ⌝ }
+    ensures { λ r. ⌜ r ≡ ints (reduced (2 ^ k) v) ⌝ }
+{
+    let h = power(k);
+    let x = v[0];
+    let s = remainder(k, h, x);
+    let y = lowered(x - s, v);
+    later_rows(k, h + h, y)
 }

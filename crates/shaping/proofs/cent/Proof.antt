@@ -1,16 +1,14 @@
 -- `cent` meets its contract: a remainder modulo 2M of x + M, less M
 use mathlib.Core.Path.{_≡_, refl, sym, _∙_, ap, ap₂, subst}
-use Prim.Native.Nat.{ℕ, suc, _+_, _*_, _-_, _^_, _<_, _≤_}
+use Prim.Native.Nat.{ℕ, _+_, _*_, _^_, _<_, _≤_}
 use native.Mathlib.Omega.{arith}
-use lib.IntN.{ℤ, pos, _+ℤ_, _-ℤ_, _*ℤ_, natAbs}
-use lib.Signed.{shrZ}
+use lib.IntN.{ℤ, pos, _+ℤ_, _-ℤ_, natAbs}
 use mir.Syntax.{w32}
 use mir.Val.{SFits, toZ, ofZ}
 use borrow.Author.Needs.{needs}
 use Rattle.integers.specs.Integer.{modZ}
-use Rattle.integers.proofs.Zed.{E, `_, #_, _⊕_, _⊖_, eq!, eq?, sfits!, tz, sfits-to, abs-ud}
+use Rattle.integers.proofs.Zed.{`_, #_, _⊕_, tz, sfits-to, abs-ud}
 use Rattle.e8.specs.Least.{cent}
-use Rattle.shaping.specs.Walk.{Scale}
 use Rattle.shaping.proofs.Size.{fits, abs! }
 use Rattle.shaping.proofs.Rest.{power-fits, double}
 use Rattle.shaping.proofs.Walking.{scale-pos, cent-abs}
@@ -60,7 +58,7 @@ add-remainder-3 : tie.Need-add-remainder-3
 add-remainder-3 c = sfits-to (ap₂ _+ℤ_ (number c) (modulus c)) (fits (c .args .x +ℤ pos (M c)) (omega (arith, sum-size c)))
 
 remainder-requires : tie.Need-remainder-requires
-remainder-requires c κs = (omega (arith, c .pre .0 .small), twice c, subst (λ (y : ℤ). natAbs y ≤ 2 ^ 29) (sym (sum c)) (omega (arith, sum-size c)))
+remainder-requires c κs = (omega (arith, c .pre .0 .small), twice c, subst (λ (y : ℤ). natAbs y ≤ 2 ^ 30) (sym (sum c)) (omega (arith, sum-size c)))
 
 sub-result : tie.Need-sub-result
 sub-result c = sfits-to (centred c) (centred-fits c)

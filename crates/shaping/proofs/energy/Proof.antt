@@ -1,6 +1,6 @@
 -- `energy` meets its contract: the sum so far and the energy of the coordinates left make the energy
 use mathlib.Core.Path.{_≡_, refl, sym, _∙_, ap, subst}
-use Prim.Native.Nat.{ℕ, suc, _+_, _*_, _-_, _^_, _<_, _≤_}
+use Prim.Native.Nat.{ℕ, _+_, _*_, _-_, _^_, _≤_}
 use native.Mathlib.Omega.{arith}
 use lib.IntN.{ℤ, pos, natAbs}
 use lib.ListN.{length, getD, drop, drop-of-length-le}
@@ -8,7 +8,7 @@ use mir.Syntax.{w32}
 use mir.Val.{toZ, ofZ}
 use borrow.Author.Needs.{needs}
 use Rattle.integers.proofs.Zed.{tz}
-use Rattle.e8.specs.Energy.{sq, energy, Within}
+use Rattle.e8.specs.Energy.{sq, energy}
 use Rattle.shaping.proofs.Size.{within-at, fits, sq-le, energy-drop}
 use Rattle.shaping.proofs.energy.Statement.{statement}
 use Rattle.shaping.proofs.energy.Tie as tie

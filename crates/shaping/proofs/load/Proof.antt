@@ -1,11 +1,8 @@
 -- `load` meets its contract: after i turns the first i places are those of the part
-use mathlib.Core.Path.{_≡_, refl, sym, _∙_, ap, subst}
-use Prim.Native.Nat.{ℕ, suc, _+_, _*_, _-_, _^_, _<_, _≤_}
+use mathlib.Core.Path.{_≡_, refl, sym}
+use Prim.Native.Nat.{_-_}
 use native.Mathlib.Omega.{arith}
-use lib.IntN.{ℤ, pos, natAbs}
-use lib.ListN.{length, getD, drop, drop-of-length-le}
-use mir.Syntax.{w32}
-use mir.Val.{toZ, ofZ}
+use lib.ListN.{length}
 use borrow.Author.Needs.{needs}
 use Rattle.integers.proofs.Zed.{tz}
 use Rattle.shaping.proofs.Filled.{Filled, filled-none, filled-next, filled-all}
@@ -13,10 +10,10 @@ use Rattle.shaping.proofs.load.Statement.{statement}
 use Rattle.shaping.proofs.load.Tie as tie
 
 abbrev Inv-loop : tie.InvT-loop
-Inv-loop part r₀ i₀ r i = (length part ≡ 8) × Filled part r i
+Inv-loop part r₀ j₀ r j = (length part ≡ 8) × Filled part r j
 
 abbrev μ-loop : tie.MeasureT-loop
-μ-loop part r₀ i₀ r i = 8 - i
+μ-loop part r₀ j₀ r j = 8 - j
 
 loop-holds : tie.Need-loop-holds Inv-loop μ-loop
 loop-holds c = (c .pre, filled-none (c .args .part .now) _ (sym (c .pre)))
@@ -33,8 +30,8 @@ mul-r c = search needs
 array-set-from-r : tie.Need-array-set-from-r Inv-loop μ-loop
 array-set-from-r c = search needs
 
-add-i : tie.Need-add-i Inv-loop μ-loop
-add-i c = search needs
+add-j : tie.Need-add-j Inv-loop μ-loop
+add-j c = search needs
 
 loop-less : tie.Need-loop-less Inv-loop μ-loop
 loop-less c = search needs
@@ -43,10 +40,10 @@ loop-again : tie.Need-loop-again Inv-loop μ-loop
 loop-again c =
     let s = c .before .before .before in
     let l = c .before .before .loop in
-    (s .pre, filled-next (s .args .part .now) (l .r) (l .i) _ (l .inv .1) (omega (arith, s .pre)) (tz refl (record { sfits = c .z .given })))
+    (s .pre, filled-next (s .args .part .now) (l .r) (l .j) _ (l .inv .1) (omega (arith, s .pre)) (tz refl (record { sfits = c .z .given })))
 
 returns : tie.Need-returns Inv-loop μ-loop
-returns c = filled-all (c .before .before .args .part .now) (c .before .loop .r) (c .before .loop .i) (c .before .loop .inv .1) (omega (arith, c .before .before .pre))
+returns c = filled-all (c .before .before .args .part .now) (c .before .loop .r) (c .before .loop .j) (c .before .loop .inv .1) (omega (arith, c .before .before .pre))
 
 pub load-spec : {M : Type 1} → statement M
 load-spec =
@@ -59,7 +56,7 @@ load-spec =
     shared-slice-copy-out-z
     mul-r
     array-set-from-r
-    add-i
+    add-j
     loop-less
     loop-again
     returns)

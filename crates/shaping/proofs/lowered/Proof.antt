@@ -1,15 +1,14 @@
 -- `lowered` meets its contract
-use mathlib.Core.Path.{_≡_, refl, sym, _∙_, ap, ap₂, subst}
-use mathlib.Core.List.{List, [], _∷_}
-use Prim.Native.Nat.{ℕ, suc, _+_, _*_, _-_, _^_, _/_, _%_, _<_, _≤_}
+use mathlib.Core.Path.{_≡_, refl, sym, _∙_, ap, ap₂}
+use mathlib.Core.List.{List}
+use Prim.Native.Nat.{ℕ, _-_, _^_, _≤_}
 use native.Mathlib.Omega.{arith}
 use lib.IntN.{ℤ, pos, _-ℤ_, natAbs}
-use lib.ListN.{length, drop, getD, length-drop}
+use lib.ListN.{length, getD}
 use mir.Syntax.{w32}
-use mir.Val.{SFits, toZ, ofZ}
+use mir.Val.{SFits, toZ}
 use borrow.Author.Needs.{needs}
 use Rattle.integers.proofs.Zed.{tz, sfits-to}
-use Rattle.e8.specs.Energy.{Within}
 use Rattle.e8.specs.Least.{lowered}
 use Rattle.shaping.proofs.Size.{within-at, lowered-length, lowered-at, less-abs, fits}
 use Rattle.shaping.proofs.Reading.{read}
@@ -44,7 +43,7 @@ module _ (s : tie.Start Inv-loop μ-loop) where
   one i = ap₂ _-ℤ_ (tz refl (fits (getD (s .args .t2) i (pos 0)) (omega (arith, small i)))) height
 
   one-fits : (i : ℕ) → SFits w32 (getD (s .args .t2) i (pos 0) -ℤ s .args .h)
-  one-fits i = fits (getD (s .args .t2) i (pos 0) -ℤ s .args .h) (omega (arith, less-abs (getD (s .args .t2) i (pos 0)) (s .args .h) (2 ^ 24) (2 ^ 7) (small i) (s .pre .0)))
+  one-fits i = fits (getD (s .args .t2) i (pos 0) -ℤ s .args .h) (omega (arith, less-abs (getD (s .args .t2) i (pos 0)) (s .args .h) (2 ^ 24) (2 ^ 25) (small i) (s .pre .0)))
 
 loop-holds : tie.Need-loop-holds Inv-loop μ-loop
 loop-holds c = (omega arith, filled-none (target c) (c .args .t2) (sym (lowered-length (read (c .args .h)) (c .args .t2))))

@@ -1,14 +1,13 @@
 -- `remainder` meets its contract: z less its floor quotient times m
-use mathlib.Core.Path.{_≡_, refl, sym, _∙_, ap, ap₂, subst}
-use Prim.Native.Nat.{ℕ, suc, _+_, _*_, _-_, _^_, _<_, _≤_}
-use native.Mathlib.Omega.{arith}
-use lib.IntN.{ℤ, pos, _+ℤ_, _-ℤ_, _*ℤ_, natAbs}
+use mathlib.Core.Path.{_≡_, refl, _∙_, ap, ap₂}
+use Prim.Native.Nat.{_^_}
+use lib.IntN.{ℤ, pos, _-ℤ_, _*ℤ_}
 use lib.Signed.{shrZ}
 use mir.Syntax.{w32}
-use mir.Val.{SFits, toZ, ofZ}
+use mir.Val.{toZ, ofZ}
 use borrow.Author.Needs.{needs}
 use Rattle.integers.specs.Integer.{modZ}
-use Rattle.integers.proofs.Zed.{E, `_, #_, _⊕_, _⊖_, eq!, eq?, sfits!, tz, sfits-to, abs-ud}
+use Rattle.integers.proofs.Zed.{tz, sfits-to}
 use Rattle.shaping.proofs.Size.{fits}
 use Rattle.shaping.proofs.Rest.{fits-quotient, fits-product, fits-remainder, remainder-is, power-fits}
 use Rattle.shaping.proofs.remainder.Statement.{statement}

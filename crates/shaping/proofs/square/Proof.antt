@@ -1,21 +1,15 @@
 -- `square` meets its contract
-use mathlib.Core.Path.{_≡_, refl, sym, _∙_, ap, ap₂, subst}
-use mathlib.Core.Bool.{Bool, true, false, cond}
-use Prim.Native.Nat.{ℕ, zero, suc, _+_, _*_, _-_, _^_, _<_, _≤_}
+use mathlib.Core.Path.{_≡_, refl, sym, _∙_, ap, subst}
+use Prim.Native.Nat.{_^_, _≤_}
 use native.Mathlib.Omega.{arith}
-use lib.Dec.{T, leb, ltb}
-use lib.IntN.{ℤ, pos, _+ℤ_, _-ℤ_, _*ℤ_, natAbs}
-use lib.Signed.{ltZ, nonNeg}
+use lib.Dec.{T}
+use lib.IntN.{ℤ, pos, _*ℤ_, natAbs}
+use lib.Signed.{nonNeg}
 use mir.Syntax.{w32}
-use mir.Val.{SFits, Fits, toZ, ofZ}
-use borrow.Author.Needs.{needs}
-use Rattle.integers.proofs.Zed.{E, `_, #_, _⊕_, _⊖_, eq!, eq?, sfits!, tz, sfits-to, abs-ud}
+use mir.Val.{Fits, toZ, ofZ}
+use Rattle.integers.proofs.Zed.{tz, sfits-to}
 use Rattle.e8.specs.Energy.{sq}
-use Rattle.e8.specs.Least.{cent}
-use Rattle.shaping.specs.Walk.{Scale, choice, sooner}
-use Rattle.shaping.proofs.Size.{fits, abs!, sq-le, product-sq}
-use Rattle.shaping.proofs.Rest.{power-fits}
-use Rattle.shaping.proofs.Walking.{scale-pos, cent-abs}
+use Rattle.shaping.proofs.Size.{fits, sq-le, product-sq}
 use Rattle.shaping.proofs.square.Statement.{statement}
 use Rattle.shaping.proofs.square.Tie as tie
 

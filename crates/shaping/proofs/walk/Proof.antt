@@ -1,15 +1,11 @@
 -- `walk` meets its contract: before each turn it keeps the best blocks for the coordinates from i on
-use mathlib.Core.Path.{_≡_, refl, sym, _∙_, ap, subst}
-use mathlib.Core.List.{List, [], _∷_}
-use Prim.Native.Nat.{ℕ, suc, _+_, _*_, _-_, _^_, _/_, _%_, _<_, _≤_}
+use mathlib.Core.Path.{_≡_, sym, _∙_, ap, subst}
+use mathlib.Core.List.{[], _∷_}
+use Prim.Native.Nat.{ℕ, _+_, _-_, _^_, _≤_}
 use native.Mathlib.Omega.{arith}
-use lib.IntN.{ℤ, pos, _-ℤ_, natAbs}
+use lib.IntN.{ℤ, pos, natAbs}
 use lib.ListN.{length, drop, getD, length-drop}
-use mir.Syntax.{w32}
-use mir.Val.{SFits, toZ, ofZ}
 use borrow.Author.Needs.{needs}
-use Rattle.integers.proofs.Zed.{tz}
-use Rattle.e8.specs.Energy.{Within}
 use Rattle.shaping.specs.Walk.{Scale, Keeps}
 use Rattle.shaping.proofs.Size.{within-at}
 use Rattle.shaping.proofs.Reading.{read, scale, coordinate}

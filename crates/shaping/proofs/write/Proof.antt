@@ -1,15 +1,12 @@
 -- `write` meets its contract: after i turns the first i places are written, and n holds the choices that are left
 use mathlib.Core.Path.{_≡_, refl, sym, _∙_, ap, subst}
-use mathlib.Core.List.{List, [], _∷_}
-use Prim.Native.Nat.{ℕ, suc, _+_, _*_, _-_, _^_, _/_, _%_, _<_, _≤_}
+use mathlib.Core.List.{List}
+use Prim.Native.Nat.{ℕ, _+_, _-_, _^_, _%_, _≤_}
 use native.Mathlib.Omega.{arith}
-use lib.IntN.{ℤ, pos, _-ℤ_, natAbs}
-use lib.ListN.{length, drop, getD, length-drop}
-use mir.Syntax.{w32}
-use mir.Val.{SFits, toZ, ofZ}
+use lib.IntN.{ℤ, pos, natAbs}
+use lib.ListN.{length, drop, getD}
 use borrow.Author.Needs.{needs}
 use Rattle.integers.proofs.Zed.{tz}
-use Rattle.e8.specs.Energy.{Within}
 use Rattle.shaping.specs.Walk.{Scale, choice, chosen}
 use Rattle.shaping.proofs.Size.{within-at}
 use Rattle.shaping.proofs.Filled.{Filled, filled-none, filled-next, filled-all}
