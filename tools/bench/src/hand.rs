@@ -233,10 +233,10 @@ impl<const KIND: usize, const B: usize> Format<KIND, B> {
         (d & rep8(2 * h - 1)) | (odd & (2 * h) << 56)
     }
 
-    /// The sent block of the class of x, coordinates in bytes from 0 to 2M − 1: as i16 lanes, and its energy.
+    /// The sent block of the class of x, coordinates in bytes from 0 to 2M − 1: as i16 lanes, and its energy, in the lowest 32 bits.
     #[inline]
     #[target_feature(enable = "sse2")]
-    fn shape(x: u64) -> (__m128i, u32) {
+    fn shape(x: u64) -> (__m128i, __m128i) {
         match Self::A + B {
             2 => shape::<2>(x),
             3 => shape::<3>(x),
@@ -260,7 +260,7 @@ impl<const KIND: usize, const B: usize> Format<KIND, B> {
         let bits = load(&message[..Self::LEVELS.div_ceil(8)]);
         let c0 = Self::codeword(bits as u32 & ((1 << Self::LEVEL_0) - 1));
         let c1 = Self::codeword((bits >> Self::LEVEL_0) as u32 & ((1 << Self::LEVEL_1) - 1));
-        let mut energy = 0;
+        let mut energy = _mm_setzero_si128();
         for (j, block) in frame.chunks_exact_mut(8).enumerate() {
             let start = Self::WHOLE + B * j;
             let bits = load(&message[start..start + B + (Self::OVER != 0) as usize]) >> Self::OVER;
@@ -271,9 +271,9 @@ impl<const KIND: usize, const B: usize> Format<KIND, B> {
             }
             let (z, e) = Self::shape(x);
             store_block(z, block);
-            energy += e;
+            energy = _mm_add_epi32(energy, e);
         }
-        Ok(energy as u64)
+        Ok(_mm_cvtsi128_si32(energy) as u64)
     }
 
     #[target_feature(enable = "sse2")]
@@ -414,47 +414,53 @@ fn square_sums(x: __m128i) -> __m128i {
     _mm_add_epi64(_mm_mul_epu32(size, size), _mm_mul_epu32(odd, odd))
 }
 
-/// The sent block of the class of x at scale M = 2^K, and its energy; x has coordinates in bytes,
-/// from 0 to 2M − 1. (A class has such a member: 2M in one coordinate is a point of the lattice.)
+/// The sent block of the class of x at scale M = 2^K, and its energy in the lowest 32 bits; x has
+/// coordinates in bytes, from 0 to 2M − 1. (A class has such a member: 2M in one coordinate is a
+/// point of the lattice.)
+///
+/// Figures of the whole part stand in the low four lanes, those of the half part in the high four.
 #[inline]
 #[target_feature(enable = "sse2")]
-fn shape<const K: usize>(x: u64) -> (__m128i, u32) {
-    let scale = 1i32 << K;
-    let half = _mm_set1_epi16((scale / 2) as i16);
-    let low = _mm_set1_epi16((scale - 1) as i16);
-    let x = _mm_unpacklo_epi8(_mm_cvtsi64_si128(x as i64), _mm_setzero_si128());
-    let up = _mm_add_epi16(x, half);
+fn shape<const K: usize>(x: u64) -> (__m128i, __m128i) {
+    let scale = 1i16 << K;
+    let half = _mm_set1_epi16(scale / 2);
+    let low = _mm_set1_epi16(scale - 1);
+    let bytes = _mm_cvtsi64_si128(x as i64);
+    let raised = _mm_add_epi8(bytes, _mm_set1_epi8(scale as i8 / 2));
+    let wide = |bytes| _mm_unpacklo_epi8(bytes, _mm_setzero_si128());
     // The whole part c and the half part d, rounded into [−H, H).
-    let c = _mm_sub_epi16(_mm_and_si128(up, low), half);
-    let d = _mm_sub_epi16(_mm_and_si128(x, low), half);
-    // The parities of the sums of u: bit K of each coordinate.
-    let top = |x| _mm_sll_epi16(x, _mm_cvtsi32_si128(15 - K as i32));
-    let odd = _mm_movemask_epi8(_mm_packs_epi16(top(up), top(x)));
-    let odd_c = (odd as u8).count_ones() as i32 & 1;
-    let odd_d = ((odd >> 8) as u8).count_ones() as i32 & 1;
-    // The largest key of each part, in the low lanes of each half.
+    let c = _mm_sub_epi16(_mm_and_si128(wide(raised), low), half);
+    let d = _mm_sub_epi16(_mm_and_si128(wide(bytes), low), half);
+    // Whether the sum of u is even: bit K of the coordinates, added up.
+    let top = _mm_and_si128(_mm_unpacklo_epi64(raised, bytes), _mm_set1_epi8(scale as i8));
+    let sums = _mm_sad_epu8(top, _mm_setzero_si128());
+    let sums = _mm_shufflehi_epi16::<0>(_mm_shufflelo_epi16::<0>(sums));
+    let even = _mm_cmpeq_epi16(_mm_and_si128(sums, _mm_set1_epi16(scale)), _mm_setzero_si128());
+    // The largest key of each part.
     let (key_c, key_d) = (keys(c), keys(d));
     let most = _mm_max_epi16(_mm_unpacklo_epi64(key_c, key_d), _mm_unpackhi_epi64(key_c, key_d));
     let most = _mm_max_epi16(most, _mm_shuffle_epi32::<0b10_11_00_01>(most));
-    let most = _mm_max_epi16(most, _mm_srli_epi32::<16>(most));
-    let most_c = _mm_extract_epi16::<0>(most);
-    let most_d = _mm_extract_epi16::<4>(most);
-    // The energies, before and after the change that an odd sum asks for.
+    let swapped = _mm_shufflehi_epi16::<0b10_11_00_01>(_mm_shufflelo_epi16::<0b10_11_00_01>(most));
+    let most = _mm_max_epi16(most, swapped);
+    // The energies, with the cost of the change that an odd sum asks for.
     let (e_c, e_d) = (_mm_madd_epi16(c, c), _mm_madd_epi16(d, d));
     let e = _mm_add_epi32(_mm_unpacklo_epi64(e_c, e_d), _mm_unpackhi_epi64(e_c, e_d));
     let e = _mm_add_epi32(e, _mm_shuffle_epi32::<0b10_11_00_01>(e));
-    let cost = |most: i32| (scale - 2 * ((most + 16) >> 5)) << K;
-    let e_c = _mm_cvtsi128_si32(e) + (cost(most_c) & -odd_c);
-    let e_d = _mm_cvtsi128_si32(_mm_unpackhi_epi64(e, e)) + (cost(most_d) & -odd_d);
+    let largest = _mm_srli_epi16::<5>(_mm_add_epi16(most, _mm_set1_epi16(16)));
+    let saved = _mm_mullo_epi16(largest, _mm_set1_epi16(2 * scale));
+    let cost = _mm_andnot_si128(even, _mm_sub_epi16(_mm_set1_epi32(scale as i32 * scale as i32), saved));
+    let e = _mm_add_epi32(e, _mm_and_si128(cost, _mm_set1_epi32(0xFFFF)));
     // No key is −1, so an even sum changes nothing.
-    let z_c = changed::<K>(c, key_c, most_c | (odd_c - 1));
-    let z_d = changed::<K>(d, key_d, most_d | (odd_d - 1));
+    let key = _mm_or_si128(most, even);
+    let z_c = changed::<K>(c, key_c, _mm_unpacklo_epi64(key, key));
+    let z_d = changed::<K>(d, key_d, _mm_unpackhi_epi64(key, key));
     // Less energy first, then the smaller first coordinate.
-    let rank = |e: i32, z| (e << 8) + _mm_extract_epi16::<0>(z) as i16 as i32;
-    let take_d = rank(e_d, z_d) < rank(e_c, z_c);
-    let mask = _mm_set1_epi32(-(take_d as i32));
-    let z = _mm_xor_si128(z_c, _mm_and_si128(mask, _mm_xor_si128(z_c, z_d)));
-    (z, if take_d { e_d } else { e_c } as u32)
+    let first = _mm_srai_epi32::<16>(_mm_slli_epi32::<16>(_mm_unpacklo_epi64(z_c, z_d)));
+    let rank = _mm_add_epi32(_mm_slli_epi32::<8>(e), first);
+    let take_d = _mm_cmpgt_epi32(rank, _mm_shuffle_epi32::<0b01_00_11_10>(rank));
+    let take_d = _mm_shuffle_epi32::<0>(take_d);
+    let z = _mm_or_si128(_mm_and_si128(take_d, z_d), _mm_andnot_si128(take_d, z_c));
+    (z, _mm_min_epi16(e, _mm_shuffle_epi32::<0b01_00_11_10>(e)))
 }
 
 /// The keys by which the coordinate to change is chosen: |32·c_i + 15 − 2i|.
@@ -468,12 +474,11 @@ fn keys(c: __m128i) -> __m128i {
 /// c with the coordinate of this key moved by M, towards and past 0.
 #[inline]
 #[target_feature(enable = "sse2")]
-fn changed<const K: usize>(c: __m128i, keys: __m128i, key: i32) -> __m128i {
+fn changed<const K: usize>(c: __m128i, keys: __m128i, key: __m128i) -> __m128i {
     let scale = 1i16 << K;
     let negative = _mm_srai_epi16::<15>(c);
     let step = _mm_sub_epi16(_mm_and_si128(negative, _mm_set1_epi16(2 * scale)), _mm_set1_epi16(scale));
-    let here = _mm_cmpeq_epi16(keys, _mm_set1_epi16(key as i16));
-    _mm_add_epi16(c, _mm_and_si128(step, here))
+    _mm_add_epi16(c, _mm_and_si128(step, _mm_cmpeq_epi16(keys, key)))
 }
 
 /// Calls the function of a kind and grade, or refuses them.

@@ -18,7 +18,7 @@ fn shaped(x: &[i64; 8], k: u32) -> ([i64; 8], u64) {
             _ => shape::<6>(bytes),
         };
         store_block(z, &mut block);
-        energy
+        _mm_cvtsi128_si32(energy)
     };
     (block.map(i64::from), energy as u64)
 }
