@@ -74,10 +74,10 @@ impl Bits<'_> {
 
 fn check_message(format: &Format, message: &[u8]) -> Result<(), u8> {
     let bits = format.message_bits();
-    match (bits..message.len() * 8).any(|k| bit(message, k)) {
-        true => Err(refusal::SPARE_BITS),
-        false => Ok(()),
+    if (bits..message.len() * 8).any(|k| bit(message, k)) {
+        return Err(refusal::SPARE_BITS);
     }
+    Ok(())
 }
 
 /// The coset leader of a message.
@@ -99,8 +99,7 @@ pub fn leader(format: &Format, message: &[u8]) -> Vec<i64> {
     leader
 }
 
-/// The message of sending with every choice of least energy: the frame, its energy, and the
-/// number of frames of least energy in the class.
+/// A sent frame, its energy, and the number of frames of least energy in its class.
 pub struct Sent {
     pub frame: Vec<i64>,
     pub energy: u64,
@@ -198,10 +197,10 @@ pub fn read_open_into(kind: u8, grade: u8, frame: &[i64], bytes: usize) -> Resul
 /// Reading strictly: the frame must be the sent frame of the message that the open reading gives.
 pub fn read_strict_into(kind: u8, grade: u8, frame: &[i64], bytes: usize) -> Result<(Vec<u8>, u64), u8> {
     let (message, energy) = read_open_into(kind, grade, frame, bytes)?;
-    match send(kind, grade, &message)?.frame == frame {
-        true => Ok((message, energy)),
-        false => Err(refusal::UNSHAPED),
+    if send(kind, grade, &message)?.frame != frame {
+        return Err(refusal::UNSHAPED);
     }
+    Ok((message, energy))
 }
 
 /// Reading openly, with message bytes of the right number lent.
@@ -309,7 +308,7 @@ mod tests {
             let block = 8 * random.below(format.length() as u64 / 8) as usize;
             let odd = random.below(2) as i64;
             let mut w: Block = std::array::from_fn(|_| 2 * (random.below(9) as i64 - 4) + odd);
-            w[7] += if twice(&w) { 0 } else { 2 };
+            w[7] += if class::twice_e8(&w) { 0 } else { 2 };
             for i in 0..8 {
                 moved[block + i] += half * w[i];
             }
@@ -318,9 +317,5 @@ mod tests {
                 assert_eq!(read_strict(kind, grade, &moved), Err(refusal::UNSHAPED));
             }
         }
-    }
-
-    fn twice(w: &Block) -> bool {
-        class::twice_e8(w)
     }
 }

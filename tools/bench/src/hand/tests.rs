@@ -235,3 +235,24 @@ fn accounts() {
     assert_eq!((frame, account), (before, full));
     assert_eq!(send_counted(4, 1, &[0; 5], &mut [0; 99], &mut account), Err(refusal::FRAME_LENGTH));
 }
+
+/// The vectors that the second coder wrote, by the format of its README.
+#[test]
+fn written_vectors() {
+    let path = concat!(env!("CARGO_MANIFEST_DIR"), "/../second-coder/out/vectors.bin");
+    let file = std::fs::read(path).expect("the second coder's vectors are there");
+    let (mut rest, mut count) = (&file[..], 0);
+    while let [kind, grade, bytes, after @ ..] = rest {
+        let (message, after) = after.split_at(*bytes as usize);
+        let (coordinates, after) = after[1..].split_at(4 * after[0] as usize);
+        let (energy, after) = after.split_at(8);
+        let expected: Vec<i32> =
+            coordinates.chunks_exact(4).map(|x| i32::from_le_bytes(x.try_into().unwrap())).collect();
+        let energy = Ok(u64::from_le_bytes(energy.try_into().unwrap()));
+        let (mut sent, mut back) = (vec![77; expected.len()], vec![0xA5; message.len()]);
+        assert_eq!((send(*kind, *grade, message, &mut sent), &sent), (energy, &expected));
+        assert_eq!((read_strict(*kind, *grade, &sent, &mut back), &back[..]), (energy, message));
+        (rest, count) = (after, count + 1);
+    }
+    assert!(rest.is_empty() && count >= 2400);
+}
