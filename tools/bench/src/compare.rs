@@ -1,0 +1,169 @@
+//! Compares every answer of the library with the hand-tuned coder's.
+
+use crate::{dense, lengths};
+use bench::hand;
+use bench::random::Random;
+use link_rs::Refusal;
+
+/// The comparisons made, by answer (0 for success), and those that differ.
+struct Tally {
+    answers: [u64; 13],
+    different: u64,
+}
+
+impl Tally {
+    /// Counts one comparison; tells of the first few differences.
+    fn count<T: PartialEq + std::fmt::Debug>(
+        &mut self,
+        what: &str,
+        input: &dyn std::fmt::Debug,
+        library: (Result<u64, Refusal>, T),
+        by_hand: (Result<u64, u8>, T),
+    ) {
+        let library = (library.0.map_err(Refusal::number), library.1);
+        self.answers[by_hand.0.err().unwrap_or(0) as usize] += 1;
+        if library != by_hand {
+            self.different += 1;
+            if self.different <= 10 {
+                println!("{what} {input:?}\n  library {library:?}\n  by hand {by_hand:?}");
+            }
+        }
+    }
+}
+
+/// A message that has several frames of least energy, often: read from a frame on a coarse grid.
+fn edge(kind: u8, grade: u8, random: &mut Random) -> Vec<u8> {
+    let (length, bytes) = lengths(kind, grade);
+    let levels = if kind == 3 { 1 } else { 2 };
+    let step = 1 << (levels + (grade as i32 - 1 - random.below(2) as i32).max(0));
+    let level = random.below(1 << levels) as i32;
+    let frame: Vec<i32> = (0..length).map(|_| level + step * (random.below(16) as i32 - 8)).collect();
+    let mut message = vec![0; bytes];
+    hand::read_open(kind, grade, &frame, &mut message).expect("the frame is of the coding set");
+    message
+}
+
+fn message(kind: u8, grade: u8, random: &mut Random) -> Vec<u8> {
+    match random.below(8) {
+        0..=3 => dense(kind, grade, random),
+        4..=5 => edge(kind, grade, random),
+        _ => {
+            let mut message = vec![0; lengths(kind, grade).1];
+            let bits = message.len() * 8;
+            // One bit or two, spare ones too.
+            for _ in 0..1 + random.below(2) {
+                let k = random.below(bits as u64) as usize;
+                message[k / 8] |= 1 << (k % 8);
+            }
+            message
+        }
+    }
+}
+
+/// A frame, damaged: a lattice point added, a coordinate moved by a little, by the scale, or to
+/// the ends of the range and past them.
+fn damaged(frame: &[i32], scale: i32, random: &mut Random) -> Vec<i32> {
+    let mut frame = frame.to_vec();
+    let place = random.below(frame.len() as u64) as usize;
+    match random.below(8) {
+        0 => frame[place] += 1 + random.below(4) as i32,
+        1 => frame[place] = random.below(2_097_155) as i32 - 1_048_577,
+        2 => frame[place] = [-1, 1][random.below(2) as usize] * (1_048_574 + random.below(4) as i32),
+        3 => frame[place] = [i32::MIN, i32::MAX][random.below(2) as usize],
+        4 => frame[place] += scale * (random.below(5) as i32 - 2),
+        _ => {
+            let odd = random.below(2) as i32;
+            let far = 1 << random.below(10);
+            let mut w: [i32; 8] = std::array::from_fn(|_| 2 * (random.below(2 * far) as i32 - far as i32) + odd);
+            w[0] += w.iter().sum::<i32>().rem_euclid(4);
+            for (x, w) in frame[place / 8 * 8..][..8].iter_mut().zip(w) {
+                *x += scale / 2 * w;
+            }
+        }
+    }
+    frame
+}
+
+fn sendings(kind: u8, grade: u8, message: &[u8], length: usize, random: &mut Random, tally: &mut Tally) {
+    let input = (kind, grade, message);
+    let (mut one, mut other) = (vec![77; length], vec![77; length]);
+    let answers = (link_rs::send(kind, grade, message, &mut one), hand::send(kind, grade, message, &mut other));
+    tally.count("send", &input, (answers.0, one), (answers.1, other));
+    let count = [0, 5, 999_998, 999_999, 1_000_000, 1_000_001, u32::MAX][random.below(7) as usize];
+    // A sum as it grows, or one from elsewhere.
+    let sum = match random.below(4) {
+        0 => f64::from_bits(random.next() & !(1 << 62)),
+        _ => random.below(1 << 40) as f64 / 32.0,
+    };
+    let mut account = link_rs::Account { count, sum };
+    let mut own = hand::Account { count, sum };
+    let (mut one, mut other) = (vec![77; length], vec![77; length]);
+    let answers = (
+        link_rs::send_counted(kind, grade, message, &mut one, &mut account),
+        hand::send_counted(kind, grade, message, &mut other, &mut own),
+    );
+    let library = (one, account.count, account.sum.to_bits());
+    tally.count(
+        "send_counted",
+        &(input, count, sum),
+        (answers.0, library),
+        (answers.1, (other, own.count, own.sum.to_bits())),
+    );
+}
+
+fn readings(kind: u8, grade: u8, frame: &[i32], bytes: usize, tally: &mut Tally) {
+    let input = (kind, grade, frame, bytes);
+    let (mut one, mut other) = (vec![0xA5; bytes], vec![0xA5; bytes]);
+    let answers = (link_rs::read_open(kind, grade, frame, &mut one), hand::read_open(kind, grade, frame, &mut other));
+    tally.count("read_open", &input, (answers.0, one), (answers.1, other));
+    let (mut one, mut other) = (vec![0xA5; bytes], vec![0xA5; bytes]);
+    let answers =
+        (link_rs::read_strict(kind, grade, frame, &mut one), hand::read_strict(kind, grade, frame, &mut other));
+    tally.count("read_strict", &input, (answers.0, one), (answers.1, other));
+}
+
+/// Wrong kinds, grades and lengths, with something in every buffer.
+fn misfits(random: &mut Random, tally: &mut Tally) {
+    let (kind, grade) = match random.below(3) {
+        0 => (random.below(256) as u8, random.below(256) as u8),
+        _ => (2 + random.below(5) as u8, random.below(6) as u8),
+    };
+    let (length, bytes) = lengths(kind.clamp(3, 5), grade.clamp(1, 4));
+    let length = if random.below(2) == 0 { length } else { random.below(40) as usize };
+    let bytes = if random.below(2) == 0 { bytes } else { random.below(24) as usize };
+    let mut message = vec![0; bytes];
+    random.fill(&mut message);
+    sendings(kind, grade, &message, length, random, tally);
+    let frame: Vec<i32> = (0..length).map(|_| random.below(9) as i32 - 4).collect();
+    readings(kind, grade, &frame, bytes, tally);
+}
+
+/// Compares on so many frames; gives the number of differences.
+pub fn run(frames: u64, seed: u64) -> u64 {
+    let mut random = Random(seed);
+    let random = &mut random;
+    let mut tally = Tally { answers: [0; 13], different: 0 };
+    for _ in 0..frames {
+        let (kind, grade) = (3 + random.below(3) as u8, 1 + random.below(4) as u8);
+        let (length, bytes) = lengths(kind, grade);
+        let scale = 1 << (if kind == 3 { 1 } else { 2 } + grade);
+        let message = message(kind, grade, random);
+        sendings(kind, grade, &message, length, random, &mut tally);
+        let mut frame = vec![0; length];
+        if hand::send(kind, grade, &message, &mut frame).is_ok() {
+            readings(kind, grade, &frame, bytes, &mut tally);
+            readings(kind, grade, &damaged(&frame, scale, random), bytes, &mut tally);
+        }
+        if random.below(8) == 0 {
+            misfits(random, &mut tally);
+        }
+    }
+    for (number, count) in tally.answers.iter().enumerate().filter(|(_, &count)| count > 0) {
+        match number {
+            0 => println!("success: {count}"),
+            _ => println!("refused {number} ({:?}): {count}", Refusal::ALL[number - 1]),
+        }
+    }
+    println!("{frames} frames, {} comparisons, {} different", tally.answers.iter().sum::<u64>(), tally.different);
+    tally.different
+}

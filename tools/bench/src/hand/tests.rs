@@ -1,0 +1,258 @@
+//! The hand-tuned coder against the second coder's search.
+
+use super::*;
+use crate::random::Random;
+use second_coder::{class, frame, random, vectors};
+
+/// The sent block of x, by the hand-tuned coder.
+fn shaped(x: &[i64; 8], k: u32) -> ([i64; 8], u64) {
+    let bytes = x.iter().enumerate().fold(0, |sum, (i, &x)| sum | (x as u64) << (8 * i));
+    let mut block = [0; 8];
+    // SAFETY: every x86-64 processor has SSE2.
+    let energy = unsafe {
+        let (z, energy) = match k {
+            2 => shape::<2>(bytes),
+            3 => shape::<3>(bytes),
+            4 => shape::<4>(bytes),
+            5 => shape::<5>(bytes),
+            _ => shape::<6>(bytes),
+        };
+        store_block(z, &mut block);
+        _mm_cvtsi128_si32(energy)
+    };
+    (block.map(i64::from), energy as u64)
+}
+
+/// Compares one block; gives whether its class has several members of least energy.
+fn check(x: &[i64; 8], k: u32) -> bool {
+    let all = class::least_members(x, 1 << k);
+    assert_eq!(shaped(x, k), (all[0], class::energy(&all[0])), "scale 2^{k}, block {x:?}");
+    all.len() > 1
+}
+
+/// Each class once: by the first coordinate below H, the second to seventh below M, the eighth
+/// below 2M (the rows of matrix (39)).
+fn member(mut number: u64, k: u32) -> [i64; 8] {
+    std::array::from_fn(|i| {
+        let bits = [k - 1, k, k, k, k, k, k, k + 1][i];
+        let x = number & ((1 << bits) - 1);
+        number >>= bits;
+        x as i64
+    })
+}
+
+#[test]
+fn every_class_at_scale_4() {
+    let tied = (0..1 << 16).filter(|&number| check(&member(number, 2), 2)).count();
+    println!("scale 4: 65536 classes, {tied} with ties");
+}
+
+#[test]
+fn every_block_of_residues_at_scale_4() {
+    for number in 0..1u64 << 24 {
+        let x: [i64; 8] = std::array::from_fn(|i| (number >> (3 * i) & 7) as i64);
+        let class = member_of(&x, 2);
+        assert_eq!(shaped(&x, 2), shaped(&class, 2));
+    }
+}
+
+/// The member of x's class that `member` counts.
+fn member_of(x: &[i64; 8], k: u32) -> [i64; 8] {
+    let (half, scale) = (1 << (k - 1), 1 << k);
+    let mut s = x.map(|y| y - x[0].div_euclid(half) * half);
+    for i in 1..7 {
+        s[7] -= s[i].div_euclid(scale) * scale;
+        s[i] = s[i].rem_euclid(scale);
+    }
+    s[7] = s[7].rem_euclid(2 * scale);
+    assert!(class::same_class(x, &s, scale));
+    s
+}
+
+/// Under a minute; run with `--ignored`.
+#[test]
+#[ignore]
+fn every_class_at_scale_8() {
+    let tied = (0..1 << 24).filter(|&number| check(&member(number, 3), 3)).count();
+    println!("scale 8: 16777216 classes, {tied} with ties");
+}
+
+/// Blocks of random coordinates, and of coordinates at and beside multiples of a quarter of M.
+fn random_blocks(k: u32, count: usize, seed: u64) {
+    let mut random = Random(seed);
+    let mut tied = 0;
+    for _ in 0..count {
+        let grid = random.below(4);
+        let x: [i64; 8] = std::array::from_fn(|_| {
+            let step = match grid {
+                0 => 1,
+                1 => (1 << k) / 4,
+                2 => (1 << k) / 2,
+                _ => [1, (1 << k) / 4, (1 << k) / 2][random.below(3) as usize],
+            };
+            let beside = if grid == 1 && random.below(8) == 0 { 1 } else { 0 };
+            (random.below((2 << k) / step) * step + beside) as i64 & ((2 << k) - 1)
+        });
+        tied += check(&x, k) as usize;
+    }
+    println!("scale {}: {count} blocks, {tied} with ties", 1 << k);
+}
+
+#[test]
+fn random_and_tied_blocks() {
+    for k in 2..=6 {
+        random_blocks(k, 100_000, k as u64);
+    }
+}
+
+/// Under a few minutes; run with `--ignored`.
+#[test]
+#[ignore]
+fn millions_of_random_and_tied_blocks() {
+    for k in 2..=6 {
+        random_blocks(k, 2_000_000, 100 + k as u64);
+    }
+}
+
+fn wide(frame: &[i32]) -> Vec<i64> {
+    frame.iter().map(|&x| x as i64).collect()
+}
+
+type Reading = fn(u8, u8, &[i32], &mut [u8]) -> Result<u64, u8>;
+type SecondReading = fn(u8, u8, &[i64], usize) -> Result<(Vec<u8>, u64), u8>;
+
+/// Compares both readings of a frame, with a message of so many bytes lent.
+fn check_readings(kind: u8, grade: u8, frame: &[i32], bytes: usize) {
+    let readings: [(Reading, SecondReading); 2] =
+        [(read_open, frame::read_open_into), (read_strict, frame::read_strict_into)];
+    for (hand, second) in readings {
+        let mut message = vec![0xA5; bytes];
+        let answer = hand(kind, grade, frame, &mut message);
+        match second(kind, grade, &wide(frame), bytes) {
+            Ok((expected, energy)) => assert_eq!((answer, message), (Ok(energy), expected), "{frame:?}"),
+            Err(number) => assert_eq!((answer, message), (Err(number), vec![0xA5; bytes]), "{frame:?}"),
+        }
+    }
+}
+
+/// A frame, damaged: a lattice point added, a level's codeword kept or broken, a coordinate moved
+/// a little or to the ends of the range.
+fn damaged(frame: &[i32], scale: i32, random: &mut Random) -> Vec<i32> {
+    let mut frame = frame.to_vec();
+    let place = random.below(frame.len() as u64) as usize;
+    match random.below(6) {
+        0 => frame[place] += [1, -1, 2, -2, 4, -4][random.below(6) as usize],
+        1 => frame[place] = random.below(2_097_155) as i32 - 1_048_577,
+        2 => frame[place] = [-1, 1][random.below(2) as usize] * (1_048_574 + random.below(4) as i32),
+        3 => frame[place] = [i32::MIN, i32::MAX, 0][random.below(3) as usize],
+        4 => frame[place] += scale * [1, -1, 2, -2, 4][random.below(5) as usize],
+        _ => {
+            let block = &mut frame[place / 8 * 8..][..8];
+            let odd = random.below(2) as i32;
+            let far = 1 << random.below(12);
+            let mut w: [i32; 8] = std::array::from_fn(|_| 2 * (random.below(2 * far) as i32 - far as i32) + odd);
+            w[0] += if w.iter().sum::<i32>().rem_euclid(4) == 0 { 0 } else { 2 };
+            for (x, w) in block.iter_mut().zip(w) {
+                *x += scale / 2 * w;
+            }
+        }
+    }
+    frame
+}
+
+fn check_messages(rounds: usize, seed: u64) {
+    let mut own = Random(seed);
+    let mut random = random::Random::new(seed);
+    for round in 0..rounds {
+        let (kind, grade) = (3 + (round % 3) as u8, 1 + (round / 3 % 4) as u8);
+        let format = frame::Format::new(kind, grade).unwrap();
+        let message = match own.below(3) {
+            0 => vectors::dense(&format, &mut random),
+            1 => vectors::edge(&format, &mut random),
+            _ => vectors::with_bits(&format, &[own.below(format.message_bits() as u64) as usize]),
+        };
+        let mut sent = vec![77; format.length()];
+        let expected = frame::send(kind, grade, &message).unwrap();
+        assert_eq!(send(kind, grade, &message, &mut sent), Ok(expected.energy));
+        assert_eq!(wide(&sent), expected.frame);
+        check_readings(kind, grade, &sent, message.len());
+        for _ in 0..4 {
+            sent = damaged(&sent, format.scale() as i32, &mut own);
+            check_readings(kind, grade, &sent, message.len());
+            if sent.iter().any(|x| x.unsigned_abs() > 1_048_576) {
+                break;
+            }
+        }
+    }
+}
+
+#[test]
+fn messages() {
+    check_messages(24_000, 1);
+}
+
+/// A few minutes; run with `--ignored`.
+#[test]
+#[ignore]
+fn a_million_messages() {
+    check_messages(1_000_000, 2);
+}
+
+#[test]
+fn lengths_and_spare_bits() {
+    let mut random = Random(5);
+    for kind in 0..=8 {
+        for grade in 0..=6 {
+            for bytes in 0..=22 {
+                for length in [0, 7, 8, 9, 15, 16, 17, 31, 32, 33] {
+                    let mut message = vec![0; bytes];
+                    random.fill(&mut message);
+                    let mut sent = vec![77; length];
+                    let answer = send(kind, grade, &message, &mut sent);
+                    match frame::send_into(kind, grade, &message, length) {
+                        Ok(expected) => assert_eq!((answer, wide(&sent)), (Ok(expected.energy), expected.frame)),
+                        Err(number) => assert_eq!((answer, sent), (Err(number), vec![77; length])),
+                    }
+                    let frame: Vec<i32> = (0..length).map(|_| random.below(2) as i32 * 2 - 2).collect();
+                    check_readings(kind, grade, &frame, bytes);
+                }
+            }
+        }
+    }
+}
+
+#[test]
+fn accounts() {
+    let mut account = Account { count: 0, sum: 0.0 };
+    let mut frame = [0; 16];
+    assert_eq!(send_counted(4, 1, &[0x20, 0, 0, 0, 0], &mut frame, &mut account), Ok(64));
+    assert_eq!(account, Account { count: 1, sum: 4.0 });
+    let full = Account { count: FULL, sum: 1.5 };
+    account = full;
+    let before = frame;
+    assert_eq!(send_counted(4, 1, &[0, 0, 0, 0, 0x10], &mut frame, &mut account), Err(refusal::SPARE_BITS));
+    assert_eq!(send_counted(4, 1, &[0; 5], &mut frame, &mut account), Err(refusal::ACCOUNT_FULL));
+    assert_eq!((frame, account), (before, full));
+    assert_eq!(send_counted(4, 1, &[0; 5], &mut [0; 99], &mut account), Err(refusal::FRAME_LENGTH));
+}
+
+/// The vectors that the second coder wrote, by the format of its README.
+#[test]
+fn written_vectors() {
+    let path = concat!(env!("CARGO_MANIFEST_DIR"), "/../second-coder/out/vectors.bin");
+    let file = std::fs::read(path).expect("the second coder's vectors are there");
+    let (mut rest, mut count) = (&file[..], 0);
+    while let [kind, grade, bytes, after @ ..] = rest {
+        let (message, after) = after.split_at(*bytes as usize);
+        let (coordinates, after) = after[1..].split_at(4 * after[0] as usize);
+        let (energy, after) = after.split_at(8);
+        let expected: Vec<i32> =
+            coordinates.chunks_exact(4).map(|x| i32::from_le_bytes(x.try_into().unwrap())).collect();
+        let energy = Ok(u64::from_le_bytes(energy.try_into().unwrap()));
+        let (mut sent, mut back) = (vec![77; expected.len()], vec![0xA5; message.len()]);
+        assert_eq!((send(*kind, *grade, message, &mut sent), &sent), (energy, &expected));
+        assert_eq!((read_strict(*kind, *grade, &sent, &mut back), &back[..]), (energy, message));
+        (rest, count) = (after, count + 1);
+    }
+    assert!(rest.is_empty() && count >= 2400);
+}

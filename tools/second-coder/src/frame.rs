@@ -1,0 +1,321 @@
+//! Kinds and grades, sending, the two readings.
+
+use crate::class::{self, Block};
+use crate::{code, refusal};
+
+/// What a kind and a grade fix.
+#[derive(Clone, Copy, Debug)]
+pub struct Format {
+    /// The length n is 2 to the m.
+    pub m: u32,
+    /// The degree r of each level's code.
+    pub levels: &'static [u32],
+    pub grade: usize,
+}
+
+impl Format {
+    pub fn new(kind: u8, grade: u8) -> Result<Format, u8> {
+        let levels: &[u32] = match kind {
+            3 => &[1],
+            4 | 5 => &[1, 3],
+            _ => return Err(refusal::KIND),
+        };
+        if !(1..=4).contains(&grade) {
+            return Err(refusal::GRADE);
+        }
+        Ok(Format { m: kind as u32, levels, grade: grade as usize })
+    }
+
+    pub fn length(&self) -> usize {
+        1 << self.m
+    }
+
+    pub fn scale(&self) -> i64 {
+        1 << (self.levels.len() + self.grade)
+    }
+
+    pub fn message_bits(&self) -> usize {
+        let dimensions = self.levels.iter().map(|&r| code::masks(r, self.m).len());
+        dimensions.sum::<usize>() + self.length() * self.grade
+    }
+
+    pub fn message_bytes(&self) -> usize {
+        self.message_bits().div_ceil(8)
+    }
+
+    /// The bits of s1 to s8.
+    fn widths(&self) -> [usize; 8] {
+        let b = self.grade;
+        [b - 1, b, b, b, b, b, b, b + 1]
+    }
+}
+
+fn bit(message: &[u8], k: usize) -> bool {
+    message[k / 8] >> (k % 8) & 1 == 1
+}
+
+/// Takes the next bits of a message, lowest first.
+struct Bits<'a> {
+    message: &'a [u8],
+    next: usize,
+}
+
+impl Bits<'_> {
+    fn take(&mut self, count: usize) -> Vec<bool> {
+        let bits = (self.next..self.next + count).map(|k| bit(self.message, k)).collect();
+        self.next += count;
+        bits
+    }
+
+    fn number(&mut self, count: usize) -> i64 {
+        self.take(count).iter().enumerate().map(|(i, &bit)| (bit as i64) << i).sum()
+    }
+}
+
+fn check_message(format: &Format, message: &[u8]) -> Result<(), u8> {
+    let bits = format.message_bits();
+    if (bits..message.len() * 8).any(|k| bit(message, k)) {
+        return Err(refusal::SPARE_BITS);
+    }
+    Ok(())
+}
+
+/// The coset leader of a message.
+pub fn leader(format: &Format, message: &[u8]) -> Vec<i64> {
+    let mut bits = Bits { message, next: 0 };
+    let mut leader = vec![0; format.length()];
+    for (level, &r) in format.levels.iter().enumerate() {
+        let word = code::codeword(&bits.take(code::masks(r, format.m).len()), r, format.m);
+        for (x, &value) in leader.iter_mut().zip(&word) {
+            *x += (value as i64) << level;
+        }
+    }
+    for block in leader.chunks_exact_mut(8) {
+        for (x, width) in block.iter_mut().zip(format.widths()) {
+            *x += bits.number(width) << format.levels.len();
+        }
+    }
+    assert_eq!(bits.next, format.message_bits());
+    leader
+}
+
+/// A sent frame, its energy, and the number of frames of least energy in its class.
+pub struct Sent {
+    pub frame: Vec<i64>,
+    pub energy: u64,
+    pub least: u64,
+}
+
+/// The first in reading order of the least members of the frame's class.
+pub fn shaped(format: &Format, leader: &[i64]) -> Sent {
+    let mut sent = Sent { frame: Vec::new(), energy: 0, least: 1 };
+    for block in leader.chunks_exact(8) {
+        let block: Block = block.try_into().unwrap();
+        let all = class::least_members(&block, format.scale());
+        sent.energy += class::energy(&all[0]);
+        sent.least *= all.len() as u64;
+        sent.frame.extend(all[0]);
+    }
+    sent
+}
+
+/// Sending, with the number of coordinates that the caller lends for the frame.
+pub fn send_into(kind: u8, grade: u8, message: &[u8], coordinates: usize) -> Result<Sent, u8> {
+    let format = Format::new(kind, grade)?;
+    if message.len() != format.message_bytes() {
+        return Err(refusal::MESSAGE_LENGTH);
+    }
+    if coordinates != format.length() {
+        return Err(refusal::FRAME_LENGTH);
+    }
+    check_message(&format, message)?;
+    Ok(shaped(&format, &leader(&format, message)))
+}
+
+/// Sending, with a frame of the right length lent.
+pub fn send(kind: u8, grade: u8, message: &[u8]) -> Result<Sent, u8> {
+    let coordinates = Format::new(kind, grade).map_or(0, |format| format.length());
+    send_into(kind, grade, message, coordinates)
+}
+
+/// s1 to s8 of a block v: in their ranges, and v − s a point of 2^b times E8. For each of the two
+/// parities of twice the point the remainders give s up to the top bit of s8, which is tried.
+fn block_numbers(v: &Block, grade: usize) -> Block {
+    let scale = 1i64 << grade;
+    let half = scale / 2;
+    let mut found = Vec::new();
+    for parity in 0..2 {
+        let low: Block = v.map(|x| (x - parity * half).rem_euclid(scale));
+        for top in 0..2 {
+            let mut s = low;
+            s[7] += top * scale;
+            if s[0] < half && class::same_class(v, &s, scale) {
+                found.push(s);
+            }
+        }
+    }
+    assert_eq!(found.len(), 1, "one message for each class");
+    found[0]
+}
+
+/// Reading openly, with the number of message bytes that the caller lends: the message and the energy.
+pub fn read_open_into(kind: u8, grade: u8, frame: &[i64], bytes: usize) -> Result<(Vec<u8>, u64), u8> {
+    let format = Format::new(kind, grade)?;
+    if frame.len() != format.length() {
+        return Err(refusal::FRAME_LENGTH);
+    }
+    if bytes != format.message_bytes() {
+        return Err(refusal::MESSAGE_LENGTH);
+    }
+    if frame.iter().any(|x| !(-1_048_576..=1_048_576).contains(x)) {
+        return Err(refusal::OVER_RANGE);
+    }
+    let mut bits = Vec::new();
+    let mut rest = frame.to_vec();
+    for (level, &r) in format.levels.iter().enumerate() {
+        let word: Vec<bool> = rest.iter().map(|x| x.rem_euclid(2) == 1).collect();
+        let broken = [refusal::BROKEN_LEVEL_0, refusal::BROKEN_LEVEL_1][level];
+        bits.extend(code::message_bits(&word, r, format.m).ok_or(broken)?);
+        for (x, &value) in rest.iter_mut().zip(&word) {
+            *x = (*x - value as i64) / 2;
+        }
+    }
+    for block in rest.chunks_exact(8) {
+        let s = block_numbers(&block.try_into().unwrap(), format.grade);
+        for (x, width) in s.iter().zip(format.widths()) {
+            assert!(*x >> width == 0);
+            bits.extend((0..width).map(|i| x >> i & 1 == 1));
+        }
+    }
+    let mut message = vec![0; bytes];
+    for (k, &bit) in bits.iter().enumerate() {
+        message[k / 8] |= (bit as u8) << (k % 8);
+    }
+    Ok((message, class::energy(frame)))
+}
+
+/// Reading strictly: the frame must be the sent frame of the message that the open reading gives.
+pub fn read_strict_into(kind: u8, grade: u8, frame: &[i64], bytes: usize) -> Result<(Vec<u8>, u64), u8> {
+    let (message, energy) = read_open_into(kind, grade, frame, bytes)?;
+    if send(kind, grade, &message)?.frame != frame {
+        return Err(refusal::UNSHAPED);
+    }
+    Ok((message, energy))
+}
+
+/// Reading openly, with message bytes of the right number lent.
+pub fn read_open(kind: u8, grade: u8, frame: &[i64]) -> Result<(Vec<u8>, u64), u8> {
+    read_open_into(kind, grade, frame, Format::new(kind, grade).map_or(0, |format| format.message_bytes()))
+}
+
+/// Reading strictly, with message bytes of the right number lent.
+pub fn read_strict(kind: u8, grade: u8, frame: &[i64]) -> Result<(Vec<u8>, u64), u8> {
+    read_strict_into(kind, grade, frame, Format::new(kind, grade).map_or(0, |format| format.message_bytes()))
+}
+
+#[cfg(test)]
+mod tests {
+    use super::*;
+    use crate::random::Random;
+
+    fn sent(kind: u8, grade: u8, message: &[u8]) -> (Vec<i64>, u64) {
+        let sent = send(kind, grade, message).unwrap();
+        (sent.frame, sent.energy)
+    }
+
+    #[test]
+    fn table_of_kinds() {
+        for b in 1..=4 {
+            let format = |kind| Format::new(kind, b as u8).unwrap();
+            assert_eq!((format(3).message_bits(), format(3).message_bytes()), (4 + 8 * b, b + 1));
+            assert_eq!((format(4).message_bits(), format(4).message_bytes()), (20 + 16 * b, 2 * b + 3));
+            assert_eq!((format(5).message_bits(), format(5).message_bytes()), (32 + 32 * b, 4 * b + 4));
+        }
+    }
+
+    #[test]
+    fn exam_frames() {
+        assert_eq!(sent(3, 1, &[0x00, 0x00]), (vec![0; 8], 0));
+        assert_eq!(sent(3, 1, &[0x01, 0x00]), (vec![-1; 8], 8));
+        assert_eq!(sent(3, 1, &[0x02, 0x00]), (vec![0, 1, 0, 1, 0, 1, 0, 1], 4));
+        assert_eq!(sent(3, 1, &[0x10, 0x00]), (vec![0, 2, 0, 0, 0, 0, 0, 0], 4));
+        assert_eq!(sent(3, 1, &[0x00, 0x04]), (vec![0, 0, 0, 0, 0, 0, 0, 2], 4));
+        assert_eq!(sent(3, 1, &[0x10, 0x04]), (vec![0, -2, 0, 0, 0, 0, 0, -2], 8));
+        assert_eq!(sent(3, 1, &[0x00, 0x08]), (vec![-4, 0, 0, 0, 0, 0, 0, 0], 16));
+        assert_eq!(sent(3, 1, &[0xF0, 0x07]), (vec![-2, 0, 0, 0, 0, 0, 0, 0], 4));
+        assert_eq!(sent(4, 1, &[0x01, 0, 0, 0, 0]), (vec![1; 16], 16));
+        assert_eq!(sent(4, 1, &[0x20, 0, 0, 0, 0]), (vec![-2; 16], 64));
+    }
+
+    #[test]
+    fn further_cases() {
+        assert_eq!(read_open(4, 1, &[2; 16]), Ok((vec![0x20, 0, 0, 0, 0], 64)));
+        assert_eq!(read_strict(4, 1, &[2; 16]), Err(refusal::UNSHAPED));
+        for grade in 1..=4 {
+            assert_eq!(read_open(3, grade, &[1, 0, 0, 0, 0, 0, 0, 0]), Err(refusal::BROKEN_LEVEL_0));
+        }
+        assert_eq!(send(3, 1, &[0x00, 0x10]).err(), Some(refusal::SPARE_BITS));
+        for end in [-1i64, 1] {
+            let mut frame = [0; 8];
+            frame[3] = 1_048_576 * end;
+            assert_eq!(read_open(3, 1, &frame), Ok((vec![0, 0], 1 << 40)));
+            frame[3] += end;
+            assert_eq!(read_open(3, 1, &frame), Err(refusal::OVER_RANGE));
+            assert_eq!(read_strict(3, 1, &frame), Err(refusal::OVER_RANGE));
+        }
+    }
+
+    #[test]
+    fn order_of_refusals() {
+        assert_eq!(send_into(2, 0, &[0; 9], 9).err(), Some(refusal::KIND));
+        assert_eq!(send_into(3, 0, &[0; 9], 9).err(), Some(refusal::GRADE));
+        assert_eq!(send_into(3, 1, &[255; 9], 9).err(), Some(refusal::MESSAGE_LENGTH));
+        assert_eq!(send_into(3, 1, &[255; 2], 9).err(), Some(refusal::FRAME_LENGTH));
+        assert_eq!(send_into(3, 1, &[255; 2], 8).err(), Some(refusal::SPARE_BITS));
+        let far = 1_048_577;
+        assert_eq!(read_open_into(6, 9, &[far; 9], 9), Err(refusal::KIND));
+        assert_eq!(read_open_into(4, 5, &[far; 9], 9), Err(refusal::GRADE));
+        assert_eq!(read_open_into(4, 1, &[far; 9], 9), Err(refusal::FRAME_LENGTH));
+        assert_eq!(read_open_into(4, 1, &[far; 16], 9), Err(refusal::MESSAGE_LENGTH));
+        assert_eq!(read_open_into(4, 1, &[far; 16], 5), Err(refusal::OVER_RANGE));
+        let mut frame = [0; 16];
+        frame[0] = 3;
+        assert_eq!(read_open_into(4, 1, &frame, 5), Err(refusal::BROKEN_LEVEL_0));
+        frame[0] = 2;
+        assert_eq!(read_open_into(4, 1, &frame, 5), Err(refusal::BROKEN_LEVEL_1));
+    }
+
+    #[test]
+    fn every_message_of_kind_3_grade_1_comes_back() {
+        for number in 0..1u32 << 12 {
+            let message = [number as u8, (number >> 8) as u8];
+            let sent = send(3, 1, &message).unwrap();
+            assert_eq!(read_strict(3, 1, &sent.frame), Ok((message.to_vec(), sent.energy)));
+        }
+    }
+
+    #[test]
+    fn messages_come_back_and_lattice_points_do_not_change_them() {
+        let mut random = Random::new(1);
+        for round in 0..1200 {
+            let (kind, grade) = (3 + (round % 3) as u8, 1 + (round / 3 % 4) as u8);
+            let format = Format::new(kind, grade).unwrap();
+            let message = crate::vectors::dense(&format, &mut random);
+            let sent = send(kind, grade, &message).unwrap();
+            assert!(sent.frame.iter().all(|x| (-format.scale()..format.scale()).contains(x)));
+            assert_eq!(read_strict(kind, grade, &sent.frame), Ok((message.clone(), sent.energy)));
+            let (mut moved, half) = (sent.frame.clone(), format.scale() / 2);
+            let block = 8 * random.below(format.length() as u64 / 8) as usize;
+            let odd = random.below(2) as i64;
+            let mut w: Block = std::array::from_fn(|_| 2 * (random.below(9) as i64 - 4) + odd);
+            w[7] += if class::twice_e8(&w) { 0 } else { 2 };
+            for i in 0..8 {
+                moved[block + i] += half * w[i];
+            }
+            assert_eq!(read_open(kind, grade, &moved).unwrap().0, message);
+            if moved != sent.frame {
+                assert_eq!(read_strict(kind, grade, &moved), Err(refusal::UNSHAPED));
+            }
+        }
+    }
+}

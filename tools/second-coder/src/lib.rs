@@ -1,0 +1,27 @@
+//! A second coder of document 01, written apart from the library, to check it against.
+//!
+//! It is slow and plain on purpose: codewords come from the definition by masks, and the sent
+//! frame from a search of the leader's class that keeps every member of least energy.
+
+pub mod class;
+pub mod code;
+pub mod frame;
+pub mod random;
+pub mod sheet;
+pub mod vectors;
+
+/// The numbers of document 01 by which input is refused.
+pub mod refusal {
+    pub const KIND: u8 = 1;
+    pub const GRADE: u8 = 2;
+    pub const MESSAGE_LENGTH: u8 = 3;
+    pub const FRAME_LENGTH: u8 = 4;
+    pub const SPARE_BITS: u8 = 5;
+    pub const OVER_RANGE: u8 = 6;
+    pub const BROKEN_LEVEL_0: u8 = 7;
+    pub const BROKEN_LEVEL_1: u8 = 8;
+    pub const UNSHAPED: u8 = 9;
+    pub const MARK: u8 = 10;
+    pub const ACCOUNT_FULL: u8 = 11;
+    pub const LONG_SHEET: u8 = 12;
+}

@@ -1,0 +1,92 @@
+//! The second coder's modes: `vectors`, `listing`, `compare PROGRAM COUNT SEED`.
+
+use std::io::{Read, Write};
+use std::path::Path;
+use std::process::{Command, ExitCode, Stdio};
+
+use second_coder::{random::Random, sheet, vectors};
+
+/// Writes the vectors and the sheets to out/, and prints how many have ties.
+fn write_vectors() -> std::io::Result<()> {
+    let out = Path::new(env!("CARGO_MANIFEST_DIR")).join("out");
+    std::fs::create_dir_all(&out)?;
+    let (file, counts) = vectors::vectors();
+    std::fs::write(out.join("vectors.bin"), &file)?;
+    println!("| kind | grade | vectors | with ties | most frames of least energy |");
+    println!("|---|---|---|---|---|");
+    for count in &counts {
+        println!("| {} | {} | {} | {} | {} |", count.kind, count.grade, count.vectors, count.tied, count.most);
+    }
+    let vectors: usize = counts.iter().map(|count| count.vectors).sum();
+    let tied: usize = counts.iter().map(|count| count.tied).sum();
+    println!("\nvectors.bin: {vectors} vectors, {tied} with ties, {} bytes", file.len());
+    let sheets = vectors::sheet_file();
+    std::fs::write(out.join("sheets.bin"), &sheets)?;
+    println!("sheets.bin: {} sheets, {} bytes", vectors::sheets().len(), sheets.len());
+    Ok(())
+}
+
+/// What a program writes, given a sheet on its standard input.
+fn run(program: &str, sheet: &[u8]) -> std::io::Result<(Vec<u8>, bool)> {
+    let mut child = Command::new(program).stdin(Stdio::piped()).stdout(Stdio::piped()).spawn()?;
+    let mut input = child.stdin.take().expect("standard input is piped");
+    let sheet = sheet.to_vec();
+    // A program may end before it has read a long sheet whole; the pipe then breaks, rightly.
+    let writer = std::thread::spawn(move || drop(input.write_all(&sheet)));
+    let output = child.wait_with_output()?;
+    writer.join().expect("the writer ends");
+    Ok((output.stdout, output.status.success()))
+}
+
+/// Runs the program on fresh sheets and compares; gives the number of differences.
+fn compare(program: &str, count: u64, seed: u64) -> std::io::Result<u64> {
+    let mut random = Random::new(seed);
+    let (mut different, mut failed) = (0, 0);
+    for number in 0..count {
+        let sheet = vectors::random_sheet(&mut random);
+        let (text, success) = run(program, &sheet)?;
+        failed += !success as u64;
+        let expected = sheet::listing(&sheet);
+        if text != expected.as_bytes() {
+            different += 1;
+            let text = String::from_utf8_lossy(&text);
+            let line = expected.lines().zip(text.lines()).take_while(|(a, b)| a == b).count();
+            println!("sheet {number} ({} bytes) differs at line {}", sheet.len(), line + 1);
+            println!("  expected {:?}", expected.lines().nth(line));
+            println!("  written  {:?}", text.lines().nth(line));
+            if sheet.len() <= 200 {
+                println!("  sheet {}", sheet.iter().map(|b| format!("{b:02X} ")).collect::<String>());
+            }
+        }
+    }
+    println!("{count} sheets, {different} different; exit status not 0: {failed}");
+    Ok(different)
+}
+
+fn main() -> ExitCode {
+    let arguments: Vec<String> = std::env::args().skip(1).collect();
+    let words: Vec<&str> = arguments.iter().map(String::as_str).collect();
+    let result = match words[..] {
+        ["vectors"] => write_vectors().map(|()| 0),
+        ["listing"] => {
+            let mut bytes = Vec::new();
+            std::io::stdin()
+                .read_to_end(&mut bytes)
+                .and_then(|_| std::io::stdout().write_all(sheet::listing(&bytes).as_bytes()))
+                .map(|()| 0)
+        }
+        ["compare", program, count, seed] => match (count.parse(), seed.parse()) {
+            (Ok(count), Ok(seed)) => compare(program, count, seed),
+            _ => Err(std::io::Error::other("COUNT and SEED are numbers")),
+        },
+        _ => Err(std::io::Error::other("usage: second-coder vectors | listing | compare PROGRAM COUNT SEED")),
+    };
+    match result {
+        Ok(0) => ExitCode::SUCCESS,
+        Ok(_) => ExitCode::FAILURE,
+        Err(error) => {
+            eprintln!("{error}");
+            ExitCode::FAILURE
+        }
+    }
+}

@@ -1,0 +1,316 @@
+//! Vectors and sheets for checking the library and the sheet program, the same on every run.
+
+use std::collections::HashSet;
+
+use crate::frame::{send, Format};
+use crate::random::Random;
+use crate::sheet::{listing, LONGEST, MARK};
+
+/// How many messages of each sort a kind and grade gets, besides each single bit and all zeros.
+const PAIRS: usize = 50;
+const DENSE: usize = 80;
+const TIED: usize = 80;
+
+/// A message with every bit random.
+pub fn dense(format: &Format, random: &mut Random) -> Vec<u8> {
+    let mut message: Vec<u8> = (0..format.message_bytes()).map(|_| random.byte()).collect();
+    clear_spare(format, &mut message);
+    message
+}
+
+fn clear_spare(format: &Format, message: &mut [u8]) {
+    for k in format.message_bits()..message.len() * 8 {
+        message[k / 8] &= !(1 << (k % 8));
+    }
+}
+
+/// A message with the bits at these places set.
+pub fn with_bits(format: &Format, places: &[usize]) -> Vec<u8> {
+    let mut message = vec![0; format.message_bytes()];
+    for k in places {
+        message[k / 8] |= 1 << (k % 8);
+    }
+    message
+}
+
+/// A message whose blocks lie on the edge of the shaping region: level words mostly zero or all
+/// ones, and each block's numbers mostly of one bit, the top one or the next.
+pub fn edge(format: &Format, random: &mut Random) -> Vec<u8> {
+    let mut places = Vec::new();
+    let mut next = 0;
+    for &r in format.levels {
+        let dimension = crate::code::masks(r, format.m).len();
+        match random.below(4) {
+            0 => places.push(next),
+            1 => places.push(next + random.below(dimension as u64) as usize),
+            _ => (),
+        }
+        next += dimension;
+    }
+    let b = format.grade;
+    for _ in 0..format.length() / 8 {
+        let style = random.below(4);
+        for width in [b - 1, b, b, b, b, b, b, b + 1] {
+            for i in 0..width {
+                let depth = width - 1 - i;
+                let set = match style {
+                    0 => depth == 0 && random.one_in(2),
+                    1 => depth <= 1 && random.one_in(3),
+                    2 => depth == 1 || (depth == 0 && random.one_in(4)),
+                    _ => random.one_in(2) && !random.one_in(1 + i as u64),
+                };
+                if set {
+                    places.push(next + i);
+                }
+            }
+            next += width;
+        }
+    }
+    with_bits(format, &places)
+}
+
+/// The messages of a kind and grade, no two the same.
+fn messages(kind: u8, grade: u8, random: &mut Random) -> Vec<Vec<u8>> {
+    let format = Format::new(kind, grade).unwrap();
+    let bits = format.message_bits();
+    let mut all = vec![with_bits(&format, &[])];
+    all.extend((0..bits).map(|k| with_bits(&format, &[k])));
+    let mut seen: HashSet<Vec<u8>> = all.iter().cloned().collect();
+    let mut add = |count: usize, make: &mut dyn FnMut() -> Option<Vec<u8>>| {
+        let end = all.len() + count;
+        while all.len() < end {
+            if let Some(message) = make() {
+                if seen.insert(message.clone()) {
+                    all.push(message);
+                }
+            }
+        }
+    };
+    add(PAIRS, &mut || {
+        let place = |random: &mut Random| random.below(bits as u64) as usize;
+        let places = [place(random), place(random)];
+        (places[0] != places[1]).then(|| with_bits(&format, &places))
+    });
+    add(DENSE, &mut || Some(dense(&format, random)));
+    add(TIED, &mut || {
+        let message = edge(&format, random);
+        (send(kind, grade, &message).unwrap().least > 1).then_some(message)
+    });
+    all
+}
+
+/// The vectors of one kind and grade: how many, and how many of them have several frames of
+/// least energy.
+pub struct Count {
+    pub kind: u8,
+    pub grade: u8,
+    pub vectors: usize,
+    pub tied: usize,
+    pub most: u64,
+}
+
+/// All vectors, in the format of README.md.
+pub fn vectors() -> (Vec<u8>, Vec<Count>) {
+    let mut random = Random::new(1);
+    let (mut file, mut counts) = (Vec::new(), Vec::new());
+    for kind in 3..=5 {
+        for grade in 1..=4 {
+            let mut count = Count { kind, grade, vectors: 0, tied: 0, most: 1 };
+            for message in messages(kind, grade, &mut random) {
+                let sent = send(kind, grade, &message).unwrap();
+                file.extend([kind, grade, message.len() as u8]);
+                file.extend(&message);
+                file.push(sent.frame.len() as u8);
+                for x in &sent.frame {
+                    file.extend((*x as i32).to_le_bytes());
+                }
+                file.extend(sent.energy.to_le_bytes());
+                count.vectors += 1;
+                count.tied += (sent.least > 1) as usize;
+                count.most = count.most.max(sent.least);
+            }
+            counts.push(count);
+        }
+    }
+    (file, counts)
+}
+
+/// A good record of a kind and grade, its message dense, sparse or on the edge.
+pub fn record_of(kind: u8, grade: u8, random: &mut Random) -> Vec<u8> {
+    let format = Format::new(kind, grade).unwrap();
+    let message = match random.below(4) {
+        0 => with_bits(&format, &[random.below(format.message_bits() as u64) as usize]),
+        1 => edge(&format, random),
+        _ => dense(&format, random),
+    };
+    [&MARK[..], &[kind, grade], &message].concat()
+}
+
+/// A good record of any kind and grade.
+pub fn record(random: &mut Random) -> Vec<u8> {
+    let (kind, grade) = (3 + random.below(3) as u8, 1 + random.below(4) as u8);
+    record_of(kind, grade, random)
+}
+
+/// A sheet of so many good records.
+pub fn records(count: usize, random: &mut Random) -> Vec<u8> {
+    (0..count).flat_map(|_| record(random)).collect()
+}
+
+/// A sheet of so many bytes, all good records: filled up at random, then to the last byte with
+/// records of kind 3, which have 6 to 9 bytes (12 and more are always a sum of such).
+pub fn full(length: usize, random: &mut Random) -> Vec<u8> {
+    let mut sheet = Vec::new();
+    while length - sheet.len() > 60 {
+        sheet.extend(record(random));
+    }
+    while length > sheet.len() {
+        let left = length - sheet.len();
+        let bytes = match left {
+            0..=9 => left,
+            10..=17 => 6.max(left - 9),
+            _ => 6,
+        };
+        sheet.extend(record_of(3, bytes as u8 - 5, random));
+    }
+    sheet
+}
+
+/// All sheets, good and damaged.
+pub fn sheets() -> Vec<Vec<u8>> {
+    let mut random = Random::new(2);
+    let random = &mut random;
+    let example = vec![0x4C, 0x43, 3, 1, 0, 8, 0x4C, 0x43, 3, 1, 2, 0, 0x4C, 0x43, 3, 5];
+    let mut all = vec![vec![], example];
+    // One record of each kind and grade, and a sheet of them all.
+    for kind in 3..=5 {
+        for grade in 1..=4 {
+            all.push(record_of(kind, grade, random));
+        }
+    }
+    all.push(all[2..].concat());
+    all.push(records(40, random));
+    // A sheet cut short at each place of its last record.
+    for (kind, grade) in [(3, 1), (4, 2), (5, 1)] {
+        let (before, last) = (records(2, random), record_of(kind, grade, random));
+        all.extend((0..last.len()).map(|end| [&before, &last[..end]].concat()));
+    }
+    // A wrong kind or grade, with and without bytes after it.
+    for wrong in [0, 1, 2, 6, 7, 0x43, 0x80, 0xFF] {
+        for bytes in [vec![wrong], vec![wrong, 1, 0, 0], vec![wrong, 9], vec![4, wrong | 8], vec![3, wrong | 8, 0, 0]] {
+            all.push([record(random), MARK.to_vec(), bytes].concat());
+        }
+    }
+    all.push([MARK.to_vec(), vec![5, 0]].concat());
+    all.push([MARK.to_vec(), vec![5, 5]].concat());
+    // A wrong mark: each byte of it, swapped, and a byte left between records.
+    for mark in [[0x4C, 0x44], [0x4D, 0x43], [0x43, 0x4C], [0x4C, 0x4C], [0, 0], [0xFF, 0xFF]] {
+        all.push([record(random), mark.to_vec(), vec![3, 1, 0, 0]].concat());
+    }
+    all.push([record(random), vec![0], record(random)].concat());
+    all.push(vec![0x4C]);
+    all.push(vec![0x0A]);
+    // Each spare bit set, alone and with the rest of the message dense.
+    for (kind, grade) in [(3, 1), (3, 4), (4, 1), (4, 4)] {
+        for bit in 4..8 {
+            let mut bad = record_of(kind, grade, random);
+            *bad.last_mut().unwrap() |= 1 << bit;
+            all.push([record(random), bad, record(random)].concat());
+        }
+    }
+    // Near the longest sheet: full of good records; damaged in its last byte; cut short; full of
+    // the shortest records; a byte or a record too long; nothing good.
+    let longest = full(LONGEST, random);
+    all.push(longest.clone());
+    let mut spare = full(LONGEST - 6, random);
+    spare.extend([0x4C, 0x43, 3, 1, 0, 0xF0]);
+    all.push(spare);
+    all.push(longest[..LONGEST - 1].to_vec());
+    let mut shortest: Vec<u8> = (0..LONGEST / 6).flat_map(|_| record_of(3, 1, random)).collect();
+    shortest.extend(&MARK[..LONGEST % 6]);
+    all.push(shortest);
+    all.push([longest.clone(), vec![0x4C]].concat());
+    all.push([longest, record(random)].concat());
+    all.push(vec![0; LONGEST]);
+    all.push(vec![0x4C; LONGEST + 1]);
+    // Random bytes, and good sheets with one byte changed.
+    for length in [1, 2, 3, 5, 16, 100, 1000] {
+        all.push((0..length).map(|_| random.byte()).collect());
+    }
+    for _ in 0..12 {
+        let mut sheet = records(6, random);
+        let place = random.below(sheet.len() as u64) as usize;
+        sheet[place] ^= 1 << random.below(8);
+        all.push(sheet);
+    }
+    all
+}
+
+/// All sheets with their listings, in the format of README.md.
+pub fn sheet_file() -> Vec<u8> {
+    let mut file = Vec::new();
+    for sheet in sheets() {
+        let text = listing(&sheet);
+        for part in [&sheet[..], text.as_bytes()] {
+            file.extend((part.len() as u32).to_le_bytes());
+            file.extend(part);
+        }
+    }
+    file
+}
+
+/// A fresh sheet: good, damaged, cut short, of random bytes or long.
+pub fn random_sheet(random: &mut Random) -> Vec<u8> {
+    let count = random.below(30) as usize;
+    match random.below(10) {
+        0..=3 => records(count, random),
+        4..=5 => {
+            let mut sheet = records(count + 1, random);
+            let place = random.below(sheet.len() as u64) as usize;
+            sheet[place] = random.byte();
+            sheet
+        }
+        6 => {
+            let mut sheet = records(count + 1, random);
+            sheet.truncate(random.below(sheet.len() as u64) as usize);
+            sheet
+        }
+        7 => (0..count).map(|_| random.byte()).collect(),
+        8 => {
+            // A good record or two, then a mark and random bytes, the first near the kinds.
+            let mut sheet = records(count % 3, random);
+            sheet.extend(MARK);
+            sheet.extend((0..2).map(|_| random.below(8) as u8));
+            sheet.extend((0..count).map(|_| random.byte()));
+            sheet
+        }
+        _ => {
+            let length = LONGEST - 3 + random.below(6) as usize;
+            if random.one_in(8) {
+                return full(length, random);
+            }
+            vec![MARK[0]; length]
+        }
+    }
+}
+
+#[cfg(test)]
+mod tests {
+    use super::*;
+
+    #[test]
+    fn full_sheets_are_full_and_good() {
+        let mut random = Random::new(3);
+        for length in LONGEST - 50..=LONGEST {
+            let sheet = full(length, &mut random);
+            assert_eq!(sheet.len(), length);
+            assert!(!listing(&sheet).contains("refused"));
+        }
+    }
+
+    #[test]
+    fn files_are_the_same_each_time() {
+        assert!(vectors().0 == vectors().0);
+        assert!(sheet_file() == sheet_file());
+    }
+}
