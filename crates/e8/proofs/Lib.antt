@@ -8,3 +8,4 @@ pub mod Block
 pub mod Rows
 pub mod Generators
 pub mod Frame
+pub mod Within

@@ -52,7 +52,7 @@ bits-none : Bits []
 bits-none = record { small = none-small }
 
 -- an entry of a table, or what stands past its end
-table-below : (B : ℕ) (f : ℕ → ℕ) (n : ℕ) → 0 < B → ((i : ℕ) → f i < B) → (i : ℕ) → getD (table n f) i 0 < B
+pub table-below : (B : ℕ) (f : ℕ → ℕ) (n : ℕ) → 0 < B → ((i : ℕ) → f i < B) → (i : ℕ) → getD (table n f) i 0 < B
 table-below B f n z h i = go (decLt i n)
   where
     go : Dec (i < n) → getD (table n f) i 0 < B

@@ -4,18 +4,18 @@ use mathlib.Core.Path.{_≡_, refl, sym, ap, ap₂, _∙_, subst}
 use mathlib.Core.Bool.{true}
 use mathlib.Core.List.{List, [], _∷_}
 use native.Mathlib.Nat.{pow-suc}
-use native.Mathlib.Decide.{decLt}
 use native.Mathlib.Omega.{arith}
 use lib.Dec.{lit<}
-use lib.ListN.{length, getD, take, drop, List·getD-eq-default}
+use lib.ListN.{length, getD, take, drop}
 use lib.Seq.{drop-cons}
 use lib.Pow.{pow-mono}
 use Rattle.reed_muller.specs.Level.{table, dimension, codeword}
 use Rattle.reed_muller.proofs.Codeword.{codeword-small}
-use Rattle.reed_muller.proofs.Table.{length-table, table-at, table-ext}
+use Rattle.reed_muller.proofs.Table.{table-at, table-ext}
 use Rattle.frames.specs.Kind.{kinds, isKind, degrees, levels, dimensions, levelBits}
 use Rattle.frames.specs.Message.{stacked}
 use Rattle.frames.proofs.Levels.{Fit}
+use Rattle.frames.proofs.One.{table-below}
 use Rattle.frames.proofs.Rows.{each-kind, shape}
 
 -- the offset of the bits of level i
@@ -74,14 +74,6 @@ one-more m rs bit i h sums es = table-ext (2 ^ m) (λ p l.
   where
     g : ℕ → ℕ
     g = stacked m (drop (suc i) rs) bit (offset m rs (suc i)) 0
-
--- what stands in a table is bounded by its rule
-pub table-below : (B : ℕ) (f : ℕ → ℕ) (n : ℕ) → 0 < B → ((i : ℕ) → f i < B) → (i : ℕ) → getD (table n f) i 0 < B
-table-below B f n z h i = go (decLt i n)
-  where
-    go : Dec (i < n) → getD (table n f) i 0 < B
-    go (yes l) = rw (table-at f n i l) (h i)
-    go (no k) = rw (List·getD-eq-default (table n f) 0 {n = i} (omega (arith, length-table f n))) z
 
 pub level-below : (m : ℕ) (rs : List ℕ) (bit : ℕ → ℕ) (i : ℕ) → length rs ≤ 6 → (p : ℕ) → getD (from-level m rs bit i) p 0 < 64
 level-below m rs bit i h = table-below 64 (stacked m (drop i rs) bit (offset m rs i) 0) (2 ^ m) (lit< tt)

@@ -15,10 +15,11 @@ use Rattle.reed_muller.specs.Level.{table}
 use Rattle.reed_muller.specs.Message.{messageBit}
 use Rattle.reed_muller.proofs.Parity.{message-small}
 use Rattle.reed_muller.proofs.Table.{length-table, table-at}
-use Rattle.e8.specs.Energy.{sq, energy, Within}
+use Rattle.e8.specs.Energy.{energy, Within}
 use Rattle.e8.specs.Lattice.{part}
 use Rattle.e8.specs.Least.{leastBlock, leastFrame}
 use Rattle.e8.specs.Rows.{ints}
+use Rattle.e8.proofs.Within.{within-to, within-all, energy-within}
 use Rattle.e8.proofs.Order.{energy-append}
 use Rattle.e8.proofs.Frame.{block-size, leastBlock-within, leastFrame-snoc}
 use Rattle.frames.specs.Kind.{isKind, degrees, levels, blocks, levelBits, messageBits, messageBytes}
@@ -31,21 +32,6 @@ use Rattle.frames.proofs.Numbers.{total}
 use Rattle.sending.proofs.Bits.{number-small}
 use Rattle.sending.proofs.Block.{numbers-at, width-small}
 use Rattle.sending.proofs.Stack.{stacked-below, stacked-over, few-levels}
-
--- ---- size and energy
-
-pub within-more : (A B : ℕ) → A ≤ B → (l : List ℤ) → Within A l → Within B l
-within-more A B h [] w = tt
-within-more A B h (z ∷ l) w = (omega (arith, w .0), within-more A B h l (w .1))
-
-pub energy-within : (B : ℕ) (l : List ℤ) → Within B l → energy l ≤ length l * (B * B)
-unfolding energy sq
-energy-within B [] w = omega arith
-energy-within B (z ∷ l) w = omega (arith, energy-within B l (w .1), mul-le-mul (w .0) (w .0))
-
-pub within-at : (B : ℕ) (l : List ℤ) → ((i : ℕ) → natAbs (at l i) ≤ B) → Within B l
-within-at B [] h = tt
-within-at B (z ∷ l) h = (h 0, within-at B l (λ i. h (suc i)))
 
 -- ---- the frame
 
@@ -121,7 +107,7 @@ module _ (k b : ℕ) (kind : isKind k ≡ true) (low : 1 ≤ b) (high : b ≤ 4)
   block-length j h = block-size H half-pos (part j L) (part-length L (blocks k) j long h)
 
   pub block-within : (j : ℕ) → Within 64 (leastBlock H (part j L))
-  block-within j = within-more (2 * H) 64 (omega (arith, half-small)) (leastBlock H (part j L)) (leastBlock-within H half-pos (part j L))
+  block-within j = within-to (2 * H) 64 (leastBlock H (part j L)) (omega (arith, half-small)) (leastBlock-within H half-pos (part j L))
 
   pub block-energy : (j : ℕ) → j < blocks k → energy (leastBlock H (part j L)) ≤ 8 * 4096
   block-energy j h = omega (arith, energy-within 64 (leastBlock H (part j L)) (block-within j), ap (λ (n : ℕ). n * (64 * 64)) (block-length j h))
@@ -166,7 +152,7 @@ module _ (k b : ℕ) (kind : isKind k ≡ true) (low : 1 ≤ b) (high : b ≤ 4)
       omega (arith, stacked-below k (degrees k) (messageBit bytes) 0 (getD (blockNumbers k b bytes (p / 8)) (p % 8) 0) p)
 
   pub part-within : (j : ℕ) → j < blocks k → Within (2 ^ 24) (part j L)
-  part-within j h = within-at (2 ^ 24) (part j L) (λ o. go o (decLt o 8))
+  part-within j h = within-all (2 ^ 24) (part j L) (λ o. go o (decLt o 8))
     where
       go : (o : ℕ) → Dec (o < 8) → natAbs (at (part j L) o) ≤ 2 ^ 24
       go o (yes l) =

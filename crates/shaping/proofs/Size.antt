@@ -14,15 +14,6 @@ use Rattle.integers.proofs.Zed.{E, `_, _⊖_, P, N, ⟦_⟧, eq?, up, down, sfi
 use Rattle.e8.specs.Energy.{sq, energy, Within}
 use Rattle.e8.specs.Least.{lowered}
 
-pub within-at : (B : ℕ) (xs : List ℤ) (i : ℕ) → Within B xs → natAbs (getD xs i (pos 0)) ≤ B
-within-at B [] i h = omega arith
-within-at B (z ∷ zs) zero h = h .0
-within-at B (z ∷ zs) (suc i) h = within-at B zs i (h .1)
-
-pub within-to : (B C : ℕ) (xs : List ℤ) → B ≤ C → Within B xs → Within C xs
-within-to B C [] k h = tt
-within-to B C (z ∷ zs) k h = (omega (arith, h .0), within-to B C zs k (h .1))
-
 pub fits : (z : ℤ) → natAbs z ≤ 2 ^ 30 → SFits w32 z
 fits z h = sfits! w32 (` z) (omega (arith, abs-ud z)) (omega (arith, abs-ud z))
 

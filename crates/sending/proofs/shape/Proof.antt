@@ -12,6 +12,7 @@ use Rattle.reed_muller.specs.Level.{table}
 use Rattle.reed_muller.specs.Message.{messageBit}
 use Rattle.reed_muller.proofs.Table.{length-table}
 use Rattle.e8.specs.Energy.{energy as energy-of, Within}
+use Rattle.e8.proofs.Within.{within-to}
 use Rattle.e8.specs.Lattice.{part}
 use Rattle.e8.specs.Least.{leastBlock, leastFrame}
 use Rattle.e8.specs.Rows.{ints}
@@ -22,7 +23,7 @@ use Rattle.frames.specs.Frame.{half}
 use Rattle.frames.proofs.Rows.{shape}
 use Rattle.kind_table.proofs.Each.{size, bits-row}
 use Rattle.sending.proofs.Stack.{few-levels, level-below}
-use Rattle.sending.proofs.Turn.{within-more, put-block, read-block, block-is, shaped-length, block-length, block-within, block-energy, more-energy, more-frame, none-energy, none-frame, whole-frame, block-room, part-within, offset-small, taken-below}
+use Rattle.sending.proofs.Turn.{put-block, read-block, block-is, shaped-length, block-length, block-within, block-energy, more-energy, more-frame, none-energy, none-frame, whole-frame, block-room, part-within, offset-small, taken-below}
 use Rattle.sending.proofs.shape.Statement.{statement}
 use Rattle.sending.proofs.shape.Tie as tie
 
@@ -251,7 +252,7 @@ energy-requires c κs =
     let H = half (s .args .kind) (s .args .grade) in
     let Y = leastBlock H (part j (leader (s .args .kind) (s .args .grade) (s .args .message .now))) in (
       omega (arith, ap length e, block-length (s .args .kind) (s .args .grade) (s .pre .0 .0) (s .pre .0 .1) (s .pre .0 .2) (s .args .message .now) j (at-most i .0)),
-      subst (Within (2 ^ 24)) (sym e) (within-more 64 (2 ^ 24) (omega arith) Y (block-within (s .args .kind) (s .args .grade) (s .pre .0 .0) (s .pre .0 .1) (s .pre .0 .2) (s .args .message .now) j)),
+      subst (Within (2 ^ 24)) (sym e) (within-to 64 (2 ^ 24) Y (omega arith) (block-within (s .args .kind) (s .args .grade) (s .pre .0 .0) (s .pre .0 .1) (s .pre .0 .2) (s .args .message .now) j)),
     )
 
 add-energy : tie.Need-add-energy Inv-loop μ-loop

@@ -9,7 +9,8 @@ use mir.Val.{toZ, ofZ}
 use borrow.Author.Needs.{needs}
 use Rattle.integers.proofs.Zed.{tz}
 use Rattle.e8.specs.Energy.{sq, energy}
-use Rattle.shaping.proofs.Size.{within-at, fits, sq-le, energy-drop}
+use Rattle.e8.proofs.Within.{within-at}
+use Rattle.shaping.proofs.Size.{fits, sq-le, energy-drop}
 use Rattle.shaping.proofs.energy.Statement.{statement}
 use Rattle.shaping.proofs.energy.Tie as tie
 

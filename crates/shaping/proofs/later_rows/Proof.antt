@@ -11,7 +11,8 @@ use borrow.Author.Needs.{needs}
 use Rattle.integers.specs.Integer.{modZ}
 use Rattle.integers.proofs.Zed.{`_, #_, _⊕_, _⊖_, tz, sfits-to, abs-ud}
 use Rattle.integers.proofs.Floor.{modZ-lt}
-use Rattle.shaping.proofs.Size.{within-at, fits, abs! }
+use Rattle.e8.proofs.Within.{within-at}
+use Rattle.shaping.proofs.Size.{fits, abs! }
 use Rattle.shaping.proofs.Rest.{power-fits, double}
 use Rattle.shaping.proofs.Reading.{read}
 use Rattle.shaping.proofs.Reducing.{Rows, rows-none, rows-next, rows-last}

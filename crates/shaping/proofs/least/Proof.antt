@@ -8,7 +8,8 @@ use borrow.Author.Needs.{needs}
 use Rattle.integers.proofs.Zed.{tz}
 use Rattle.e8.specs.Energy.{Within}
 use Rattle.e8.specs.Least.{lowered}
-use Rattle.shaping.proofs.Size.{within-to, lowered-within}
+use Rattle.e8.proofs.Within.{within-to}
+use Rattle.shaping.proofs.Size.{lowered-within}
 use Rattle.shaping.proofs.Reading.{read, power-read, power-size, twice-fits, twice-scale}
 use Rattle.shaping.proofs.Walking.{least-from}
 use Rattle.shaping.proofs.least.Statement.{statement}

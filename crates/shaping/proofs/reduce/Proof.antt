@@ -13,7 +13,8 @@ use Rattle.integers.proofs.Zed.{`_, #_, _⊖_, tz, sfits-to, abs-ud}
 use Rattle.integers.proofs.Floor.{modZ-lt}
 use Rattle.e8.specs.Energy.{Within}
 use Rattle.e8.specs.Least.{lowered}
-use Rattle.shaping.proofs.Size.{within-at, within-to, fits, abs!, lowered-within}
+use Rattle.e8.proofs.Within.{within-at, within-to}
+use Rattle.shaping.proofs.Size.{fits, abs!, lowered-within}
 use Rattle.shaping.proofs.Reading.{read, power-read, twice-fits, twice-scale}
 use Rattle.shaping.proofs.Reducing.{result, first-row}
 use Rattle.shaping.proofs.reduce.Statement.{statement}

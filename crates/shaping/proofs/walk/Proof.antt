@@ -7,7 +7,7 @@ use lib.IntN.{ℤ, pos, natAbs}
 use lib.ListN.{length, drop, getD, length-drop}
 use borrow.Author.Needs.{needs}
 use Rattle.shaping.specs.Walk.{Scale, Keeps}
-use Rattle.shaping.proofs.Size.{within-at}
+use Rattle.e8.proofs.Within.{within-at}
 use Rattle.shaping.proofs.Reading.{read, scale, coordinate}
 use Rattle.shaping.proofs.Walking.{keeps-low, drop-last, drop-before}
 use Rattle.shaping.proofs.walk.Statement.{statement}

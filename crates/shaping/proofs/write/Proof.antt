@@ -8,7 +8,7 @@ use lib.ListN.{length, drop, getD}
 use borrow.Author.Needs.{needs}
 use Rattle.integers.proofs.Zed.{tz}
 use Rattle.shaping.specs.Walk.{Scale, choice, chosen}
-use Rattle.shaping.proofs.Size.{within-at}
+use Rattle.e8.proofs.Within.{within-at}
 use Rattle.shaping.proofs.Filled.{Filled, filled-none, filled-next, filled-all}
 use Rattle.shaping.proofs.Reading.{read, scale, coordinate}
 use Rattle.shaping.proofs.Walking.{chosen-length, chosen-at}
