@@ -1,5 +1,5 @@
 // Level codes: the order of masks, codewords of RM(r,m) and the way back, and the bits of a message's bytes.
-// Length 2 ^ m is wanted where a word is lent; `Tabled m` says which lengths have a table of masks.
+// A word is a lent slice of 2 ^ m bytes; where it is only read, bytes past these do not count. `Tabled m`: length 2 ^ m has a table of masks.
 ghost use mathlib.Core.Path.{_≡_};
 ghost use Prim.Native.Nat.{ℕ, _+_, _*_, _^_, _<_, _≤_};
 ghost use lib.ListN.{length, getD};
