@@ -1,7 +1,7 @@
 -- the floor quotient and the remainder, which is never negative, by a divisor m > 0
 use mathlib.Core.Path.{_≡_, refl, sym, _∙_, ap, subst}
 use Prim.Native.Nat.{ℕ, zero, suc, _+_, _*_, _-_, _<_, _≤_, _/_, _%_}
-use native.Mathlib.Nat.{div-add-mod', mod-lt}
+use native.Mathlib.Nat.{div-add-mod', mod-lt, mul-le-mul-left}
 use native.Mathlib.Omega.{arith}
 use lib.Arith.{digits-div}
 use lib.IntN.{ℤ, pos, negsuc, negℤ, _+ℤ_, _-ℤ_, _*ℤ_, natAbs}
@@ -32,3 +32,25 @@ quot-is z m q r h e = digits-q m (shrZ z m) q (modZ z m) r (modZ-lt z m (omega a
 
 pub rem-is : (z : ℤ) (m : ℕ) (q : ℤ) (r : ℕ) → r < m → z ≡ pos m *ℤ q +ℤ pos r → modZ z m ≡ r
 rem-is z m q r h e = digits-r m (shrZ z m) q (modZ z m) r (modZ-lt z m (omega arith)) h (sym (div-mod z m (omega arith)) ∙ e)
+
+-- ---- a divisor in two steps, and the divisor 1
+
+pub shr-one : (z : ℤ) → shrZ z 1 ≡ z
+shr-one z = quot-is z 1 z 0 (omega arith) (eq! (` z) (# 1 ⊗ ` z ⊕ # 0) (omega arith))
+
+pub shr-shr : (z : ℤ) (m n : ℕ) → 0 < m → 0 < n → shrZ (shrZ z m) n ≡ shrZ z (m * n)
+shr-shr z m n hm hn =
+    let q : ℤ = shrZ z m in
+    let r : ℕ = modZ z m in
+    let p : ℤ = shrZ q n in
+    let e : ℕ = modZ q n in
+    let le : e < n = modZ-lt q n hn in
+    let lr : r < m = modZ-lt z m hm in
+    let l : m * e + r < m * n = omega (arith, mul-le-mul-left m le) in
+    sym (quot-is z (m * n) p (m * e + r) l
+    (eq! (` z) (# (m * n) ⊗ ` p ⊕ # (m * e + r))
+    (omega (
+      arith,
+      eq? (` z) (# m ⊗ ` q ⊕ # r) (div-mod z m hm),
+      ap (λ (x : ℕ). m * x) (eq? (` q) (# n ⊗ ` p ⊕ # e) (div-mod q n hn)),
+    ))))

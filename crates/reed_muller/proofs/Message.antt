@@ -19,10 +19,10 @@ use Rattle.reed_muller.proofs.Table.{length-table, table-at, table-ext}
 use Rattle.reed_muller.proofs.Parity.{message-small}
 
 -- b 0 + b 1 * 2 + .. + b (n − 1) * 2 ^ (n − 1)
-abbrev number : (ℕ → ℕ) → ℕ → ℕ
+abbrev pub number : (ℕ → ℕ) → ℕ → ℕ
 number b n = sumTo n (λ i. b i * 2 ^ i)
 
-number-lt : (b : ℕ → ℕ) (n : ℕ) → ((i : ℕ) → i < n → b i < 2) → number b n < 2 ^ n
+pub number-lt : (b : ℕ → ℕ) (n : ℕ) → ((i : ℕ) → i < n → b i < 2) → number b n < 2 ^ n
 unfolding sumTo
 number-lt b zero h = omega arith
 number-lt b (suc n) h =
@@ -39,7 +39,7 @@ under x c (suc n) (suc i) h =
     ∙ under (x / 2) c n i (omega arith) ∙ sym (ap (λ (y : ℕ). y % 2) (div-suc x i))
 under x c zero i h = absurd (omega arith)
 
-number-bit : (b : ℕ → ℕ) (n : ℕ) → ((i : ℕ) → i < n → b i < 2) → (i : ℕ) → i < n → number b n / 2 ^ i % 2 ≡ b i
+pub number-bit : (b : ℕ → ℕ) (n : ℕ) → ((i : ℕ) → i < n → b i < 2) → (i : ℕ) → i < n → number b n / 2 ^ i % 2 ≡ b i
 unfolding sumTo
 number-bit b zero h i l = absurd (omega arith)
 number-bit b (suc n) h i l = go (number-bit b n less i) (decLt i n)
@@ -55,7 +55,7 @@ number-bit b (suc n) h i l = go (number-bit b n less i) (decLt i n)
         (rw (add-comm (number b n) (b n * 2 ^ n), high (b n) n (number-lt b n less)) (mod-eq-of-lt (h n (omega arith))))
 
 -- the low n digits of x, put together again
-number-digits : (x n : ℕ) → number (λ i. x / 2 ^ i % 2) n ≡ x % 2 ^ n
+pub number-digits : (x n : ℕ) → number (λ i. x / 2 ^ i % 2) n ≡ x % 2 ^ n
 unfolding sumTo
 number-digits x zero = sym (mod-one x)
 number-digits x (suc n) =
@@ -68,7 +68,7 @@ pub length-bytes : (n : ℕ) (bit : ℕ → ℕ) → length (bytesOf n bit) ≡ 
 unfolding bytesOf
 length-bytes n bit = length-table (byteOf bit) n
 
-byte-lt : (bit : ℕ → ℕ) (j : ℕ) → ((i : ℕ) → i < 8 → bit (8 * j + i) < 2) → byteOf bit j < 256
+pub byte-lt : (bit : ℕ → ℕ) (j : ℕ) → ((i : ℕ) → i < 8 → bit (8 * j + i) < 2) → byteOf bit j < 256
 unfolding byteOf
 byte-lt bit j h = number-lt (λ i. bit (8 * j + i)) 8 h
 

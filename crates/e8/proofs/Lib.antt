@@ -1,0 +1,10 @@
+pub mod Example
+pub mod Order
+pub mod Cent
+pub mod Best
+pub mod Points
+pub mod Group
+pub mod Block
+pub mod Rows
+pub mod Generators
+pub mod Frame

@@ -1,0 +1,5 @@
+pub mod Energy
+pub mod Order
+pub mod Lattice
+pub mod Least
+pub mod Rows

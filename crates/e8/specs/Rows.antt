@@ -1,0 +1,69 @@
+-- One message for each class: the rows of matrix (39), and the reduction of a block by them (document 01, "Shaping"; document 003, example 1).
+-- Twice matrix (39) is whole, so 2^b times it is h times that, with h = 2^(b − 1). Clients cite rows, combination, reduced, Ranged, ints. Assumes nothing.
+use mathlib.Core.List.{List, [], _∷_, map}
+use Prim.Native.Nat.{ℕ, _+_, _*_, _<_}
+use lib.IntN.{ℤ, pos, _+ℤ_, _-ℤ_, _*ℤ_}
+use lib.Signed.{shrZ}
+use Rattle.integers.specs.Integer.{modZ}
+use Rattle.e8.specs.Least.{lowered}
+
+-- natural numbers as integers
+abbrev pub ints : List ℕ → List ℤ
+ints [] = []
+ints (s ∷ ss) = pos s ∷ ints ss
+
+-- a vector q times
+abbrev pub times : ℤ → List ℤ → List ℤ
+times q [] = []
+times q (w ∷ ws) = (q *ℤ w) ∷ times q ws
+
+-- twice matrix (39), row by row
+abbrev pub matrix : List (List ℕ)
+matrix =
+    (1 ∷ 1 ∷ 1 ∷ 1 ∷ 1 ∷ 1 ∷ 1 ∷ 1 ∷ [])
+    ∷ (0 ∷ 2 ∷ 0 ∷ 0 ∷ 0 ∷ 0 ∷ 0 ∷ 2 ∷ [])
+    ∷ (0 ∷ 0 ∷ 2 ∷ 0 ∷ 0 ∷ 0 ∷ 0 ∷ 2 ∷ [])
+    ∷ (0 ∷ 0 ∷ 0 ∷ 2 ∷ 0 ∷ 0 ∷ 0 ∷ 2 ∷ [])
+    ∷ (0 ∷ 0 ∷ 0 ∷ 0 ∷ 2 ∷ 0 ∷ 0 ∷ 2 ∷ [])
+    ∷ (0 ∷ 0 ∷ 0 ∷ 0 ∷ 0 ∷ 2 ∷ 0 ∷ 2 ∷ [])
+    ∷ (0 ∷ 0 ∷ 0 ∷ 0 ∷ 0 ∷ 0 ∷ 2 ∷ 2 ∷ [])
+    ∷ (0 ∷ 0 ∷ 0 ∷ 0 ∷ 0 ∷ 0 ∷ 0 ∷ 4 ∷ [])
+    ∷ []
+
+-- the generators: 2^b times the rows of matrix (39)
+abbrev pub rows : ℕ → List (List ℤ)
+rows h = map (λ row. times (pos h) (ints row)) matrix
+
+-- the sum of two vectors, coordinate by coordinate
+abbrev pub add : List ℤ → List ℤ → List ℤ
+add [] ys = []
+add (x ∷ xs) [] = []
+add (x ∷ xs) (y ∷ ys) = (x +ℤ y) ∷ add xs ys
+
+-- the combination of rows of eight numbers with the whole numbers qs
+abbrev pub combination : List ℤ → List (List ℤ) → List ℤ
+combination [] rs = ints (0 ∷ 0 ∷ 0 ∷ 0 ∷ 0 ∷ 0 ∷ 0 ∷ 0 ∷ [])
+combination (q ∷ qs) [] = ints (0 ∷ 0 ∷ 0 ∷ 0 ∷ 0 ∷ 0 ∷ 0 ∷ 0 ∷ [])
+combination (q ∷ qs) (r ∷ rs) = add (times q r) (combination qs rs)
+
+-- the rows after the first, taken off as often as the remainder in their own place stays from 0 on; each changes the last place too, by 2h·Q in all
+abbrev pub remainders : ℕ → ℤ → List ℤ → List ℕ
+remainders h Q [] = []
+remainders h Q (y ∷ []) = modZ (y -ℤ pos (2 * h) *ℤ Q) (4 * h) ∷ []
+remainders h Q (y ∷ z ∷ zs) = modZ y (2 * h) ∷ remainders h (Q +ℤ shrZ y (2 * h)) (z ∷ zs)
+
+-- THE REDUCTION of a block to s1 .. s8: the first row is taken off every place, then the others
+unfoldable pub reduced : ℕ → List ℤ → List ℕ
+reduced h [] = []
+reduced h (x ∷ xs) = modZ x h ∷ remainders h (pos 0) (lowered (pos h *ℤ shrZ x h) xs)
+
+-- the ranges that the diagonal gives: s2 to s7 below 2h, s8 below 4h
+abbrev pub Below : ℕ → List ℕ → Type 0
+Below h [] = ⊥
+Below h (s ∷ []) = s < 4 * h
+Below h (s ∷ t ∷ ts) = (s < 2 * h) × Below h (t ∷ ts)
+
+-- s1 below h, and the others so
+abbrev pub Ranged : ℕ → List ℕ → Type 0
+Ranged h [] = ⊥
+Ranged h (s ∷ ss) = (s < h) × Below h ss

@@ -1,0 +1,178 @@
+-- THE DEMANDS as theorems, sentence by sentence: what is sent, that its energy is least, one message for each class, and the distance.
+-- For every kind of the table and every grade. Assumes nothing.
+use Prim.Native.Nat.{ℕ, zero, suc, _+_, _-_, _*_, _/_, _%_, _^_, _≤_, _<_}
+use mathlib.Core.Path.{_≡_, refl, sym, ap, _∙_, subst}
+use mathlib.Core.Bool.{true}
+use mathlib.Core.List.{List}
+use native.Mathlib.Omega.{arith}
+use lib.ListN.{length, getD}
+use lib.Pow.{pow-pos}
+use lib.IntN.{ℤ, pos, _+ℤ_, _-ℤ_, _*ℤ_}
+use Rattle.integers.proofs.Zed.{E, #_, _⊕_, _⊗_, eq! }
+use Rattle.reed_muller.specs.Level.{sumTo}
+use Rattle.reed_muller.specs.Message.{messageBit}
+use Rattle.e8.specs.Energy.{sq, energy, distance, Within}
+use Rattle.e8.specs.Lattice.{Differ}
+use Rattle.e8.specs.Least.{IsLeast, leastFrame}
+use Rattle.e8.proofs.Frame.{differ-refl, differ-sym, differ-trans, frame-size, leastFrame-is, least-only, leastFrame-within}
+use Rattle.frames.specs.Kind.{isKind, degrees, levels, blocks, scale}
+use Rattle.frames.specs.Message.{Message, blockNumbers, stacked, coordinate, leader}
+use Rattle.frames.specs.Frame.{InCodingSet, half, SameClass, Sent, sentFrame, leastDistance}
+use Rattle.frames.specs.Sending.{isGrade}
+use Rattle.frames.specs.Reading.{openMessage}
+use Rattle.frames.proofs.Levels.{Codes, apartBy, apart}
+use Rattle.frames.proofs.Stacked.{stacked-codes, codes-plus}
+use Rattle.frames.proofs.Frame.{at, codes-of, of-codes}
+use Rattle.frames.proofs.Class.{Shape, scale-is, class-codes}
+use Rattle.frames.proofs.One.{leader-length, leader-at, open-message, open-class, one-message}
+use Rattle.frames.proofs.Rows.{shape, distances, grade-low}
+use Rattle.frames.proofs.Distance.{distance-sum, Apart, somewhere}
+
+-- the one message whose sent frame differs from f by a point of the shaping lattice
+pub record OneMessage (k b : ℕ) (f : List ℤ) : Type 0 where
+  pub bytes : List ℕ
+  pub message : Message k b bytes
+  pub class : SameClass k b (sentFrame k b bytes) f
+  pub only : (other : List ℕ) → Message k b other → SameClass k b (sentFrame k b other) f → other ≡ bytes
+
+half-pos : (k b : ℕ) → 0 < half k b
+unfolding half
+half-pos k b = pow-pos (levels k + b - 1)
+
+-- a grade is one more than some number
+record Above (b : ℕ) : Type 0 where
+  less : ℕ
+  is : b ≡ suc less
+
+grade-above : (b : ℕ) → 1 ≤ b → Above b
+grade-above zero h = absurd (omega arith)
+grade-above (suc c) h = record { less = c; is = refl }
+
+-- ---- what is sent: for any bytes at all
+
+module _ (k b : ℕ) (kind : isKind k ≡ true) (grade : 1 ≤ b) where
+  leader-blocks : (bytes : List ℕ) → length (leader k b bytes) ≡ 8 * blocks k
+  leader-blocks bytes = leader-length k b bytes ∙ sym (shape k kind .whole)
+
+  -- "The frame that sending gives is the sent frame": it is in the class of the leader, no member has less energy,
+  -- and it is the first in reading order among the members of that energy
+  pub sent-frame : (bytes : List ℕ) → Sent k b bytes (sentFrame k b bytes)
+  unfolding sentFrame
+  sent-frame bytes = leastFrame-is (half k b) (half-pos k b) (blocks k) (leader k b bytes) (leader-blocks bytes)
+
+  -- and it is the only frame like that
+  pub sent-only : (bytes : List ℕ) (f : List ℤ) → Sent k b bytes f → f ≡ sentFrame k b bytes
+  unfolding sentFrame
+  sent-only bytes f s = least-only (half k b) (half-pos k b) (blocks k) (leader k b bytes) f (leader-blocks bytes) s
+
+  -- "every other integer frame, however large, that differs by a lattice point has at least as much"
+  pub sent-least : (bytes : List ℕ) (f : List ℤ) → SameClass k b (sentFrame k b bytes) f → energy (sentFrame k b bytes) ≤ energy f
+  sent-least bytes f d = sent-frame bytes .least f
+      (differ-trans (half k b) (blocks k) (leader k b bytes) (sentFrame k b bytes) f (sent-frame bytes .member) d)
+
+  pub sent-length : (bytes : List ℕ) → length (sentFrame k b bytes) ≡ 2 ^ k
+  sent-length bytes = sent-frame bytes .member .long ∙ leader-length k b bytes
+
+  -- every coordinate of it is at most M in size
+  pub sent-within : (bytes : List ℕ) → Within (scale k b) (sentFrame k b bytes)
+  unfolding sentFrame
+  sent-within bytes = subst (λ (m : ℕ). Within m (sentFrame k b bytes)) (sym scale-half) (leastFrame-within (half k b) (half-pos k b) (blocks k) (leader k b bytes))
+    where
+      above : Above b
+      above = grade-above b grade
+
+      scale-half : scale k b ≡ 2 * half k b
+      scale-half = subst (λ (d : ℕ). scale k d ≡ 2 * half k d) (sym (above .is)) (scale-is k (above .less))
+
+-- ---- one message for each class
+
+leader-codes : (k b : ℕ) → Shape k → (bytes : List ℕ) → Codes k (degrees k) (at (leader k b bytes))
+unfolding coordinate
+leader-codes k b s bytes =
+    codes-plus k (degrees k) (at (leader k b bytes)) (λ p. pos (coordinate k b bytes p))
+    (λ p h. record { w = pos 0; is = leader-at k b bytes p h ∙ none (2 ^ length (degrees k)) (coordinate k b bytes p) })
+    (stacked-codes k (degrees k) (s .fit) (messageBit bytes) 0 (λ p. getD (blockNumbers k b bytes (p / 8)) (p % 8) 0))
+  where
+    none : (c n : ℕ) → pos n ≡ pos n +ℤ pos c *ℤ pos 0
+    none c n = eq! (# n) (# n ⊕ # c ⊗ # 0) (omega arith)
+
+-- the theorems at grade c + 1
+module _ (k c : ℕ) (kind : isKind k ≡ true) where
+  abbrev b : ℕ
+  b = suc c
+
+  in-coding-set : (bytes : List ℕ) → InCodingSet k (sentFrame k b bytes)
+  unfolding levels
+  in-coding-set bytes = record {
+    long = sent-length k b kind (omega arith) bytes;
+    codewords = of-codes k (degrees k) (sentFrame k b bytes)
+        (class-codes k c (shape k kind) (leader k b bytes) (sentFrame k b bytes) (leader-length k b bytes) (sent-frame k b kind (omega arith) bytes .member)
+        (leader-codes k b (shape k kind) bytes));
+  }
+
+  the-message : (f : List ℤ) → InCodingSet k f → OneMessage k b f
+  the-message f set = record {
+    bytes = openMessage k b f;
+    message = open-message k c (shape k kind) f set;
+    class = differ-trans H n S L f (differ-sym H n L S (sent-frame k b kind (omega arith) (openMessage k b f) .member)) (differ-sym H n f L toLeader);
+    only = λ other m d. one-message k c (shape k kind) other (openMessage k b f) m (open-message k c (shape k kind) f set)
+        (differ-trans H n (leader k b other) f L
+        (differ-trans H n (leader k b other) (sentFrame k b other) f (sent-frame k b kind (omega arith) other .member) d) toLeader);
+  }
+    where
+      H : ℕ
+      H = half k b
+
+      n : ℕ
+      n = blocks k
+
+      L : List ℤ
+      L = leader k b (openMessage k b f)
+
+      S : List ℤ
+      S = sentFrame k b (openMessage k b f)
+
+      toLeader : SameClass k b f L
+      toLeader = open-class k c (shape k kind) f set
+
+module _ (k b : ℕ) (kind : isKind k ≡ true) (grade : isGrade b ≡ true) where
+  above : Above b
+  above = grade-above b (grade-low b grade)
+
+  -- the sent frame is in the coding set
+  pub sent-in-set : (bytes : List ℕ) → InCodingSet k (sentFrame k b bytes)
+  sent-in-set bytes = subst (λ (d : ℕ). InCodingSet k (sentFrame k d bytes)) (sym (above .is)) (in-coding-set k (above .less) kind bytes)
+
+  -- "Each coding-set frame differs so from the sent frame of exactly one message at each grade"
+  pub exactly-one : (f : List ℤ) → InCodingSet k f → OneMessage k b f
+  exactly-one f set = subst (λ (d : ℕ). OneMessage k d f) (sym (above .is)) (the-message k (above .less) kind f set)
+
+  -- ---- the distance
+
+  -- "Any two different coding-set frames are at squared distance at least 4, 8, 16"
+  pub set-apart : (f g : List ℤ) → InCodingSet k f → InCodingSet k g → (f ≡ g → ⊥) → leastDistance k ≤ distance f g
+  unfolding levels
+  set-apart f g sf sg ne =
+      subst (λ (d : ℕ). d ≤ distance f g) (distances k kind)
+      (subst (λ (d : ℕ). apartBy k (degrees k) ≤ d) (sym (distance-sum f g same ∙ ap (λ (m : ℕ). sumTo m (λ p. sq (at f p -ℤ at g p))) (sf .long)))
+      (apart k (degrees k) (shape k kind .fit) (at f) (at g) (codes-of k (degrees k) f (sf .codewords)) (codes-of k (degrees k) g (sg .codewords))
+      (a .position) (omega (arith, a .inside, sf .long)) (a .differ)))
+    where
+      same : length f ≡ length g
+      same = sf .long ∙ sym (sg .long)
+
+      a : Apart f g
+      a = somewhere f g same ne
+
+  -- different messages have different frames
+  pub messages-differ : (x y : List ℕ) → Message k b x → Message k b y → sentFrame k b x ≡ sentFrame k b y → x ≡ y
+  messages-differ x y mx my e =
+      one .only x mx (differ-refl (half k b) (blocks k) (sentFrame k b x))
+      ∙ sym (one .only y my (subst (λ (f : List ℤ). SameClass k b (sentFrame k b y) f) (sym e) (differ-refl (half k b) (blocks k) (sentFrame k b y))))
+    where
+      one : OneMessage k b (sentFrame k b x)
+      one = exactly-one (sentFrame k b x) (sent-in-set x)
+
+  -- and so the frames sent for two different messages of one kind and grade are as far apart
+  pub sent-apart : (x y : List ℕ) → Message k b x → Message k b y → (x ≡ y → ⊥) → leastDistance k ≤ distance (sentFrame k b x) (sentFrame k b y)
+  sent-apart x y mx my ne = set-apart (sentFrame k b x) (sentFrame k b y) (sent-in-set x) (sent-in-set y) (λ e. ne (messages-differ x y mx my e))

@@ -1,0 +1,11 @@
+pub mod Levels
+pub mod Stacked
+pub mod Numbers
+pub mod Frame
+pub mod Class
+pub mod One
+pub mod Rows
+pub mod Distance
+pub mod Demands
+pub mod Reached
+pub mod Exam

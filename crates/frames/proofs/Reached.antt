@@ -1,0 +1,85 @@
+-- At each kind and grade two messages are sent at exactly the least distance: all zeros, and the message with the bit of mask 1 at level 0.
+-- Assumes nothing.
+use Prim.Native.Nat.{ℕ, zero, suc, _+_, _-_, _*_, _/_, _%_, _^_, _≤_, _<_}
+use mathlib.Core.Path.{_≡_, refl, sym, ap, _∙_}
+use mathlib.Core.Bool.{true}
+use mathlib.Core.List.{List, [], _∷_}
+use native.Mathlib.Nat.{zero-div}
+use native.Mathlib.Omega.{arith}
+use lib.Count.{ones}
+use lib.ListN.{length, getD, replicate, length-replicate}
+use lib.IntN.{ℤ}
+use Rattle.reed_muller.specs.Level.{sumTo, table, ofWeight, masks, order, dimension, codeword}
+use Rattle.reed_muller.specs.Message.{messageBit}
+use Rattle.e8.specs.Energy.{sq, energy, distance}
+use Rattle.e8.specs.Order.{before}
+use Rattle.e8.specs.Least.{cent, better, best, leastBlock, leastFrame}
+use Rattle.frames.specs.Kind.{kinds, isKind, degrees, levels, levelBits, messageBits, messageBytes}
+use Rattle.frames.specs.Message.{Message, number, numbers, blockNumbers, stacked, coordinate, leader}
+use Rattle.frames.specs.Frame.{half, sentFrame, leastDistance}
+use Rattle.frames.specs.Sending.{isGrade}
+use Rattle.frames.proofs.Rows.{bits-3, bits-4, bits-5, each-kind, each-grade, grade-low}
+
+-- the message whose first byte is x and whose other bytes are 0
+abbrev pub first : ℕ → ℕ → ℕ → List ℕ
+first x k b = x ∷ replicate (messageBytes k b - 1) 0
+
+zeros-at : (n j : ℕ) → getD {A = ℕ} (replicate n 0) j 0 ≡ 0
+zeros-at zero zero = refl
+zeros-at zero (suc j) = refl
+zeros-at (suc n) zero = refl
+zeros-at (suc n) (suc j) = zeros-at n j
+
+module _ (x k b : ℕ) (small : x < 256) (bits : 8 ≤ messageBits k b) where
+  each-byte : (n j : ℕ) → getD (x ∷ replicate n 0) j 0 < 256
+  each-byte n zero = small
+  each-byte n (suc j) = omega (arith, zeros-at n j)
+
+  later : (n i j : ℕ) → i / 8 ≡ j → 8 ≤ i → messageBit (x ∷ replicate n 0) i ≡ 0
+  unfolding messageBit
+  later n i zero e l = absurd (omega arith)
+  later n i (suc j) e l = ap (λ (q : ℕ). getD (x ∷ replicate n 0) q 0 / 2 ^ (i % 8) % 2) e ∙ ap (λ (y : ℕ). y / 2 ^ (i % 8) % 2) (zeros-at n j) ∙ none (i % 8)
+    where
+      none : (s : ℕ) → 0 / 2 ^ s % 2 ≡ 0
+      none s = omega (arith, zero-div (2 ^ s))
+
+  first-message : Message k b (first x k b)
+  unfolding messageBytes
+  first-message = record {
+    long = ap suc (length-replicate (messageBytes k b - 1) 0) ∙ omega arith;
+    each = each-byte (messageBytes k b - 1);
+    spare = λ i h. later (messageBytes k b - 1) i (i / 8) refl (omega arith);
+  }
+
+-- two different messages, and the squared distance of their frames
+pub record Reached (k b : ℕ) : Type 0 where
+  pub x : List ℕ
+  pub y : List ℕ
+  pub message-x : Message k b x
+  pub message-y : Message k b y
+  pub different : x ≡ y → ⊥
+  pub exactly : distance (sentFrame k b x) (sentFrame k b y) ≡ leastDistance k
+
+abbrev Exactly : ℕ → ℕ → Type 0
+Exactly k b = distance (sentFrame k b (first 0 k b)) (sentFrame k b (first 2 k b)) ≡ leastDistance k
+
+-- the twelve pairs, computed
+exactly-at : (k : ℕ) → isKind k ≡ true → (b : ℕ) → isGrade b ≡ true → Exactly k b
+unfolding sentFrame half leastFrame leastBlock best better cent before energy sq distance leader coordinate stacked blockNumbers numbers number messageBytes messageBits degrees kinds levels levelBits sumTo codeword order dimension masks ofWeight table messageBit ones
+exactly-at = each-kind (λ k. (b : ℕ) → isGrade b ≡ true → Exactly k b)
+    (each-grade (Exactly 3) refl refl refl refl) (each-grade (Exactly 4) refl refl refl refl) (each-grade (Exactly 5) refl refl refl refl)
+
+enough : (k : ℕ) → isKind k ≡ true → (b : ℕ) → isGrade b ≡ true → 8 ≤ messageBits k b
+enough = each-kind (λ k. (b : ℕ) → isGrade b ≡ true → 8 ≤ messageBits k b)
+    (λ b g. omega (arith, bits-3 b, grade-low b g)) (λ b g. omega (arith, bits-4 b)) (λ b g. omega (arith, bits-5 b))
+
+-- "at each grade two messages are sent at exactly that"
+pub reached : (k b : ℕ) → isKind k ≡ true → isGrade b ≡ true → Reached k b
+reached k b kind grade = record {
+  x = first 0 k b;
+  y = first 2 k b;
+  message-x = first-message 0 k b (omega arith) (enough k kind b grade);
+  message-y = first-message 2 k b (omega arith) (enough k kind b grade);
+  different = λ e. omega (arith, ap (λ (l : List ℕ). getD l 0 0) e);
+  exactly = exactly-at k kind b grade;
+}

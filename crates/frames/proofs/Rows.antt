@@ -1,0 +1,94 @@
+-- What the table of kinds says, kind by kind, and what it gives the laws. Assumes nothing.
+use Prim.Native.Nat.{ℕ, zero, suc, _+_, _*_, _/_, _^_, _≤_, _<_}
+use mathlib.Core.Path.{_≡_, refl, sym, ap, _∙_, subst}
+use mathlib.Core.Bool.{Bool, true, false, _&&_, _||_, true≢false}
+use native.Mathlib.Omega.{arith}
+use lib.Count.{ones}
+use lib.Dec.{eqb, leb}
+use borrow.Author.Tests.{eqb-true, leb-true}
+use Rattle.reed_muller.specs.Level.{dimension, masks, ofWeight, table}
+use Rattle.frames.specs.Kind.{kinds, isKind, degrees, levels, levelBits, messageBits, messageBytes, scale}
+use Rattle.frames.specs.Frame.{leastDistance}
+use Rattle.frames.specs.Sending.{isGrade}
+use Rattle.frames.proofs.Levels.{apartBy}
+use Rattle.frames.proofs.Class.{Shape}
+
+-- ---- document 01's table
+
+pub bits-3 : (b : ℕ) → messageBits 3 b ≡ 4 + 8 * b
+unfolding messageBits levelBits degrees kinds dimension masks ofWeight table ones
+bits-3 b = refl
+
+pub bits-4 : (b : ℕ) → messageBits 4 b ≡ 20 + 16 * b
+unfolding messageBits levelBits degrees kinds dimension masks ofWeight table ones
+bits-4 b = refl
+
+pub bits-5 : (b : ℕ) → messageBits 5 b ≡ 32 + 32 * b
+unfolding messageBits levelBits degrees kinds dimension masks ofWeight table ones
+bits-5 b = refl
+
+pub bytes-3 : (b : ℕ) → messageBytes 3 b ≡ b + 1
+unfolding messageBytes
+bytes-3 b = omega (arith, bits-3 b)
+
+pub bytes-4 : (b : ℕ) → messageBytes 4 b ≡ 2 * b + 3
+unfolding messageBytes
+bytes-4 b = omega (arith, bits-4 b)
+
+pub bytes-5 : (b : ℕ) → messageBytes 5 b ≡ 4 * b + 4
+unfolding messageBytes
+bytes-5 b = omega (arith, bits-5 b)
+
+-- ---- a kind is a row of the table
+
+one-of : (P : ℕ → Type 0) (k n : ℕ) (rest : Bool) → P n → (rest ≡ true → P k) → (eqb k n || rest) ≡ true → P k
+one-of P k n rest here there e = go (eqb k n) refl e
+  where
+    go : (t : Bool) → eqb k n ≡ t → (t || rest) ≡ true → P k
+    go true h e = subst P (sym (eqb-true k n h)) here
+    go false h e = there e
+
+-- what holds at each kind of the table holds at every kind
+pub each-kind : (P : ℕ → Type 0) → P 3 → P 4 → P 5 → (k : ℕ) → isKind k ≡ true → P k
+unfolding isKind kinds
+each-kind P a b c k e = one-of P k 3 (eqb k 4 || (eqb k 5 || false)) a (one-of P k 4 (eqb k 5 || false) b (one-of P k 5 false c (λ x. absurd (true≢false (sym x))))) e
+
+and-left : (s t : Bool) → (s && t) ≡ true → s ≡ true
+and-left true t e = refl
+and-left false t e = e
+
+and-right : (s t : Bool) → (s && t) ≡ true → t ≡ true
+and-right true t e = e
+and-right false t e = absurd (true≢false (sym e))
+
+-- the grades, from 1 to 4
+pub grade-low : (b : ℕ) → isGrade b ≡ true → 1 ≤ b
+unfolding isGrade
+grade-low b e = leb-true 1 b (and-left (leb 1 b) (leb b 4) e)
+
+pub grade-high : (b : ℕ) → isGrade b ≡ true → b ≤ 4
+unfolding isGrade
+grade-high b e = leb-true b 4 (and-right (leb 1 b) (leb b 4) e)
+
+-- what holds at each grade of document 01 holds at every one
+pub each-grade : (P : ℕ → Type 0) → P 1 → P 2 → P 3 → P 4 → (b : ℕ) → isGrade b ≡ true → P b
+each-grade P p₁ p₂ p₃ p₄ zero e = absurd (omega (arith, grade-low 0 e))
+each-grade P p₁ p₂ p₃ p₄ (suc zero) e = p₁
+each-grade P p₁ p₂ p₃ p₄ (suc (suc zero)) e = p₂
+each-grade P p₁ p₂ p₃ p₄ (suc (suc (suc zero))) e = p₃
+each-grade P p₁ p₂ p₃ p₄ (suc (suc (suc (suc zero)))) e = p₄
+each-grade P p₁ p₂ p₃ p₄ (suc (suc (suc (suc (suc b))))) e = absurd (omega (arith, grade-high (suc (suc (suc (suc (suc b))))) e))
+
+-- ---- what the laws need of a kind
+
+pub shape : (k : ℕ) → isKind k ≡ true → Shape k
+unfolding degrees kinds
+shape = each-kind Shape
+    (record { fit = (omega arith, tt); whole = refl })
+    (record { fit = (omega arith, (omega arith, tt)); whole = refl })
+    (record { fit = (omega arith, (omega arith, tt)); whole = refl })
+
+-- the distances 4, 8, 16 are the least of 4^i·2^(m−r) over the levels, and of 4^a
+pub distances : (k : ℕ) → isKind k ≡ true → apartBy k (degrees k) ≡ leastDistance k
+unfolding degrees kinds
+distances = each-kind (λ k. apartBy k (degrees k) ≡ leastDistance k) refl refl refl

@@ -1,0 +1,122 @@
+-- What a reading takes from a frame: its message, and the number of the first test that is not passed (document 01, "Shaping", last paragraph, and "Numbers").
+-- Assumes nothing.
+use Prim.Native.Nat.{ℕ, zero, suc, _+_, _-_, _/_, _%_, _^_}
+use mathlib.Core.Bool.{Bool, true, false, _&&_, cond}
+use mathlib.Core.List.{List, [], _∷_, _++_, map}
+use lib.Dec.{eqb, leb}
+use lib.ListN.{length, getD}
+use lib.IntN.{ℤ, pos, negsuc, natAbs}
+use lib.Signed.{shrZ}
+use Rattle.reed_muller.specs.Level.{order, dimension, backwards, belongs, table}
+use Rattle.reed_muller.specs.Message.{bytesOf}
+use Rattle.e8.specs.Energy.{energy}
+use Rattle.e8.specs.Lattice.{part}
+use Rattle.e8.specs.Rows.{reduced}
+use Rattle.frames.specs.Kind.{isKind, degrees, levels, blocks, messageBytes}
+use Rattle.frames.specs.Message.{widths}
+use Rattle.frames.specs.Frame.{levelWord, sentFrame}
+use Rattle.frames.specs.Sending.{isGrade, unless}
+
+-- the message bits of a level: backwards, the bits of the first masks of the order
+unfoldable pub levelMessage : ℕ → ℕ → (ℕ → ℕ) → List ℕ
+unfolding table
+levelMessage m r word = table (dimension r m) (λ t. backwards m word (getD (order m) t 0))
+
+-- those of the levels from i on, one behind the other
+unfoldable pub levelMessages : ℕ → ℕ → List ℕ → List ℤ → List ℕ
+unfolding levelMessage
+levelMessages m i [] f = []
+levelMessages m i (r ∷ rs) f = levelMessage m r (levelWord i f) ++ levelMessages m (suc i) rs f
+
+-- the frame with the level bits taken off, divided by 2^a: the floor quotient of each coordinate
+unfoldable pub quotients : ℕ → List ℤ → List ℤ
+quotients a f = map (λ z. shrZ z (2 ^ a)) f
+
+-- the w bits of a number, lowest first
+unfoldable pub digits : ℕ → ℕ → List ℕ
+unfolding table
+digits w s = table w (λ t. s / 2 ^ t % 2)
+
+-- those of numbers of the given widths, one behind the other
+unfoldable pub allDigits : List ℕ → List ℕ → List ℕ
+unfolding digits
+allDigits [] ss = []
+allDigits (w ∷ ws) [] = []
+allDigits (w ∷ ws) (s ∷ ss) = digits w s ++ allDigits ws ss
+
+-- the bits of the first n blocks, each reduced to its eight numbers by 2^b times the rows of matrix (39)
+unfoldable pub blockMessages : ℕ → ℕ → List ℤ → List ℕ
+unfolding allDigits
+blockMessages b zero v = []
+blockMessages b (suc n) v = blockMessages b n v ++ allDigits (widths b) (reduced (2 ^ (b - 1)) (part n v))
+
+-- all message bits of a frame, in their order
+unfoldable pub readBits : ℕ → ℕ → List ℤ → List ℕ
+unfolding levelMessages blockMessages quotients degrees levels
+readBits k b f = levelMessages k 0 (degrees k) f ++ blockMessages b (blocks k) (quotients (levels k) f)
+
+-- THE MESSAGE of a frame of the coding set: its bits as bytes, spare bits 0
+unfoldable pub openMessage : ℕ → ℕ → List ℤ → List ℕ
+unfolding readBits messageBytes
+openMessage k b f = bytesOf (messageBytes k b) (λ i. getD (readBits k b f) i 0)
+
+-- ---- the refusals of the readings
+
+-- the whole numbers a and b are the same
+abbrev pub sameNumber : ℤ → ℤ → Bool
+sameNumber (pos a) (pos b) = eqb a b
+sameNumber (pos a) (negsuc b) = false
+sameNumber (negsuc a) (pos b) = false
+sameNumber (negsuc a) (negsuc b) = eqb a b
+
+-- the frames f and g are the same
+unfoldable pub sameFrame : List ℤ → List ℤ → Bool
+sameFrame [] [] = true
+sameFrame [] (y ∷ g) = false
+sameFrame (x ∷ f) [] = false
+sameFrame (x ∷ f) (y ∷ g) = sameNumber x y && sameFrame f g
+
+-- every coordinate is from −1,048,576 to 1,048,576
+unfoldable pub inRange : List ℤ → Bool
+inRange [] = true
+inRange (z ∷ f) = leb (natAbs z) 1048576 && inRange f
+
+-- the numbers for a broken level 0 and a broken level 1
+abbrev pub brokenNumber : ℕ → ℕ
+brokenNumber i = getD (7 ∷ 8 ∷ []) i 0
+
+-- the number of the first level from i on that is not a codeword, 0 where each one is
+unfoldable pub broken : ℕ → ℕ → List ℕ → List ℤ → ℕ
+broken m i [] f = 0
+broken m i (r ∷ rs) f = unless (belongs r m (levelWord i f)) (brokenNumber i) (broken m (suc i) rs f)
+
+-- the open reading tests 1, 2, 4, 3, then 6 over all coordinates, then 7 and 8; n message bytes are lent
+unfoldable pub openRefusal : ℕ → ℕ → List ℤ → ℕ → ℕ
+unfolding isKind isGrade messageBytes inRange broken degrees
+openRefusal k b f n =
+    unless (isKind k) 1
+    (unless (isGrade b) 2
+    (unless (eqb (length f) (2 ^ k)) 4
+    (unless (eqb n (messageBytes k b)) 3
+    (unless (inRange f) 6
+    (broken k 0 (degrees k) f)))))
+
+-- the frame is the one sent for its message
+unfoldable pub isSent : ℕ → ℕ → List ℤ → Bool
+unfolding sameFrame sentFrame openMessage
+isSent k b f = sameFrame f (sentFrame k b (openMessage k b f))
+
+-- the strict reading tests what the open reading does, and then 9
+unfoldable pub strictRefusal : ℕ → ℕ → List ℤ → ℕ → ℕ
+unfolding openRefusal isSent
+strictRefusal k b f n = cond (eqb (openRefusal k b f n) 0) (unless (isSent k b f) 9 0) (openRefusal k b f n)
+
+-- ---- what a reading that answers `number` leaves: the message of the frame and the frame's energy, or the lent bytes as they were and 0
+
+unfoldable pub messageAfter : ℕ → ℕ → ℕ → List ℤ → List ℕ → List ℕ
+unfolding openMessage
+messageAfter number k b f bytes = cond (eqb number 0) (openMessage k b f) bytes
+
+unfoldable pub energyRead : ℕ → List ℤ → ℕ
+unfolding energy
+energyRead number f = cond (eqb number 0) (energy f) 0

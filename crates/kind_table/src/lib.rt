@@ -1,0 +1,79 @@
+// The table of kinds, as functions: what a row of it says. A further kind is a case more in each.
+ghost use mathlib.Core.Path.{_≡_};
+ghost use mathlib.Core.Bool.{true};
+ghost use Prim.Native.Nat.{_<_, _≤_, _^_};
+ghost use lib.ListN.{getD};
+ghost use Rattle.frames.specs.Kind.{isKind, degrees, levels as levelsOf, levelBits, messageBits, messageBytes};
+
+// Whether there is such a kind.
+pub fn is_kind(kind: u8) -> bool
+    ensures { λ r. ⌜ r ≡ isKind kind ⌝ }
+{
+    if kind == 3 {
+        return true;
+    }
+    if kind == 4 {
+        return true;
+    }
+    kind == 5
+}
+
+// The number of levels.
+pub fn levels(kind: u8) -> usize
+    requires { ⌜ isKind kind ≡ true ⌝ }
+    ensures { λ r. ⌜ r ≡ levelsOf kind ⌝ }
+{
+    if kind == 3 {
+        return 1;
+    }
+    2
+}
+
+// The degree of the code of a level.
+pub fn degree(kind: u8, level: usize) -> usize
+    requires { ⌜ (isKind kind ≡ true) × (level < levelsOf kind) ⌝ }
+    ensures { λ r. ⌜ r ≡ getD (degrees kind) level 0 ⌝ }
+{
+    if level == 0 {
+        return 1;
+    }
+    3
+}
+
+// The number of coordinates.
+pub fn positions(kind: u8) -> usize
+    requires { ⌜ isKind kind ≡ true ⌝ }
+    ensures { λ r. ⌜ r ≡ 2 ^ kind ⌝ }
+{
+    1usize << kind
+}
+
+// The message bits of the levels together.
+pub fn level_bits(kind: u8) -> usize
+    requires { ⌜ isKind kind ≡ true ⌝ }
+    ensures { λ r. ⌜ r ≡ levelBits kind ⌝ }
+{
+    if kind == 3 {
+        return 4;
+    }
+    if kind == 4 {
+        return 20;
+    }
+    32
+}
+
+// The message bits.
+pub fn message_bits(kind: u8, grade: usize) -> usize
+    requires { ⌜ (isKind kind ≡ true) × (grade ≤ 4) ⌝ }
+    ensures { λ r. ⌜ r ≡ messageBits kind grade ⌝ }
+{
+    level_bits(kind) + positions(kind) * grade
+}
+
+// The message bytes: the bits, filled up to whole bytes.
+pub fn message_bytes(kind: u8, grade: usize) -> usize
+    requires { ⌜ (isKind kind ≡ true) × (grade ≤ 4) ⌝ }
+    ensures { λ r. ⌜ r ≡ messageBytes kind grade ⌝ }
+{
+    (message_bits(kind, grade) + 7) / 8
+}
