@@ -9,4 +9,7 @@ pub mod Codeword
 pub mod Belongs
 pub mod MaskTables
 pub mod Message
+pub mod Digits
+pub mod Stages
+pub mod Held
 pub mod Examples

@@ -1,13 +1,14 @@
 -- The constant tables of masks, places and dimensions, one record of computed tests for each length. Assumes nothing.
-use Prim.Native.Nat.{ℕ, suc, _^_, _≤_, _<_}
+use Prim.Native.Nat.{ℕ, suc, _+_, _-_, _%_, _^_, _≤_, _<_}
 use mathlib.Core.Path.{_≡_, refl, sym, ap, _∙_, subst}
 use mathlib.Core.List.{List, [], _∷_}
 use native.Mathlib.Omega.{arith}
 use lib.Count.{ones}
 use lib.ListN.{getD}
-use lib.Pow.{pow-mono}
+use lib.Pow.{pow-mono, pow-add}
 use Rattle.reed_muller.specs.Level.{ofWeight, masks, order, place, table, dimension, Tabled}
 use Rattle.reed_muller.proofs.Table.{table-at}
+use Rattle.reed_muller.proofs.Order.{order-below}
 
 -- the tables of length 2 ^ m: the masks in order, their places, the dimensions for r = 0, .., m
 pub record Right (m : ℕ) (os ps ds : List ℕ) : Type 0 where
@@ -45,8 +46,11 @@ right-32 = record { orders = refl; places = refl; dimensions = refl }
 -- ---- an entry of the tables of length 2 ^ n, read where m is n
 
 module _ {m n : ℕ} (e : m ≡ n) {os ps ds : List ℕ} (t : Right n os ps ds) where
+  pub order-entry : os ≡ order m
+  order-entry = t .orders ∙ ap order (sym e)
+
   pub mask-entry : (k : ℕ) → getD os k 0 ≡ getD (order m) k 0
-  mask-entry k = ap (λ (xs : List ℕ). getD xs k 0) (t .orders ∙ ap order (sym e))
+  mask-entry k = ap (λ (xs : List ℕ). getD xs k 0) order-entry
 
   pub place-entry : (S : ℕ) → S < 2 ^ n → getD ps S 0 ≡ place (order m) S
   place-entry S h =
@@ -67,3 +71,11 @@ last h a b = omega arith
 -- the words are short
 pub short : {m : ℕ} → Tabled m → 2 ^ m ≤ 64
 short h = pow-mono {j = 6} (omega arith)
+
+-- and so are the masks
+pub mask-short : {m k S : ℕ} → Tabled m → k < 2 ^ m → S ≡ getD (order m) k 0 → S < 64
+mask-short {m} {k} h l e = omega (arith, short h, order-below m k l)
+
+-- they are a whole number of eights
+pub eights : {m : ℕ} → Tabled m → 2 ^ m % 8 ≡ 0
+eights {m} h = let e : m ≡ 3 + (m - 3) = omega arith in omega (arith, ap (λ (i : ℕ). 2 ^ i) e, pow-add 2 3 (m - 3))

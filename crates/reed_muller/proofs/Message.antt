@@ -28,11 +28,11 @@ number-lt b zero h = omega arith
 number-lt b (suc n) h =
     rw pow-suc (omega (arith, number-lt b n (λ i l. h i (omega arith)), mul-le-mul-right (2 ^ n) (le-of-suc-le-suc (h n (omega arith)))))
 
-div-suc : (x i : ℕ) → x / 2 ^ suc i ≡ x / 2 / 2 ^ i
+pub div-suc : (x i : ℕ) → x / 2 ^ suc i ≡ x / 2 / 2 ^ i
 div-suc x i = sym (shr-shr x 1 i ∙ ap (λ (j : ℕ). x / 2 ^ j) (omega arith))
 
 -- digit i of a number, under a higher digit
-under : (x c n i : ℕ) → i < n → (c * 2 ^ n + x) / 2 ^ i % 2 ≡ x / 2 ^ i % 2
+pub under : (x c n i : ℕ) → i < n → (c * 2 ^ n + x) / 2 ^ i % 2 ≡ x / 2 ^ i % 2
 under x c (suc n) zero h = ap (λ (y : ℕ). y % 2) (div-one (c * 2 ^ suc n + x)) ∙ block-odd c n x ∙ sym (ap (λ (y : ℕ). y % 2) (div-one x))
 under x c (suc n) (suc i) h =
     ap (λ (y : ℕ). y % 2) (div-suc (c * 2 ^ suc n + x) i ∙ ap (λ (y : ℕ). y / 2 ^ i) (block-half c n x))

@@ -1,17 +1,19 @@
 // Level codes: the order of masks, codewords of RM(r,m) and the way back, and the bits of a message's bytes.
-// Length 2 ^ m is wanted where a word is lent; `Tabled m` says which lengths have a table of masks.
+// A word is a lent slice of 2 ^ m bytes; where it is only read, bytes past these do not count. `Tabled m`: length 2 ^ m has a table of masks.
+// The work is done on a whole word at once, held in a number: bit p is the value at p.
 ghost use mathlib.Core.Path.{_≡_};
-ghost use Prim.Native.Nat.{ℕ, _+_, _*_, _^_, _<_, _≤_};
+ghost use Prim.Native.Nat.{ℕ, _+_, _*_, _/_, _%_, _^_, _<_, _≤_};
+ghost use lib.Dec.{leb, ltb};
 ghost use lib.ListN.{length, getD};
-ghost use Rattle.reed_muller.specs.Level.{table, order, place, dimension, codeword, backwards, belongs, Tabled};
+ghost use Rattle.reed_muller.specs.Level.{given, weight, table, order, place, dimension, codeword, backwards, belongs, Tabled};
 ghost use Rattle.reed_muller.specs.Message.{messageBit, bytesOf, withBit, withBits};
 
 // The masks of each length by number of set bits, then by value.
-const ORDER_8: [usize; 8] = [0, 1, 2, 4, 3, 5, 6, 7];
+const ORDER_8: [u8; 8] = [0, 1, 2, 4, 3, 5, 6, 7];
 
-const ORDER_16: [usize; 16] = [0, 1, 2, 4, 8, 3, 5, 6, 9, 10, 12, 7, 11, 13, 14, 15];
+const ORDER_16: [u8; 16] = [0, 1, 2, 4, 8, 3, 5, 6, 9, 10, 12, 7, 11, 13, 14, 15];
 
-const ORDER_32: [usize; 32] = [
+const ORDER_32: [u8; 32] = [
     0,
     1,
     2,
@@ -93,18 +95,46 @@ const DIMENSION_16: [usize; 5] = [1, 5, 11, 15, 16];
 
 const DIMENSION_32: [usize; 6] = [1, 6, 16, 26, 31, 32];
 
+// The positions with digit j set, as a word held in a number.
+const DIGIT: [u64; 6] = [
+    0xaaaa_aaaa_aaaa_aaaa,
+    0xcccc_cccc_cccc_cccc,
+    0xf0f0_f0f0_f0f0_f0f0,
+    0xff00_ff00_ff00_ff00,
+    0xffff_0000_ffff_0000,
+    0xffff_ffff_0000_0000,
+];
+
+// The masks with more than r bits set, as a word held in a number.
+const HEAVY: [u64; 7] = [
+    0xffff_ffff_ffff_fffe,
+    0xffff_fffe_fffe_fee8,
+    0xfffe_fee8_fee8_e880,
+    0xfee8_e880_e880_8000,
+    0xe880_8000_8000_0000,
+    0x8000_0000_0000_0000,
+    0,
+];
+
+// A byte as an index.
+fn wide(x: u8) -> usize
+    ensures { λ y. ⌜ y ≡ x ⌝ }
+{
+    x as usize
+}
+
 // The mask at place k of the order.
 pub fn mask_at(m: usize, k: usize) -> usize
     requires { ⌜ Tabled m × (k < 2 ^ m) ⌝ }
     ensures { λ S. ⌜ S ≡ getD (order m) k 0 ⌝ }
 {
     if m == 3 {
-        return ORDER_8[k];
+        return wide(ORDER_8[k]);
     }
     if m == 4 {
-        return ORDER_16[k];
+        return wide(ORDER_16[k]);
     }
-    ORDER_32[k]
+    wide(ORDER_32[k])
 }
 
 // The place of a mask in the order.
@@ -181,19 +211,6 @@ pub fn value_at(message: &[u8], from: usize, m: usize, r: usize, p: usize) -> u8
     s
 }
 
-// The codeword of RM(r,m) of the message bits from bit `from` on.
-pub fn encode(message: &[u8], from: usize, m: usize, r: usize, word: &mut [u8])
-    requires { ⌜ Tabled m × (r ≤ m) × (from ≤ 1000) × (from + dimension r m ≤ 8 * length (now message)) × (length (now word) ≡ 2 ^ m) ⌝ }
-    ensures { λ _. ⌜ now (word .exit) ≡ table (2 ^ m) (codeword r m (λ k. messageBit (now (message .entry)) (from + k))) ⌝ }
-{
-    let n = positions(m);
-    let mut p: usize = 0;
-    while p < n {
-        word[p] = value_at(message, from, m, r, p);
-        p += 1;
-    }
-}
-
 // Backwards: the bit of a mask. Any byte is taken as a value; only its parity counts.
 pub fn bit_of_mask(word: &[u8], m: usize, mask: usize) -> u8
     requires { ⌜ Tabled m × (2 ^ m ≤ length (now word)) ⌝ }
@@ -211,20 +228,164 @@ pub fn bit_of_mask(word: &[u8], m: usize, mask: usize) -> u8
     s
 }
 
-// Whether a word belongs to RM(r,m): the bit is 0 for every mask of the order from the dimension on.
+// The positions with digit j set.
+fn with_digit(j: usize) -> u64
+    requires { ⌜ j < 6 ⌝ }
+    ensures { λ s. ⌜ ((p : ℕ) → p < 64 → s / 2 ^ p % 2 ≡ p / 2 ^ j % 2) ⌝ }
+{
+    DIGIT[j]
+}
+
+// Backwards, all masks at once, of a word held in a number: stage j adds to each value with digit j set the one without it.
+fn transformed(w: u64) -> u64
+    ensures { λ t. ⌜ ((m S : ℕ) → m ≤ 6 → S < 2 ^ m → t / 2 ^ S % 2 ≡ backwards m (λ p. w / 2 ^ p % 2) S) ⌝ }
+{
+    let mut t = w;
+    let mut j: usize = 0;
+    while j < 6 {
+        t = t ^ ((t << (1usize << j)) & with_digit(j));
+        j += 1;
+    }
+    t
+}
+
+// The parities of a word, held in a number.
+fn parities(word: &[u8], m: usize) -> u64
+    requires { ⌜ Tabled m × (2 ^ m ≤ length (now word)) ⌝ }
+    ensures { λ w. ⌜ ((p : ℕ) → p < 2 ^ m → w / 2 ^ p % 2 ≡ getD (now (word .entry)) p 0 % 2) ⌝ }
+{
+    let mut w: u64 = 0;
+    let mut p = positions(m);
+    while 0 < p {
+        p -= 1;
+        w = 2 * w + (word[p] % 2) as u64;
+    }
+    w
+}
+
+// The message bits from bit `from` on, each at its mask, held in a number.
+fn coefficients(message: &[u8], from: usize, m: usize, r: usize, masks: &[u8]) -> u64
+    requires { ⌜ Tabled m × (r ≤ m) × (from ≤ 1000) × (from + dimension r m ≤ 8 * length (now message)) × (now masks ≡ order m) ⌝ }
+    ensures { λ w. ⌜ ((S : ℕ) → S < 2 ^ m → w / 2 ^ S % 2 ≡ given (leb (weight S) r) (messageBit (now (message .entry)) (from + place (order m) S))) ⌝ }
+{
+    let count = dimension_of(m, r);
+    let mut w: u64 = 0;
+    let mut k: usize = 0;
+    while k < count {
+        w = w ^ ((bit(message, from + k) as u64) << masks[k]);
+        k += 1;
+    }
+    w
+}
+
+// The codeword of RM(r,m) of the message bits from bit `from` on, held in a number.
+fn codeword_by(message: &[u8], from: usize, m: usize, r: usize, masks: &[u8]) -> u64
+    requires { ⌜ Tabled m × (r ≤ m) × (from ≤ 1000) × (from + dimension r m ≤ 8 * length (now message)) × (now masks ≡ order m) ⌝ }
+    ensures { λ w. ⌜ ((p : ℕ) → p < 2 ^ m → w / 2 ^ p % 2 ≡ codeword r m (λ k. messageBit (now (message .entry)) (from + k)) p) ⌝ }
+{
+    transformed(coefficients(message, from, m, r, masks))
+}
+
+// The same, by the table of masks of its length.
+fn codeword_of(message: &[u8], from: usize, m: usize, r: usize) -> u64
+    requires { ⌜ Tabled m × (r ≤ m) × (from ≤ 1000) × (from + dimension r m ≤ 8 * length (now message)) ⌝ }
+    ensures { λ w. ⌜ ((p : ℕ) → p < 2 ^ m → w / 2 ^ p % 2 ≡ codeword r m (λ k. messageBit (now (message .entry)) (from + k)) p) ⌝ }
+{
+    if m == 3 {
+        return codeword_by(message, from, m, r, &ORDER_8);
+    }
+    if m == 4 {
+        return codeword_by(message, from, m, r, &ORDER_16);
+    }
+    codeword_by(message, from, m, r, &ORDER_32)
+}
+
+// The bits of all masks, held in a number.
+fn bits_of_masks(word: &[u8], m: usize) -> u64
+    requires { ⌜ Tabled m × (2 ^ m ≤ length (now word)) ⌝ }
+    ensures { λ b. ⌜ ((S : ℕ) → S < 2 ^ m → b / 2 ^ S % 2 ≡ backwards m (λ p. getD (now (word .entry)) p 0) S) ⌝ }
+{
+    transformed(parities(word, m))
+}
+
+// The first eight values of a word held in a number.
+fn put_eight(w: u64, out: &mut [u8])
+    requires { ⌜ length (now out) ≡ 8 ⌝ }
+    ensures { λ _. ⌜ now (out .exit) ≡ table 8 (λ p. w / 2 ^ p % 2) ⌝ }
+{
+    let mut p: usize = 0;
+    while p < 8 {
+        out[p] = ((w >> p) % 2) as u8;
+        p += 1;
+    }
+}
+
+// The codeword of RM(r,m) of the message bits from bit `from` on.
+pub fn encode(message: &[u8], from: usize, m: usize, r: usize, word: &mut [u8])
+    requires { ⌜ Tabled m × (r ≤ m) × (from ≤ 1000) × (from + dimension r m ≤ 8 * length (now message)) × (length (now word) ≡ 2 ^ m) ⌝ }
+    ensures { λ _. ⌜ now (word .exit) ≡ table (2 ^ m) (codeword r m (λ k. messageBit (now (message .entry)) (from + k))) ⌝ }
+{
+    let n = positions(m);
+    let w = codeword_of(message, from, m, r);
+    let mut p: usize = 0;
+    while p < n {
+        let e = p + 8;
+        put_eight(w >> p, &mut word[p..e]);
+        p = e;
+    }
+}
+
+// The masks with more than r bits set.
+fn heavy(r: usize) -> u64
+    requires { ⌜ r < 7 ⌝ }
+    ensures { λ h. ⌜ ((S : ℕ) → S < 64 → h / 2 ^ S % 2 ≡ given (ltb r (weight S)) 1) ⌝ }
+{
+    HEAVY[r]
+}
+
+// Whether a word belongs to RM(r,m): the bit is 0 for every mask with more than r bits set.
 pub fn is_codeword(word: &[u8], m: usize, r: usize) -> bool
     requires { ⌜ Tabled m × (r ≤ m) × (2 ^ m ≤ length (now word)) ⌝ }
     ensures { λ b. ⌜ b ≡ belongs r m (λ p. getD (now (word .entry)) p 0) ⌝ }
 {
-    let last = positions(m) - 1;
+    let bits = bits_of_masks(word, m) & heavy(r);
+    bits << (64 - positions(m)) == 0
+}
+
+// The bits of the masks of RM(r,m) in their order, held in a number.
+fn in_order(bits: u64, m: usize, r: usize, masks: &[u8]) -> u64
+    requires { ⌜ Tabled m × (r ≤ m) × (now masks ≡ order m) ⌝ }
+    ensures { λ b. ⌜ ((k : ℕ) → k < dimension r m → b / 2 ^ k % 2 ≡ bits / 2 ^ getD (order m) k 0 % 2) ⌝ }
+{
+    let mut b: u64 = 0;
     let mut k = dimension_of(m, r);
-    while k <= last {
-        if bit_of_mask(word, m, mask_at(m, k)) != 0 {
-            return false;
-        }
-        k += 1;
+    while 0 < k {
+        k -= 1;
+        b = 2 * b + (bits >> masks[k]) % 2;
     }
-    true
+    b
+}
+
+// A level's message bits, held in a number.
+fn message_by(word: &[u8], m: usize, r: usize, masks: &[u8]) -> u64
+    requires { ⌜ Tabled m × (r ≤ m) × (2 ^ m ≤ length (now word)) × (now masks ≡ order m) ⌝ }
+    ensures { λ b. ⌜ ((k : ℕ) → k < dimension r m → b / 2 ^ k % 2 ≡ backwards m (λ p. getD (now (word .entry)) p 0) (getD (order m) k 0)) ⌝ }
+{
+    in_order(bits_of_masks(word, m), m, r, masks)
+}
+
+// The same, by the table of masks of its length.
+fn message_of(word: &[u8], m: usize, r: usize) -> u64
+    requires { ⌜ Tabled m × (r ≤ m) × (2 ^ m ≤ length (now word)) ⌝ }
+    ensures { λ b. ⌜ ((k : ℕ) → k < dimension r m → b / 2 ^ k % 2 ≡ backwards m (λ p. getD (now (word .entry)) p 0) (getD (order m) k 0)) ⌝ }
+{
+    if m == 3 {
+        return message_by(word, m, r, &ORDER_8);
+    }
+    if m == 4 {
+        return message_by(word, m, r, &ORDER_16);
+    }
+    message_by(word, m, r, &ORDER_32)
 }
 
 // Writes a level's message bits into `out` from bit `from` on, and leaves every other bit as it was.
@@ -234,9 +395,10 @@ pub fn read_level(word: &[u8], m: usize, r: usize, out: &mut [u8], from: usize)
         (withBits from (dimension r m) (λ k. backwards m (λ p. getD (now (word .entry)) p 0) (getD (order m) k 0)) (messageBit (now (out .entry)))) ⌝ }
 {
     let count = dimension_of(m, r);
+    let bits = message_of(word, m, r);
     let mut k: usize = 0;
     while k < count {
-        put_bit(out, from + k, bit_of_mask(word, m, mask_at(m, k)));
+        put_bit(out, from + k, ((bits >> k) % 2) as u8);
         k += 1;
     }
 }

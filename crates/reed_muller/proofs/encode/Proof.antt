@@ -1,13 +1,17 @@
 -- `encode`: the loop has filled the word below p. Assumes nothing.
-use Prim.Native.Nat.{ℕ, _+_, _-_, _^_, _≤_}
-use mathlib.Core.Path.{_≡_, sym, subst, _∙_}
+use Prim.Native.Nat.{ℕ, _+_, _-_, _%_, _^_, _≤_}
+use mathlib.Core.Path.{_≡_, refl, sym, subst, _∙_}
 use mathlib.Core.List.{List}
 use native.Mathlib.Omega.{arith}
-use lib.ListN.{length, take, length-set}
+use lib.ListN.{length, take, length-take, length-drop}
 use lib.Seq.{take-all}
+use borrow.Rule.Slice.PartMut.{same-len-mid}
+use borrow.Author.Needs.{needs}
 use Rattle.reed_muller.specs.Level.{table, codeword}
 use Rattle.reed_muller.specs.Message.{messageBit}
-use Rattle.reed_muller.proofs.Table.{table-none, table-more}
+use Rattle.reed_muller.proofs.Table.{table-none, table-ext, table-part}
+use Rattle.reed_muller.proofs.MaskTables.{short, eights}
+use Rattle.reed_muller.proofs.Digits.{digit-from}
 use Rattle.reed_muller.proofs.encode.Statement.{statement}
 use Rattle.reed_muller.proofs.encode.Tie as tie
 
@@ -16,37 +20,59 @@ abbrev value : List ℕ → ℕ → ℕ → ℕ → ℕ → ℕ
 value message from m r = codeword r m (λ k. messageBit message (from + k))
 
 abbrev Inv-loop : tie.InvT-loop
-Inv-loop message from m r word₀ n p₀ word p =
-    (p ≤ n) × (length word ≡ 2 ^ m) × (take p word ≡ table p (value message from m r))
+Inv-loop message from m r word₀ n w p₀ word p =
+    (p ≤ n) × (p % 8 ≡ 0) × (length word ≡ 2 ^ m) × (take p word ≡ table p (value message from m r))
 
 abbrev μ-loop : tie.MeasureT-loop
-μ-loop message from m r word₀ n p₀ word p = n - p
+μ-loop message from m r word₀ n w p₀ word p = n - p
 
 positions-requires : tie.Need-positions-requires Inv-loop μ-loop
 positions-requires c κs = omega arith
 
+codeword-of-requires : tie.Need-codeword-of-requires Inv-loop μ-loop
+codeword-of-requires c κs = omega arith
+
 loop-holds : tie.Need-loop-holds Inv-loop μ-loop
-loop-holds c = (omega arith, omega arith, table-none _)
+loop-holds c = (omega arith, refl, omega arith, table-none _)
 
-value-at-requires : tie.Need-value-at-requires Inv-loop μ-loop
-value-at-requires c κs = omega arith
+add-e : tie.Need-add-e Inv-loop μ-loop
+add-e c = omega (arith, short (c .before .before .before .before .before .before .pre .0))
 
-slice-write-word : tie.Need-slice-write-word Inv-loop μ-loop
-slice-write-word c = omega arith
+shr-put-eight : tie.Need-shr-put-eight Inv-loop μ-loop
+shr-put-eight c = omega (arith, short (c .before .before .before .before .before .before .pre .0))
 
-add-p : tie.Need-add-p Inv-loop μ-loop
-add-p c = omega arith
+sub-put-eight : tie.Need-sub-put-eight Inv-loop μ-loop
+sub-put-eight c = omega arith
+
+part-put-eight-start : tie.Need-part-put-eight-start Inv-loop μ-loop
+part-put-eight-start c = search needs
+
+part-put-eight-end : tie.Need-part-put-eight-end Inv-loop μ-loop
+part-put-eight-end c = omega (arith, eights (c .before .before .before .before .before .before .pre .0))
+
+put-eight-requires : tie.Need-put-eight-requires Inv-loop μ-loop
+put-eight-requires c κs =
+    let start = c .before .before .before .before .before .before .before in
+    simp (length-take, length-drop) (omega (arith, eights (start .pre .0)))
 
 loop-less : tie.Need-loop-less Inv-loop μ-loop
 loop-less c = omega arith
 
 loop-again : tie.Need-loop-again Inv-loop μ-loop
 loop-again c =
-    let at = c .before .before in
-    let args = at .before .before .before .before .args in (
+    let put = c .before .before in
+    let at = put .before .before .before in
+    let start = at .before .before .before .before .before in
+    let args = start .args in
+    let p : ℕ = at .loop .p in
+    let f : ℕ → ℕ = value (args .message .now) (args .from) (args .m) (args .r) in
+    let room : p + 8 ≤ 2 ^ args .m = omega (arith, eights (start .pre .0)) in
+    let eight : put .put-eight .last .1 .0 ≡ table 8 (λ i. f (p + i)) =
+    put .put-eight .ensures ∙ table-ext 8 (λ i l. digit-from (at .before .codeword-of .result) p i ∙ at .before .codeword-of .ensures (p + i) (omega arith)) in (
       omega arith,
-      length-set (at .loop .word) (at .loop .p) (c .value-at .result) ∙ at .loop .inv .1,
-      table-more (value (args .message .now) (args .from) (args .m) (args .r)) (at .loop .word) (at .loop .p) (c .value-at .result) (omega arith) (c .value-at .ensures) (at .loop .inv .2),
+      omega arith,
+      same-len-mid p (p + 8 - p) (at .loop .word) (put .put-eight .last .1 .0) (put .put-eight .kept .1 .0) ∙ at .loop .inv .2,
+      table-part f (at .loop .word) p 8 (put .put-eight .last .1 .0) _ (omega arith) eight (at .loop .inv .3),
     )
 
 same-length : tie.Need-same-length Inv-loop μ-loop
@@ -55,10 +81,10 @@ same-length c = omega arith
 returns : tie.Need-returns Inv-loop μ-loop
 returns c =
     let at = c .before in
-    let args = at .before .before .before .before .args in
-    let e : at .loop .p ≡ 2 ^ args .m = omega (arith, at .before .positions .ensures) in
+    let args = at .before .before .before .before .before .args in
+    let e : at .loop .p ≡ 2 ^ args .m = omega (arith, at .before .before .positions .ensures) in
     sym (take-all (2 ^ args .m) (at .loop .word) (omega arith))
-    ∙ subst (λ (n : ℕ). take n (at .loop .word) ≡ table n (value (args .message .now) (args .from) (args .m) (args .r))) e (at .loop .inv .2)
+    ∙ subst (λ (n : ℕ). take n (at .loop .word) ≡ table n (value (args .message .now) (args .from) (args .m) (args .r))) e (at .loop .inv .3)
 
 pub encode-spec : {M : Type 1} → statement M
 encode-spec =
@@ -67,10 +93,14 @@ encode-spec =
     Inv-loop
     μ-loop
     positions-requires
+    codeword-of-requires
     loop-holds
-    value-at-requires
-    slice-write-word
-    add-p
+    add-e
+    shr-put-eight
+    sub-put-eight
+    part-put-eight-start
+    part-put-eight-end
+    put-eight-requires
     loop-less
     loop-again
     same-length

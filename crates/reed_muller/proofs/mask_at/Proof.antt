@@ -1,53 +1,51 @@
 -- `mask_at`: the entry of the table of masks of each length. Assumes nothing.
-use mathlib.Core.Path.{_≡_}
-use native.Mathlib.Omega.{arith}
+use mathlib.Core.Path.{_∙_}
+use borrow.Author.Needs.{needs}
 use Rattle.reed_muller.proofs.MaskTables.{right-8, right-16, right-32, mask-entry, inside, last}
 use Rattle.reed_muller.proofs.mask_at.Statement.{statement}
 use Rattle.reed_muller.proofs.mask_at.Tie as tie
-use Rattle.reed_muller.proofs.mask_at.Reads as reads
-use Rattle.reed_muller.proofs.mask_at.Lts as lts
 
--- the tests leave the last length
-is-last : (c : lts.Else2 reads.Pre reads.Post) → c .before .before .args .m ≡ 5
-is-last c = last (c .before .before .pre .0) (c .before .if1 .left) (c .if2 .left)
+array-read-wide : tie.Need-array-read-wide
+array-read-wide c = inside (c .if1 .taken) (c .before .pre .1)
 
-array-read-result : tie.Need-array-read-result
-array-read-result c = inside (c .if1 .taken) (c .before .pre .1)
-
-mul-result : tie.Need-mul-result
-mul-result c = omega (arith, inside (c .if1 .taken) (c .before .pre .1))
+wide-requires : tie.Need-wide-requires
+wide-requires c κs = search needs
 
 returns : tie.Need-returns
-returns c = mask-entry (c .if1 .taken) right-8 (c .before .args .k)
+returns c = c .wide .ensures ∙ mask-entry (c .before .if1 .taken) right-8 (c .before .before .args .k)
 
-array-read-result-2 : tie.Need-array-read-result-2
-array-read-result-2 c = inside (c .if2 .taken) (c .before .before .pre .1)
+array-read-wide-2 : tie.Need-array-read-wide-2
+array-read-wide-2 c = inside (c .if2 .taken) (c .before .before .pre .1)
 
-mul-result-2 : tie.Need-mul-result-2
-mul-result-2 c = omega (arith, inside (c .if2 .taken) (c .before .before .pre .1))
+wide-requires-2 : tie.Need-wide-requires-2
+wide-requires-2 c κs = search needs
 
 returns-2 : tie.Need-returns-2
-returns-2 c = mask-entry (c .if2 .taken) right-16 (c .before .before .args .k)
+returns-2 c = c .wide2 .ensures ∙ mask-entry (c .before .if2 .taken) right-16 (c .before .before .before .args .k)
 
-array-read-result-3 : tie.Need-array-read-result-3
-array-read-result-3 c = inside (is-last c) (c .before .before .pre .1)
+array-read-wide-3 : tie.Need-array-read-wide-3
+array-read-wide-3 c =
+    let start = c .before .before in inside (last (start .pre .0) (c .before .if1 .left) (c .if2 .left)) (start .pre .1)
 
-mul-result-3 : tie.Need-mul-result-3
-mul-result-3 c = omega (arith, inside (is-last c) (c .before .before .pre .1))
+wide-requires-3 : tie.Need-wide-requires-3
+wide-requires-3 c κs = search needs
 
 returns-3 : tie.Need-returns-3
-returns-3 c = mask-entry (is-last c) right-32 (c .before .before .args .k)
+returns-3 c =
+    let at = c .before in
+    let start = at .before .before in
+    c .wide3 .ensures ∙ mask-entry (last (start .pre .0) (at .before .if1 .left) (at .if2 .left)) right-32 (start .args .k)
 
 pub mask-at-spec : {M : Type 1} → statement M
 mask-at-spec =
     tie.close
     (tie.spec
-    mul-result
-    array-read-result
+    array-read-wide
+    wide-requires
     returns
-    mul-result-2
-    array-read-result-2
+    array-read-wide-2
+    wide-requires-2
     returns-2
-    mul-result-3
-    array-read-result-3
+    array-read-wide-3
+    wide-requires-3
     returns-3)

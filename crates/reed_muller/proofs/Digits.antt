@@ -1,0 +1,103 @@
+-- Binary digits of numbers that are added modulo 2, masked, shifted and doubled. Assumes nothing.
+use Prim.Native.Nat.{ℕ, zero, suc, _+_, _-_, _*_, _/_, _%_, _^_, _≤_, _<_, min}
+use mathlib.Core.Path.{_≡_, refl, sym, ap, _∙_}
+use native.Mathlib.Nat.{add-zero, min-zero, min-le-left, min-eq-left, div-one, div-eq-of-lt, zero-div, mod-eq-of-lt, pow-suc}
+use native.Mathlib.Decide.{decLt, ℕ-discrete}
+use native.Mathlib.Omega.{arith}
+use lib.Pow.{split, shl-shr, shr-shr, pow-mono}
+use lib.Bits.{bitAnd, bitXor, and-step, and-shr, xor-step, xor-shr, differ}
+use borrow.Author.Tests.{eq-eqb, ne-eqb}
+use lib.Dec.{eqb}
+use Rattle.reed_muller.specs.Level.{given}
+use Rattle.reed_muller.proofs.Message.{under, div-suc}
+
+abbrev pub digit : ℕ → ℕ → ℕ
+digit x p = x / 2 ^ p % 2
+
+pub digit-small : (x p : ℕ) → digit x p < 2
+digit-small x p = omega arith
+
+pub digit-none : (p : ℕ) → digit 0 p ≡ 0
+digit-none p = ap (λ (x : ℕ). x % 2) (zero-div (2 ^ p))
+
+-- ---- sums modulo 2 and masks
+
+differ-parity : (x y : ℕ) → x < 2 → y < 2 → differ x y ≡ (x + y) % 2
+differ-parity zero y hx hy = omega arith
+differ-parity (suc zero) zero hx hy = refl
+differ-parity (suc zero) (suc zero) hx hy = refl
+differ-parity (suc zero) (suc (suc y)) hx hy = absurd (omega arith)
+differ-parity (suc (suc x)) y hx hy = absurd (omega arith)
+
+pub xor-digit : (a b p : ℕ) → digit (bitXor a b) p ≡ (digit a p + digit b p) % 2
+xor-digit a b p =
+    ap (λ (x : ℕ). x % 2) (xor-shr a b p)
+    ∙ omega (arith, xor-step (a / 2 ^ p) (b / 2 ^ p), differ-parity (digit a p) (digit b p) (omega arith) (omega arith))
+
+module _ (a b p : ℕ) where
+  and-min : digit (bitAnd a b) p ≡ min (digit a p) (digit b p)
+  and-min =
+      ap (λ (x : ℕ). x % 2) (and-shr a b p)
+      ∙ omega (arith, and-step (a / 2 ^ p) (b / 2 ^ p), min-le-left (digit a p) (digit b p))
+
+  pub and-clear : digit b p ≡ 0 → digit (bitAnd a b) p ≡ 0
+  and-clear e = and-min ∙ rw e (min-zero (digit a p))
+
+  pub and-keep : digit b p ≡ 1 → digit (bitAnd a b) p ≡ digit a p
+  and-keep e = and-min ∙ rw e (min-eq-left (omega arith))
+
+-- ---- shifts of numbers of W digits
+
+pub digit-mod : (x W p : ℕ) → p < W → digit (x % 2 ^ W) p ≡ digit x p
+digit-mod x W p h = sym (ap (λ (y : ℕ). digit y p) (sym (split x W)) ∙ under (x % 2 ^ W) (x / 2 ^ W) W p h)
+
+pub shift-digit : (x h W p : ℕ) → h ≤ p → p < W → digit (x * 2 ^ h % 2 ^ W) p ≡ digit x (p - h)
+shift-digit x h W p l u =
+    let e : p ≡ h + (p - h) = omega arith in
+    digit-mod (x * 2 ^ h) W p u
+    ∙ ap (λ (y : ℕ). y % 2)
+    (ap (λ (i : ℕ). x * 2 ^ h / 2 ^ i) e ∙ sym (shr-shr (x * 2 ^ h) h (p - h)) ∙ ap (λ (y : ℕ). y / 2 ^ (p - h)) (shl-shr x h))
+
+pub shift-low : (x h W p : ℕ) → p < h → p < W → digit (x * 2 ^ h % 2 ^ W) p ≡ 0
+shift-low x h W p l u =
+    digit-mod (x * 2 ^ h) W p u ∙ ap (λ (y : ℕ). digit y p) (sym (add-zero (x * 2 ^ h))) ∙ under 0 x h p l ∙ digit-none p
+
+-- the digits from p on
+pub digit-from : (x p i : ℕ) → digit (x / 2 ^ p) i ≡ digit x (p + i)
+digit-from x p i = ap (λ (y : ℕ). y % 2) (shr-shr x p i)
+
+-- a bit b at S
+pub bit-digit : (b S W p : ℕ) → b < 2 → p < W → digit (b * 2 ^ S % 2 ^ W) p ≡ given (eqb p S) b
+bit-digit b S W p hb u = go (ℕ-discrete p S) (decLt p S)
+  where
+    go : Dec (p ≡ S) → Dec (p < S) → digit (b * 2 ^ S % 2 ^ W) p ≡ given (eqb p S) b
+    go (yes e) l =
+        let z : p - S ≡ 0 = omega arith in
+        rw (eq-eqb p S e)
+        (shift-digit b S W p (omega arith) u ∙ ap (λ (i : ℕ). digit b i) z ∙ ap (λ (y : ℕ). y % 2) (div-one b) ∙ mod-eq-of-lt hb)
+    go (no n) (yes l) =
+        rw (ne-eqb p S n) (shift-low b S W p l u)
+    go (no n) (no k) =
+        rw (ne-eqb p S n)
+        (shift-digit b S W p (omega arith) u
+        ∙ ap (λ (y : ℕ). y % 2) (div-eq-of-lt (omega (arith, pow-mono {i = 1} {j = p - S} (omega arith)))))
+
+-- ---- one digit more, at the low end
+
+module _ (w x : ℕ) (h : x < 2) where
+  digit-first : digit (2 * w + x) 0 ≡ x
+  digit-first = ap (λ (y : ℕ). y % 2) (div-one (2 * w + x)) ∙ omega arith
+
+  digit-later : (i : ℕ) → digit (2 * w + x) (suc i) ≡ digit w i
+  digit-later i =
+      let e : (2 * w + x) / 2 ≡ w = omega arith in
+      ap (λ (y : ℕ). y % 2) (div-suc (2 * w + x) i ∙ ap (λ (y : ℕ). y / 2 ^ i) e)
+
+-- digits from p on, and the one before them
+module _ (f : ℕ → ℕ) (n p w : ℕ) (h : 0 < p) (small : f (p - 1) < 2) where
+  pub digits-more : ((i : ℕ) → p + i < n → digit w i ≡ f (p + i)) → (i : ℕ) → p - 1 + i < n → digit (2 * w + f (p - 1)) i ≡ f (p - 1 + i)
+  digits-more so zero l = digit-first w (f (p - 1)) small ∙ ap f (omega arith)
+  digits-more so (suc i) l = digit-later w (f (p - 1)) small i ∙ so i (omega arith) ∙ ap f (omega arith)
+
+  pub digits-fit : p ≤ n → w < 2 ^ (n - p) → 2 * w + f (p - 1) < 2 ^ (n - (p - 1))
+  digits-fit l b = let e : n - (p - 1) ≡ suc (n - p) = omega arith in rw (e, pow-suc) (omega arith)

@@ -1,0 +1,129 @@
+-- Words held in numbers, by the masks of the order: coefficients put one after another, and the test of a word. For every r ≤ m. Assumes nothing.
+use Prim.Native.Nat.{ℕ, _+_, _-_, _*_, _%_, _^_, _≤_, _<_}
+use mathlib.Core.Path.{_≡_, refl, sym, ap, _∙_}
+use mathlib.Core.Bool.{Bool, true, false, true≢false}
+use mathlib.Core.List.{List, [], _∷_}
+use native.Mathlib.Nat.{zero-mul, mod-lt, mod-eq-of-lt}
+use native.Mathlib.Decide.{decLt, decLe, ℕ-discrete}
+use native.Mathlib.Omega.{arith}
+use lib.Dec.{eqb, ltb, lit<}
+use lib.Bits.{bitAnd}
+use lib.Count.{ones}
+use lib.Pow.{pow-pos}
+use lib.ListN.{getD}
+use borrow.Author.Tests.{eq-eqb, ne-eqb, le-leb, lt-leb, lt-ltb, le-ltb}
+use Rattle.reed_muller.specs.Level.{sumTo, table, given, weight, order, place, dimension, backwards, belongs}
+use Rattle.reed_muller.proofs.Order.{order-place, place-order, place-light, order-light}
+use Rattle.reed_muller.proofs.Codeword.{coefficient}
+use Rattle.reed_muller.proofs.Belongs.{belongs-of, belongs-above}
+use Rattle.reed_muller.proofs.Sum.{sum-zero}
+use Rattle.reed_muller.proofs.Table.{table-at}
+use Rattle.reed_muller.proofs.Message.{number, number-bit, number-digits}
+use Rattle.reed_muller.proofs.Digits.{digit, digit-none, and-clear, and-keep, shift-digit, shift-low}
+
+-- the coefficients of the first k masks of the order, and 0 at the others
+abbrev pub firstOf : ℕ → (ℕ → ℕ) → ℕ → ℕ → ℕ
+firstOf m bit k S = given (ltb (place (order m) S) k) (bit (place (order m) S))
+
+module _ (m : ℕ) (bit : ℕ → ℕ) (small : (k : ℕ) → bit k < 2) (S : ℕ) (h : S < 2 ^ m) where
+  pub first-none : firstOf m bit 0 S ≡ 0
+  first-none = rw (le-ltb (place (order m) S) 0 (omega arith))
+
+  pub first-more : (k : ℕ) → k < 2 ^ m → (firstOf m bit k S + given (eqb S (getD (order m) k 0)) (bit k)) % 2 ≡ firstOf m bit (k + 1) S
+  first-more k l = go (ℕ-discrete (place (order m) S) k) (decLt (place (order m) S) k)
+    where
+      here : place (order m) S ≡ k → S ≡ getD (order m) k 0
+      here e = sym (place-order m S h .1) ∙ ap (λ (i : ℕ). getD (order m) i 0) e
+
+      back : S ≡ getD (order m) k 0 → place (order m) S ≡ k
+      back e = ap (place (order m)) e ∙ order-place m k l
+
+      go : Dec (place (order m) S ≡ k) → Dec (place (order m) S < k)
+          → (firstOf m bit k S + given (eqb S (getD (order m) k 0)) (bit k)) % 2 ≡ firstOf m bit (k + 1) S
+      go (yes e) d =
+          rw (le-ltb (place (order m) S) k (omega arith), lt-ltb (place (order m) S) (k + 1) (omega arith), eq-eqb S (getD (order m) k 0) (here e))
+          (omega (arith, small k, ap bit e))
+      go (no n) (yes d) =
+          rw (lt-ltb (place (order m) S) k d, lt-ltb (place (order m) S) (k + 1) (omega arith), ne-eqb S (getD (order m) k 0) (λ e. n (back e)))
+          (omega (arith, small (place (order m) S)))
+      go (no n) (no d) =
+          rw (le-ltb (place (order m) S) k (omega arith), le-ltb (place (order m) S) (k + 1) (omega arith), ne-eqb S (getD (order m) k 0) (λ e. n (back e)))
+          refl
+
+  -- the first masks of the order are those of at most r bits
+  pub first-all : (r : ℕ) → r ≤ m → firstOf m bit (dimension r m) S ≡ coefficient r m bit S
+  first-all r hr = go (decLe (weight S) r) (decLt (place (order m) S) (dimension r m))
+    where
+      go : Dec (weight S ≤ r) → Dec (place (order m) S < dimension r m) → firstOf m bit (dimension r m) S ≡ coefficient r m bit S
+      go (yes w) d = rw (le-leb (weight S) r w, lt-ltb (place (order m) S) (dimension r m) (place-light r m hr S h w))
+      go (no n) (yes d) = absurd (omega (arith, n, order-light r m hr (place (order m) S) d, ap weight (place-order m S h .1)))
+      go (no n) (no d) = rw (lt-leb (weight S) r (omega arith), le-ltb (place (order m) S) (dimension r m) (omega arith))
+
+-- ---- the test of a word, its masks held in a number of W digits
+
+-- 0 is the number with no digit set
+no-digits : (x W : ℕ) → x < 2 ^ W → ((p : ℕ) → p < W → digit x p ≡ 0) → x ≡ 0
+no-digits x W l h =
+    sym (mod-eq-of-lt l) ∙ sym (number-digits x W) ∙ sum-zero W _ (λ p u. ap (λ (y : ℕ). y * 2 ^ p) (h p u) ∙ zero-mul (2 ^ p))
+
+module _ (W r m b h : ℕ) (value : ℕ → ℕ) (room : 2 ^ m ≤ W) (bits : (S : ℕ) → S < 2 ^ m → digit b S ≡ backwards m value S) (heavy : (S : ℕ) → S < W → digit h S ≡ given (ltb r (weight S)) 1) where
+  -- as the code computes it
+  abbrev tested-bits : ℕ
+  tested-bits = bitAnd b h * 2 ^ (W - 2 ^ m) % 2 ^ W
+
+  at-heavy : (S : ℕ) → S < 2 ^ m → r < weight S → digit (bitAnd b h) S ≡ backwards m value S
+  at-heavy S l w = and-keep b h S (heavy S (omega arith) ∙ rw (lt-ltb r (weight S) w)) ∙ bits S l
+
+  at-light : (S : ℕ) → S < 2 ^ m → weight S ≤ r → digit (bitAnd b h) S ≡ 0
+  at-light S l w = and-clear b h S (heavy S (omega arith) ∙ rw (le-ltb r (weight S) w))
+
+  clear-belongs : tested-bits ≡ 0 → belongs r m value ≡ true
+  clear-belongs e = belongs-of r m value (λ S l w.
+      let back : W - 2 ^ m + S - (W - 2 ^ m) ≡ S = omega arith in
+      sym (at-heavy S l w) ∙ ap (digit (bitAnd b h)) (sym back)
+      ∙ sym (shift-digit (bitAnd b h) (W - 2 ^ m) W (W - 2 ^ m + S) (omega arith) (omega arith))
+      ∙ ap (λ (x : ℕ). digit x (W - 2 ^ m + S)) e ∙ digit-none (W - 2 ^ m + S))
+
+  belongs-clear : belongs r m value ≡ true → tested-bits ≡ 0
+  belongs-clear t = no-digits tested-bits W (mod-lt _ (pow-pos W)) (λ p u. go p u (decLt p (W - 2 ^ m)))
+    where
+      here : (S : ℕ) → S < 2 ^ m → Dec (weight S ≤ r) → digit (bitAnd b h) S ≡ 0
+      here S l (yes w) = at-light S l w
+      here S l (no w) = let u : r < weight S = omega arith in at-heavy S l u ∙ belongs-above r m value t S l u
+
+      go : (p : ℕ) → p < W → Dec (p < W - 2 ^ m) → digit tested-bits p ≡ 0
+      go p u (yes l) = shift-low (bitAnd b h) (W - 2 ^ m) W p l u
+      go p u (no l) =
+          shift-digit (bitAnd b h) (W - 2 ^ m) W p (omega arith) u
+          ∙ here (p - (W - 2 ^ m)) (omega arith) (decLe (weight (p - (W - 2 ^ m))) r)
+
+  pub held-belongs : eqb tested-bits 0 ≡ belongs r m value
+  held-belongs = go (belongs r m value) refl
+    where
+      go : (t : Bool) → belongs r m value ≡ t → eqb tested-bits 0 ≡ t
+      go true e = eq-eqb tested-bits 0 (belongs-clear e)
+      go false e = ne-eqb tested-bits 0 (λ z. true≢false (sym (clear-belongs z) ∙ e))
+
+-- the words of the masks below 64 with more than r bits set
+abbrev heavy-words : List ℕ
+heavy-words = 18446744073709551614 ∷ 18446744069414518504 ∷ 18446461400418674816 ∷ 18368186720584761344 ∷ 16753531353454084096 ∷ 9223372036854775808 ∷ 0 ∷ []
+
+-- whether mask S has more than r bits set
+abbrev above : ℕ → ℕ → ℕ
+above r S = given (ltb r (weight S)) 1
+
+above-small : (r S : ℕ) → above r S < 2
+above-small r S = go (ltb r (weight S))
+  where
+    go : (t : Bool) → given t 1 < 2
+    go true = lit< tt
+    go false = lit< tt
+
+heavy-words-right : heavy-words ≡ table 7 (λ r. number (above r) 64)
+unfolding table sumTo ones
+heavy-words-right = refl
+
+pub heavy-word : (r S : ℕ) → r < 7 → S < 64 → digit (getD heavy-words r 0) S ≡ given (ltb r (weight S)) 1
+heavy-word r S hr hS =
+    ap (λ (x : ℕ). digit x S) (ap (λ (xs : List ℕ). getD xs r 0) heavy-words-right ∙ table-at (λ r. number (above r) 64) 7 r hr)
+    ∙ number-bit (above r) 64 (λ S l. above-small r S) S hS

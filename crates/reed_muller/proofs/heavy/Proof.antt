@@ -1,0 +1,17 @@
+-- `heavy`: the entry of the table of words. Assumes nothing.
+use borrow.Author.Needs.{needs}
+use Rattle.reed_muller.proofs.Held.{heavy-word}
+use Rattle.reed_muller.proofs.heavy.Statement.{statement}
+use Rattle.reed_muller.proofs.heavy.Tie as tie
+
+mul-result : tie.Need-mul-result
+mul-result c = search needs
+
+array-read-result : tie.Need-array-read-result
+array-read-result c = search needs
+
+returns : tie.Need-returns
+returns c = λ S h. heavy-word (c .args .r) S (search needs) h
+
+pub heavy-spec : {M : Type 1} → statement M
+heavy-spec = tie.close (tie.spec mul-result array-read-result returns)

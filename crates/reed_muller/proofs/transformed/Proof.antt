@@ -1,0 +1,70 @@
+-- `transformed`: the loop has done the first j stages. Assumes nothing.
+use Prim.Native.Nat.{ℕ, _-_, _*_, _%_, _^_, _≤_, _<_}
+use mathlib.Core.Path.{_≡_, refl, ap, _∙_}
+use native.Mathlib.Numerals.{add-one}
+use native.Mathlib.Omega.{arith}
+use lib.Pow.{pow-mono}
+use Rattle.reed_muller.proofs.Digits.{digit}
+use Rattle.reed_muller.proofs.Stages.{stages, stage-more, all-stages}
+use Rattle.reed_muller.proofs.transformed.Statement.{statement}
+use Rattle.reed_muller.proofs.transformed.Tie as tie
+
+abbrev Inv-loop : tie.InvT-loop
+Inv-loop w t₀ j₀ t j =
+    (j ≤ 6) × ((p : ℕ) → p < 64 → digit t p ≡ stages j (digit w) p)
+
+abbrev μ-loop : tie.MeasureT-loop
+μ-loop w t₀ j₀ t j = 6 - j
+
+loop-holds : tie.Need-loop-holds Inv-loop μ-loop
+unfolding stages
+loop-holds c =
+    (omega arith, λ p h. refl)
+
+shl-t : tie.Need-shl-t Inv-loop μ-loop
+shl-t c = omega arith
+
+shl-t-2 : tie.Need-shl-t-2 Inv-loop μ-loop
+shl-t-2 c =
+    let at = c .before in omega (arith, pow-mono {i = at .loop .j} {j = 5} (omega arith))
+
+with-digit-requires : tie.Need-with-digit-requires Inv-loop μ-loop
+with-digit-requires c κs = omega arith
+
+add-j : tie.Need-add-j Inv-loop μ-loop
+add-j c = omega arith
+
+loop-less : tie.Need-loop-less Inv-loop μ-loop
+loop-less c = omega arith
+
+loop-again : tie.Need-loop-again Inv-loop μ-loop
+loop-again c =
+    let at = c .before .before in
+    let f : ℕ → ℕ = digit (at .before .args .w) in
+    let one : 1 * 2 ^ at .loop .j % 2 ^ 64 ≡ 2 ^ at .loop .j = omega (arith, pow-mono {i = at .loop .j} {j = 5} (omega arith)) in (
+      omega arith,
+      λ p h.
+          rw (one, add-one) (stage-more 64 (at .loop .j) (c .with-digit .result) (at .loop .t) (c .with-digit .ensures) f (at .loop .inv .1) p h),
+    )
+
+returns : tie.Need-returns Inv-loop μ-loop
+returns c =
+    let at = c .before in
+    let f : ℕ → ℕ = digit (at .before .args .w) in
+    let e : at .loop .j ≡ 6 = omega arith in
+    all-stages (at .loop .t) f (λ p h. at .loop .inv .1 p h ∙ ap (λ (j : ℕ). stages j f p) e)
+
+pub transformed-spec : {M : Type 1} → statement M
+transformed-spec =
+    tie.close
+    (tie.spec
+    Inv-loop
+    μ-loop
+    loop-holds
+    shl-t
+    shl-t-2
+    with-digit-requires
+    add-j
+    loop-less
+    loop-again
+    returns)
