@@ -36,7 +36,7 @@ grade-above zero h = absurd (omega arith)
 grade-above (suc c) h = record { less = c; is = refl }
 
 -- two levels at most, so M is at most 64
-few-levels : (k : ℕ) → isKind k ≡ true → levels k ≤ 2
+pub few-levels : (k : ℕ) → isKind k ≡ true → levels k ≤ 2
 unfolding levels degrees kinds
 few-levels = each-kind (λ k. levels k ≤ 2) (omega arith) (omega arith) (omega arith)
 
