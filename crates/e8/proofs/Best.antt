@@ -4,8 +4,9 @@ use mathlib.Core.Logic.{_⊎_, inl, inr}
 use mathlib.Core.Bool.{Bool, true, false, not, true≢false}
 use mathlib.Core.List.{List, [], _∷_}
 use Prim.Native.Nat.{ℕ, zero, suc, _+_, _*_, _-_, _<_, _≤_}
+use native.Mathlib.Nat.{eq-of-mul-eq-mul-left}
 use native.Mathlib.Omega.{arith}
-use lib.ListN.{length}
+use lib.ListN.{length, getD}
 use lib.IntN.{ℤ, pos, negsuc, negℤ, _+ℤ_, _-ℤ_, _*ℤ_, natAbs}
 use lib.Signed.{_≤ℤ_, _<ℤ_, shrZ}
 use Rattle.integers.proofs.Zed.{E, `_, #_, _⊕_, _⊖_, _⊗_, ⊝_, up, down, eq!, le!, lt!, eq?, le?, lt?, eq-ud, ud-eq, ud-le, ud-lt, le-ud, lt-ud}
@@ -191,3 +192,37 @@ best-range M false (x ∷ []) h = (cent-range M x h, tt)
 best-range M true (x ∷ []) h = (cent-range M (x -ℤ pos M) h, tt)
 best-range M p (x ∷ y ∷ ys) h = better-is (All (Range M)) (cent M x ∷ best M p (y ∷ ys)) (cent M (x -ℤ pos M) ∷ best M (not p) (y ∷ ys))
     (cent-range M x h, best-range M p (y ∷ ys) h) (cent-range M (x -ℤ pos M) h, best-range M (not p) (y ∷ ys) h)
+
+-- ---- the two candidates for the first coordinate differ, so that they decide a tie
+
+pub cents-differ : (M : ℕ) (x : ℤ) → 0 < M → cent M x ≡ cent M (x -ℤ pos M) → ⊥
+cents-differ M x h e =
+    let t = turns M x in
+    let u = turns M (x -ℤ pos M) in
+    let f : M * (2 * up t + 2 * down u) ≡ M * (2 * down t + 2 * up u + 1) =
+    omega (arith, eq? (` x ⊖ # M ⊗ (# 2 ⊗ ` t)) (` x ⊖ # M ⊖ # M ⊗ (# 2 ⊗ ` u)) (sym (cent-is M x h) ∙ e ∙ cent-is M (x -ℤ pos M) h)) in
+    let g : 2 * up t + 2 * down u ≡ 2 * down t + 2 * up u + 1 = eq-of-mul-eq-mul-left M h (2 * up t + 2 * down u) (2 * down t + 2 * up u + 1) f in
+    omega arith
+
+-- the first coordinate of the best differs from x by a multiple of M
+pub best-head : (M : ℕ) (p : Bool) (x : ℤ) (xs : List ℤ) → 0 < M → (u : ℤ) × (getD (best M p (x ∷ xs)) 0 (pos 0) ≡ x -ℤ pos M *ℤ u)
+best-head M p x xs h = let i = best-in M p x xs h in go (i .us) (i .long) (i .is)
+  where
+    go : (us : List ℤ) → length us ≡ suc (length xs) → best M p (x ∷ xs) ≡ moved M (x ∷ xs) us → (u : ℤ) × (getD (best M p (x ∷ xs)) 0 (pos 0) ≡ x -ℤ pos M *ℤ u)
+    go [] l e = absurd (omega arith)
+    go (u ∷ us) l e = (u, ap (λ z. getD z 0 (pos 0)) e)
+
+pub parts-differ : (H : ℕ) (x u t : ℤ) → 0 < H → x -ℤ pos (2 * H) *ℤ u ≡ x -ℤ pos H -ℤ pos (2 * H) *ℤ t → ⊥
+parts-differ H x u t h e =
+    let f : H * (2 * up u + 2 * down t) ≡ H * (2 * down u + 2 * up t + 1) = omega (arith, eq? (` x ⊖ # (2 * H) ⊗ ` u) (` x ⊖ # H ⊖ # (2 * H) ⊗ ` t) e) in
+    let g : 2 * up u + 2 * down t ≡ 2 * down u + 2 * up t + 1 = eq-of-mul-eq-mul-left H h (2 * up u + 2 * down t) (2 * down u + 2 * up t + 1) f in
+    omega arith
+
+pub best-length : (M : ℕ) (p : Bool) (xs : List ℤ) → length (best M p xs) ≡ length xs
+unfolding best
+best-length M false [] = refl
+best-length M true [] = refl
+best-length M false (x ∷ []) = refl
+best-length M true (x ∷ []) = refl
+best-length M p (x ∷ y ∷ ys) = better-is (λ l. length l ≡ suc (suc (length ys))) (cent M x ∷ best M p (y ∷ ys)) (cent M (x -ℤ pos M) ∷ best M (not p) (y ∷ ys))
+    (ap suc (best-length M p (y ∷ ys))) (ap suc (best-length M (not p) (y ∷ ys)))

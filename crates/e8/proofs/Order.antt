@@ -7,7 +7,9 @@ use Prim.Native.Nat.{ℕ, zero, suc, _+_, _*_, _-_, _<_, _≤_}
 use native.Mathlib.Nat.{eq-or-lt-of-le}
 use native.Mathlib.Decide.{decLe}
 use native.Mathlib.Omega.{arith}
-use lib.Dec.{T, ltb, ltb→lt, nltb→le}
+use lib.Arith.{lt-of-le-ne}
+use lib.Dec.{T, leb, ltb, ltb→lt, nltb→le}
+use borrow.Author.Tests.{leb-true, leb-false, ltb-true, ltb-false}
 use lib.ListN.{length}
 use lib.IntN.{ℤ}
 use lib.Signed.{_≤ℤ_, _<ℤ_, ltZ, ltZ-yes, ltZ-no}
@@ -126,6 +128,21 @@ better-first a b h = antisym (better a b) a (better-left a b) (better-is (λ l. 
 
 pub better-second : (a b : List ℤ) → b ≼ a → better a b ≡ b
 better-second a b h = antisym (better a b) b (better-right a b) (better-is (λ l. b ≼ l) a b h (itself b))
+
+-- where the first coordinates differ, they and the energies decide
+pub better-heads : (c d : ℤ) (av bv : List ℤ) (e f : ℕ) → (c ≡ d → ⊥) → e ≡ energy (c ∷ av) → f ≡ energy (d ∷ bv)
+    → better (c ∷ av) (d ∷ bv) ≡ cond (cond (ltZ c d) (leb e f) (ltb e f)) (c ∷ av) (d ∷ bv)
+better-heads c d av bv e f ne he hf = go (ltZ c d) (cond (ltZ c d) (leb e f) (ltb e f)) refl refl
+  where
+    equal-or : {e f : ℕ} {R : Type 0} → e ≤ f → R → (e < f) ⊎ ((e ≡ f) × R)
+    equal-or h r = elim (eq-or-lt-of-le h) [ inl q ↦ inr (q, r) | inr l ↦ inl l ]
+
+    go : (p q : Bool) → ltZ c d ≡ p → cond p (leb e f) (ltb e f) ≡ q → better (c ∷ av) (d ∷ bv) ≡ cond q (c ∷ av) (d ∷ bv)
+    go true true hp hq = better-first (c ∷ av) (d ∷ bv) (equal-or (omega (arith, he, hf, leb-true e f hq)) (inl (ltZ-yes (subst T (sym hp) tt))))
+    go true false hp hq = better-second (c ∷ av) (d ∷ bv) (inl (omega (arith, he, hf, leb-false e f hq)))
+    go false true hp hq = better-first (c ∷ av) (d ∷ bv) (inl (omega (arith, he, hf, ltb-true e f hq)))
+    go false false hp hq = better-second (c ∷ av) (d ∷ bv) (equal-or (omega (arith, he, hf, ltb-false e f hq))
+        (inl (ud-lt d c (lt-of-le-ne (le-ud (ltZ-no {a = c} {b = d} (subst (λ s. T (not s)) (sym hp) tt))) (λ q. ne (sym (ud-eq d c q)))))))
 
 -- ---- one list after another
 

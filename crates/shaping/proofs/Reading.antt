@@ -1,0 +1,51 @@
+-- A coordinate and the scale as a function's code reads them: what each reading is, and that it is in range
+use mathlib.Core.Path.{_≡_, refl, sym, _∙_, ap, ap₂, subst}
+use Prim.Native.Nat.{ℕ, _+_, _*_, _^_, _<_, _≤_}
+use native.Mathlib.Omega.{arith}
+use lib.IntN.{ℤ, pos, _-ℤ_, natAbs}
+use mir.Syntax.{w32}
+use mir.Val.{SFits, toZ, ofZ}
+use Rattle.integers.proofs.Zed.{`_, #_, _⊖_, tz, sfits-to, abs-ud}
+use Rattle.e8.specs.Least.{cent}
+use Rattle.shaping.specs.Walk.{Scale}
+use Rattle.shaping.proofs.Size.{fits, abs! }
+use Rattle.shaping.proofs.Rest.{power-fits}
+use Rattle.shaping.proofs.Walking.{scale-pos, cent-abs}
+
+-- a signed number as a local holds it, and as it is read
+abbrev pub read : ℤ → ℤ
+read z = toZ w32 (ofZ w32 z)
+
+module _ (k : ℕ) (m x : ℤ) (s : Scale k m) (size : natAbs x ≤ 2 ^ 24 + 2 ^ 7) where
+  pub scale-read : read m ≡ pos (2 ^ k)
+  scale-read = tz (s .is) (power-fits k (omega (arith, s .small)))
+
+  pub scale : Scale k (read m)
+  scale = record { small = s .small; is = scale-read }
+
+  pub coordinate : read x ≡ x
+  coordinate = tz refl (fits x (omega (arith, size)))
+
+  pub in-range : natAbs (read x) ≤ 2 ^ 25
+  in-range = subst (λ (y : ℤ). natAbs y ≤ 2 ^ 25) (sym coordinate) (omega (arith, size))
+
+  less-size : natAbs (x -ℤ pos (2 ^ k)) ≤ 2 ^ 25
+  less-size =
+      abs! (` x ⊖ # (2 ^ k)) (2 ^ 25) (omega (arith, size, abs-ud x, scale-pos k (s .small) .1)) (omega (arith, size, abs-ud x, scale-pos k (s .small) .1))
+
+  pub less-fits : SFits w32 (read x -ℤ read m)
+  less-fits = sfits-to (ap₂ _-ℤ_ coordinate scale-read) (fits (x -ℤ pos (2 ^ k)) (omega (arith, less-size)))
+
+  pub less : read (read x -ℤ read m) ≡ x -ℤ pos (2 ^ k)
+  less = tz (ap₂ _-ℤ_ coordinate scale-read) (fits (x -ℤ pos (2 ^ k)) (omega (arith, less-size)))
+
+  pub less-range : natAbs (read (read x -ℤ read m)) ≤ 2 ^ 25
+  less-range = subst (λ (y : ℤ). natAbs y ≤ 2 ^ 25) (sym less) less-size
+
+-- a centred coordinate
+pub centred : (k : ℕ) (r y x : ℤ) → k ≤ 7 → r ≡ cent (2 ^ k) y → y ≡ x → read r ≡ cent (2 ^ k) x
+centred k r y x h e f = tz (e ∙ ap (cent (2 ^ k)) f)
+    (fits (cent (2 ^ k) x) (omega (arith, scale-pos k h .1, cent-abs (2 ^ k) x (scale-pos k h .0))))
+
+pub centred-size : (k : ℕ) (r y x : ℤ) → k ≤ 7 → r ≡ cent (2 ^ k) y → y ≡ x → natAbs (read r) ≤ 2 ^ 7
+centred-size k r y x h e f = subst (λ (z : ℤ). natAbs z ≤ 2 ^ 7) (sym (centred k r y x h e f)) (omega (arith, scale-pos k h .1, cent-abs (2 ^ k) x (scale-pos k h .0)))

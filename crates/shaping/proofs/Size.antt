@@ -1,0 +1,65 @@
+-- Coordinates of bounded size: what fits an i32, and sums of squares
+use mathlib.Core.Path.{_≡_, refl, sym, _∙_, ap, subst}
+use mathlib.Core.List.{List, [], _∷_}
+use Prim.Native.Nat.{ℕ, zero, suc, _+_, _*_, _-_, _^_, _<_, _≤_}
+use native.Mathlib.Nat.{mul-le-mul}
+use native.Mathlib.Numerals.{add-one}
+use native.Mathlib.Omega.{arith}
+use lib.ListN.{length, drop, getD}
+use lib.Seq.{drop-cons}
+use lib.IntN.{ℤ, pos, negsuc, _-ℤ_, _*ℤ_, natAbs}
+use mir.Syntax.{w32}
+use mir.Val.{SFits}
+use Rattle.integers.proofs.Zed.{E, `_, _⊖_, P, N, ⟦_⟧, eq?, up, down, sfits!, abs-ud}
+use Rattle.e8.specs.Energy.{sq, energy, Within}
+use Rattle.e8.specs.Least.{lowered}
+
+pub within-at : (B : ℕ) (xs : List ℤ) (i : ℕ) → Within B xs → natAbs (getD xs i (pos 0)) ≤ B
+within-at B [] i h = omega arith
+within-at B (z ∷ zs) zero h = h .0
+within-at B (z ∷ zs) (suc i) h = within-at B zs i (h .1)
+
+pub within-more : (B C : ℕ) (xs : List ℤ) → Within B xs → Within (B + C) xs
+within-more B C [] h = tt
+within-more B C (z ∷ zs) h = (omega (arith, h .0), within-more B C zs (h .1))
+
+pub fits : (z : ℤ) → natAbs z ≤ 2 ^ 30 → SFits w32 z
+fits z h = sfits! w32 (` z) (omega (arith, abs-ud z)) (omega (arith, abs-ud z))
+
+-- the size of an expression
+abs-le : (z : ℤ) (B : ℕ) → up z ≤ down z + B → down z ≤ up z + B → natAbs z ≤ B
+abs-le (pos n) B a b = omega arith
+abs-le (negsuc n) B a b = omega arith
+
+pub abs! : (e : E) (B : ℕ) → P e ≤ N e + B → N e ≤ P e + B → natAbs ⟦ e ⟧ ≤ B
+abs! e B a b = abs-le ⟦ e ⟧ B (omega (arith, eq? (` ⟦ e ⟧) e refl)) (omega (arith, eq? (` ⟦ e ⟧) e refl))
+
+pub product-sq : (z : ℤ) → z *ℤ z ≡ pos (sq z)
+unfolding sq
+product-sq (pos n) = refl
+product-sq (negsuc n) = refl
+
+pub sq-le : (m B : ℕ) → m ≤ B → m * m ≤ B * B
+sq-le m B h = mul-le-mul h h
+
+pub energy-drop : (xs : List ℤ) (i : ℕ) → i < length xs → energy (drop i xs) ≡ sq (getD xs i (pos 0)) + energy (drop (i + 1) xs)
+unfolding energy
+energy-drop xs i h = rw (drop-cons xs i (pos 0) h, add-one)
+
+-- ---- a block with one number off each coordinate
+
+pub lowered-length : (h : ℤ) (xs : List ℤ) → length (lowered h xs) ≡ length xs
+lowered-length h [] = refl
+lowered-length h (x ∷ xs) = ap suc (lowered-length h xs)
+
+pub lowered-at : (h : ℤ) (xs : List ℤ) (i : ℕ) → i < length xs → getD (lowered h xs) i (pos 0) ≡ getD xs i (pos 0) -ℤ h
+lowered-at h [] i k = absurd (omega arith)
+lowered-at h (x ∷ xs) zero k = refl
+lowered-at h (x ∷ xs) (suc i) k = lowered-at h xs i (omega arith)
+
+pub less-abs : (x h : ℤ) (B C : ℕ) → natAbs x ≤ B → natAbs h ≤ C → natAbs (x -ℤ h) ≤ B + C
+less-abs x h B C a b = abs! (` x ⊖ ` h) (B + C) (omega (arith, abs-ud x, abs-ud h)) (omega (arith, abs-ud x, abs-ud h))
+
+pub lowered-within : (h : ℤ) (xs : List ℤ) (B C : ℕ) → natAbs h ≤ C → Within B xs → Within (B + C) (lowered h xs)
+lowered-within h [] B C a b = tt
+lowered-within h (x ∷ xs) B C a b = (less-abs x h B C (b .0) a, lowered-within h xs B C a (b .1))

@@ -1,0 +1,43 @@
+-- `square` meets its contract
+use mathlib.Core.Path.{_≡_, refl, sym, _∙_, ap, ap₂, subst}
+use mathlib.Core.Bool.{Bool, true, false, cond}
+use Prim.Native.Nat.{ℕ, zero, suc, _+_, _*_, _-_, _^_, _<_, _≤_}
+use native.Mathlib.Omega.{arith}
+use lib.Dec.{T, leb, ltb}
+use lib.IntN.{ℤ, pos, _+ℤ_, _-ℤ_, _*ℤ_, natAbs}
+use lib.Signed.{ltZ, nonNeg}
+use mir.Syntax.{w32}
+use mir.Val.{SFits, Fits, toZ, ofZ}
+use borrow.Author.Needs.{needs}
+use Rattle.integers.proofs.Zed.{E, `_, #_, _⊕_, _⊖_, eq!, eq?, sfits!, tz, sfits-to, abs-ud}
+use Rattle.e8.specs.Energy.{sq}
+use Rattle.e8.specs.Least.{cent}
+use Rattle.shaping.specs.Walk.{Scale, choice, sooner}
+use Rattle.shaping.proofs.Size.{fits, abs!, sq-le, product-sq}
+use Rattle.shaping.proofs.Rest.{power-fits}
+use Rattle.shaping.proofs.Walking.{scale-pos, cent-abs}
+use Rattle.shaping.proofs.square.Statement.{statement}
+use Rattle.shaping.proofs.square.Tie as tie
+
+module _ (c : tie.Start) where
+  small : sq (c .args .z) ≤ 2 ^ 14
+  unfolding sq
+  small = sq-le (natAbs (c .args .z)) (2 ^ 7) (c .pre)
+
+  product : toZ w32 (ofZ w32 (c .args .z)) *ℤ toZ w32 (ofZ w32 (c .args .z)) ≡ pos (sq (c .args .z))
+  product = ap (λ (y : ℤ). y *ℤ y) (tz refl (c .fits .z)) ∙ product-sq (c .args .z)
+
+  result : toZ w32 (ofZ w32 (toZ w32 (ofZ w32 (c .args .z)) *ℤ toZ w32 (ofZ w32 (c .args .z)))) ≡ pos (sq (c .args .z))
+  result = tz product (fits (pos (sq (c .args .z))) (omega (arith, small)))
+
+mul-result : tie.Need-mul-result
+mul-result c = sfits-to (product c) (fits (pos (sq (c .args .z))) (omega (arith, small c)))
+
+cast-result : tie.Need-cast-result
+cast-result c = subst (λ (y : ℤ). T (nonNeg y) × Fits w32 (natAbs y)) (sym (result c)) (tt, record { fits = omega (arith, small c) })
+
+returns : tie.Need-returns
+returns c = ap natAbs (result c)
+
+pub square-spec : {M : Type 1} → statement M
+square-spec = tie.close (tie.spec mul-result cast-result returns)
