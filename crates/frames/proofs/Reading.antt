@@ -10,7 +10,7 @@ use lib.Dec.{eqb}
 use lib.ListN.{length}
 use lib.Pow.{pow-pos, pow-mono}
 use lib.IntN.{ℤ}
-use borrow.Author.Tests.{eqb-true, eqb-false}
+use borrow.Author.Tests.{eqb-true, eqb-false, ne-eqb}
 use Rattle.e8.specs.Energy.{energy, Within}
 use Rattle.e8.specs.Lattice.{Differ}
 use Rattle.e8.specs.Least.{IsLeast, leastFrame}
@@ -184,6 +184,11 @@ strict-by-least k b f n e =
   where
     a : Accepted k b f n
     a = accepted k b f n e
+
+-- what the open reading refuses, the strict reading refuses by the same number
+pub strict-as-open : (k b : ℕ) (f : List ℤ) (n : ℕ) → (openRefusal k b f n ≡ 0 → ⊥) → strictRefusal k b f n ≡ openRefusal k b f n
+unfolding strictRefusal
+strict-as-open k b f n h = rw (ne-eqb (openRefusal k b f n) 0 h)
 
 -- f is sent for some message of the kind and grade, and the reading gives that one
 pub record SentFor (k b : ℕ) (f : List ℤ) : Type 0 where

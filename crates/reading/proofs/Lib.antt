@@ -1,3 +1,4 @@
 pub mod Halves
 pub mod Range
 pub mod Words
+pub mod Same
