@@ -3,3 +3,4 @@ pub mod Filled
 pub mod Walking
 pub mod Rest
 pub mod Reading
+pub mod Reducing

@@ -2,14 +2,14 @@
 use mathlib.Core.Path.{_≡_, refl, sym, _∙_, ap, ap₂, subst}
 use Prim.Native.Nat.{ℕ, _+_, _*_, _^_, _<_, _≤_}
 use native.Mathlib.Omega.{arith}
-use lib.IntN.{ℤ, pos, _-ℤ_, natAbs}
+use lib.IntN.{ℤ, pos, _+ℤ_, _-ℤ_, natAbs}
 use mir.Syntax.{w32}
 use mir.Val.{SFits, toZ, ofZ}
 use Rattle.integers.proofs.Zed.{`_, #_, _⊖_, tz, sfits-to, abs-ud}
 use Rattle.e8.specs.Least.{cent}
 use Rattle.shaping.specs.Walk.{Scale}
 use Rattle.shaping.proofs.Size.{fits, abs! }
-use Rattle.shaping.proofs.Rest.{power-fits}
+use Rattle.shaping.proofs.Rest.{power-fits, double}
 use Rattle.shaping.proofs.Walking.{scale-pos, cent-abs}
 
 -- a signed number as a local holds it, and as it is read
@@ -49,3 +49,20 @@ centred k r y x h e f = tz (e ∙ ap (cent (2 ^ k)) f)
 
 pub centred-size : (k : ℕ) (r y x : ℤ) → k ≤ 7 → r ≡ cent (2 ^ k) y → y ≡ x → natAbs (read r) ≤ 2 ^ 7
 centred-size k r y x h e f = subst (λ (z : ℤ). natAbs z ≤ 2 ^ 7) (sym (centred k r y x h e f)) (omega (arith, scale-pos k h .1, cent-abs (2 ^ k) x (scale-pos k h .0)))
+
+-- 2^k in a local, and twice it
+module _ (k : ℕ) (p : ℤ) (low : k ≤ 6) (e : p ≡ pos (2 ^ k)) where
+  pub power-read : read p ≡ pos (2 ^ k)
+  power-read = tz e (power-fits k (omega arith))
+
+  pub power-size : natAbs (read p) ≤ 2 ^ 7
+  power-size = subst (λ (z : ℤ). natAbs z ≤ 2 ^ 7) (sym power-read) (scale-pos k (omega arith) .1)
+
+  twice : read p +ℤ read p ≡ pos (2 ^ (k + 1))
+  twice = ap₂ _+ℤ_ power-read power-read ∙ ap pos {x = 2 ^ k + 2 ^ k} {y = 2 ^ (k + 1)} (omega (arith, double k))
+
+  pub twice-fits : SFits w32 (read p +ℤ read p)
+  twice-fits = sfits-to twice (power-fits (k + 1) (omega arith))
+
+  pub twice-scale : Scale (k + 1) (read (read p +ℤ read p))
+  twice-scale = record { small = omega arith; is = tz twice (power-fits (k + 1) (omega arith)) }

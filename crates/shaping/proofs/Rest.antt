@@ -15,7 +15,7 @@ use Rattle.integers.proofs.Zed.{E, `_, #_, _⊕_, _⊖_, _⊗_, P, N, up, down,
 use Rattle.integers.proofs.Floor.{modZ-lt, div-mod}
 use Rattle.shaping.proofs.Size.{fits}
 
-module _ (k : ℕ) (z : ℤ) (small : k ≤ 9) (size : natAbs z ≤ 2 ^ 29) where
+module _ (k : ℕ) (z : ℤ) (small : k ≤ 9) (size : natAbs z ≤ 2 ^ 30) where
   M-pos : 0 < 2 ^ k
   M-pos = pow-pos k
 

@@ -19,9 +19,9 @@ within-at B [] i h = omega arith
 within-at B (z ∷ zs) zero h = h .0
 within-at B (z ∷ zs) (suc i) h = within-at B zs i (h .1)
 
-pub within-more : (B C : ℕ) (xs : List ℤ) → Within B xs → Within (B + C) xs
-within-more B C [] h = tt
-within-more B C (z ∷ zs) h = (omega (arith, h .0), within-more B C zs (h .1))
+pub within-to : (B C : ℕ) (xs : List ℤ) → B ≤ C → Within B xs → Within C xs
+within-to B C [] k h = tt
+within-to B C (z ∷ zs) k h = (omega (arith, h .0), within-to B C zs k (h .1))
 
 pub fits : (z : ℤ) → natAbs z ≤ 2 ^ 30 → SFits w32 z
 fits z h = sfits! w32 (` z) (omega (arith, abs-ud z)) (omega (arith, abs-ud z))

@@ -72,7 +72,7 @@ fn power(k: u32) -> i32
 
 // The remainder modulo m = 2^k, which is never negative.
 fn remainder(k: u32, m: i32, z: i32) -> i32
-    requires { ⌜ (k ≤ 9) × (m ≡ pos (2 ^ k)) × (natAbs z ≤ 2 ^ 29) ⌝ }
+    requires { ⌜ (k ≤ 9) × (m ≡ pos (2 ^ k)) × (natAbs z ≤ 2 ^ 30) ⌝ }
     ensures { λ r. ⌜ r ≡ pos (modZ z (2 ^ k)) ⌝ }
 {
     let q = z >> k;
@@ -255,7 +255,7 @@ fn best_of(k: u32, m: i32, x: [i32; 8]) -> Candidate
 
 // A block, h less at each coordinate.
 fn lowered(h: i32, x: [i32; 8]) -> [i32; 8]
-    requires { ⌜ (natAbs h ≤ 2 ^ 7) × Within (2 ^ 24) x ⌝ }
+    requires { ⌜ (natAbs h ≤ 2 ^ 25) × Within (2 ^ 24) x ⌝ }
     ensures { λ r. ⌜ r ≡ less h x ⌝ }
 {
     let mut r = x;
@@ -288,4 +288,42 @@ pub fn least(k: u32, x: [i32; 8]) -> [i32; 8]
     } else {
         b
     }
+}
+
+// ---- the reduction to a message
+
+ghost use lib.ListN.{drop, getD};
+ghost use Rattle.e8.specs.Rows.{ints, remainders, reduced};
+
+// The rows of matrix (39) after the first, taken off a block, for h = 2^k and m = 2h: each changes its own place and the last.
+fn later_rows(k: u32, m: i32, y: [i32; 8]) -> [i32; 8]
+    requires { ⌜ Scale (k + 1) m × Within (2 ^ 26) y ⌝ }
+    ensures { λ r. ⌜ r ≡ getD y 0 (pos 0) ∷ ints (remainders (2 ^ k) (pos 0) (drop 1 y)) ⌝ }
+{
+    let mut r = y;
+    let mut q: i32 = 0;
+    let mut i: usize = 1;
+    while i < 7 {
+        let z = y[i];
+        let s = remainder(k + 1, m, z);
+        r[i] = s;
+        q = q + (z - s);
+        i += 1;
+    }
+    let z = y[7];
+    let s = remainder(k + 2, m + m, z - q);
+    r[7] = s;
+    r
+}
+
+// A block reduced to s1 .. s8 by 2^b times the rows of matrix (39), for b = k + 1: the first row comes off every place.
+pub fn reduce(k: u32, v: [i32; 8]) -> [i32; 8]
+    requires { ⌜ (k ≤ 6) × Within (2 ^ 24) v ⌝ }
+    ensures { λ r. ⌜ r ≡ ints (reduced (2 ^ k) v) ⌝ }
+{
+    let h = power(k);
+    let x = v[0];
+    let s = remainder(k, h, x);
+    let y = lowered(x - s, v);
+    later_rows(k, h + h, y)
 }

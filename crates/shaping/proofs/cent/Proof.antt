@@ -60,7 +60,7 @@ add-remainder-3 : tie.Need-add-remainder-3
 add-remainder-3 c = sfits-to (ap₂ _+ℤ_ (number c) (modulus c)) (fits (c .args .x +ℤ pos (M c)) (omega (arith, sum-size c)))
 
 remainder-requires : tie.Need-remainder-requires
-remainder-requires c κs = (omega (arith, c .pre .0 .small), twice c, subst (λ (y : ℤ). natAbs y ≤ 2 ^ 29) (sym (sum c)) (omega (arith, sum-size c)))
+remainder-requires c κs = (omega (arith, c .pre .0 .small), twice c, subst (λ (y : ℤ). natAbs y ≤ 2 ^ 30) (sym (sum c)) (omega (arith, sum-size c)))
 
 sub-result : tie.Need-sub-result
 sub-result c = sfits-to (centred c) (centred-fits c)

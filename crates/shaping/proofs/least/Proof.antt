@@ -9,52 +9,37 @@ use lib.ListN.{length, getD}
 use mir.Syntax.{w32}
 use mir.Val.{SFits, toZ, ofZ}
 use borrow.Author.Needs.{needs}
-use Rattle.integers.proofs.Zed.{tz, sfits-to}
+use Rattle.integers.proofs.Zed.{tz}
 use Rattle.e8.specs.Energy.{Within}
 use Rattle.e8.specs.Least.{lowered}
-use Rattle.shaping.specs.Walk.{Scale}
-use Rattle.shaping.proofs.Size.{within-more, lowered-within}
-use Rattle.shaping.proofs.Rest.{power-fits, double}
-use Rattle.shaping.proofs.Reading.{read}
-use Rattle.shaping.proofs.Walking.{scale-pos, least-from}
+use Rattle.shaping.proofs.Size.{within-to, lowered-within}
+use Rattle.shaping.proofs.Reading.{read, power-read, power-size, twice-fits, twice-scale}
+use Rattle.shaping.proofs.Walking.{least-from}
 use Rattle.shaping.proofs.least.Statement.{statement}
 use Rattle.shaping.proofs.least.Tie as tie
 
 eight : (s : tie.Start) → length (s .args .x) ≡ 8
 eight s = search needs
 
-module _ (c : tie.After-power) where
-  height : read (c .power .result) ≡ pos (2 ^ c .before .args .k)
-  height = tz (c .power .ensures) (power-fits (c .before .args .k) (omega (arith, c .before .pre .0)))
-
-  height-size : natAbs (read (c .power .result)) ≤ 2 ^ 7
-  height-size = subst (λ (z : ℤ). natAbs z ≤ 2 ^ 7) (sym height) (scale-pos (c .before .args .k) (omega (arith, c .before .pre .0)) .1)
-
-  twice : read (c .power .result) +ℤ read (c .power .result) ≡ pos (2 ^ (c .before .args .k + 1))
-  twice = ap₂ _+ℤ_ height height ∙ ap pos {x = 2 ^ c .before .args .k + 2 ^ c .before .args .k} {y = 2 ^ (c .before .args .k + 1)} (omega (arith, double (c .before .args .k)))
-
-  scaled : Scale (c .before .args .k + 1) (read (read (c .power .result) +ℤ read (c .power .result)))
-  scaled = record { small = omega (arith, c .before .pre .0); is = tz twice (power-fits (c .before .args .k + 1) (omega (arith, c .before .pre .0))) }
-
 power-requires : tie.Need-power-requires
 power-requires c κs = search needs
 
 add-m : tie.Need-add-m
-add-m c = sfits-to (twice c) (power-fits (c .before .args .k + 1) (omega (arith, c .before .pre .0)))
+add-m c = twice-fits (c .before .args .k) (c .power .result) (c .before .pre .0) (c .power .ensures)
 
 add-n : tie.Need-add-n
 add-n c = search needs
 
 lowered-requires : tie.Need-lowered-requires
-lowered-requires c κs = (height-size c, c .before .pre .1)
+lowered-requires c κs = (omega (arith, power-size (c .before .args .k) (c .power .result) (c .before .pre .0) (c .power .ensures)), c .before .pre .1)
 
 best-of-requires : tie.Need-best-of-requires
-best-of-requires c κs = let p = c .before in (scaled p, within-more (2 ^ 24) (2 ^ 7) (p .before .args .x) (p .before .pre .1))
+best-of-requires c κs = let p = c .before in (twice-scale (p .before .args .k) (p .power .result) (p .before .pre .0) (p .power .ensures), within-to (2 ^ 24) (2 ^ 24 + 2 ^ 7) (p .before .args .x) (omega arith) (p .before .pre .1))
 
 best-of-requires-2 : tie.Need-best-of-requires-2
 best-of-requires-2 c κs =
     let p = c .before .before in
-    (scaled p, subst (Within (2 ^ 24 + 2 ^ 7)) (sym (c .before .lowered .ensures)) (lowered-within (read (p .power .result)) (p .before .args .x) (2 ^ 24) (2 ^ 7) (height-size p) (p .before .pre .1)))
+    (twice-scale (p .before .args .k) (p .power .result) (p .before .pre .0) (p .power .ensures), subst (Within (2 ^ 24 + 2 ^ 7)) (sym (c .before .lowered .ensures)) (lowered-within (read (p .power .result)) (p .before .args .x) (2 ^ 24) (2 ^ 7) (power-size (p .before .args .k) (p .power .result) (p .before .pre .0) (p .power .ensures)) (p .before .pre .1)))
 
 array-copy-out-c : tie.Need-array-copy-out-c
 array-copy-out-c c = search needs
@@ -72,7 +57,7 @@ returns c =
     let p = q .before .before in
     let s = p .before .before in
     least-from (s .args .k) (s .args .x) (p .lowered .result) (q .before .best-of .result .block) (q .best-of2 .result .block) (q .before .best-of .result .energy) (q .best-of2 .result .energy)
-    (read (p .before .power .result)) _ _ (w .first .result) true (omega (arith, eight s)) (height (p .before)) (p .lowered .ensures)
+    (read (p .before .power .result)) _ _ (w .first .result) true (omega (arith, eight s)) (power-read (p .before .before .args .k) (p .before .power .result) (p .before .before .pre .0) (p .before .power .ensures)) (p .lowered .ensures)
     (q .before .best-of .ensures .0) (q .best-of2 .ensures .0) (q .before .best-of .ensures .1) (q .best-of2 .ensures .1)
     (tz refl (record { sfits = w .before .before .c .given })) (tz refl (record { sfits = w .before .d .given })) (w .first .ensures) (c .if1 .taken)
 
@@ -83,7 +68,7 @@ returns-2 c =
     let p = q .before .before in
     let s = p .before .before in
     least-from (s .args .k) (s .args .x) (p .lowered .result) (q .before .best-of .result .block) (q .best-of2 .result .block) (q .before .best-of .result .energy) (q .best-of2 .result .energy)
-    (read (p .before .power .result)) _ _ (w .first .result) false (omega (arith, eight s)) (height (p .before)) (p .lowered .ensures)
+    (read (p .before .power .result)) _ _ (w .first .result) false (omega (arith, eight s)) (power-read (p .before .before .args .k) (p .before .power .result) (p .before .before .pre .0) (p .before .power .ensures)) (p .lowered .ensures)
     (q .before .best-of .ensures .0) (q .best-of2 .ensures .0) (q .before .best-of .ensures .1) (q .best-of2 .ensures .1)
     (tz refl (record { sfits = w .before .before .c .given })) (tz refl (record { sfits = w .before .d .given })) (w .first .ensures) (c .if1 .left)
 

@@ -44,7 +44,7 @@ module _ (s : tie.Start Inv-loop μ-loop) where
   one i = ap₂ _-ℤ_ (tz refl (fits (getD (s .args .t2) i (pos 0)) (omega (arith, small i)))) height
 
   one-fits : (i : ℕ) → SFits w32 (getD (s .args .t2) i (pos 0) -ℤ s .args .h)
-  one-fits i = fits (getD (s .args .t2) i (pos 0) -ℤ s .args .h) (omega (arith, less-abs (getD (s .args .t2) i (pos 0)) (s .args .h) (2 ^ 24) (2 ^ 7) (small i) (s .pre .0)))
+  one-fits i = fits (getD (s .args .t2) i (pos 0) -ℤ s .args .h) (omega (arith, less-abs (getD (s .args .t2) i (pos 0)) (s .args .h) (2 ^ 24) (2 ^ 25) (small i) (s .pre .0)))
 
 loop-holds : tie.Need-loop-holds Inv-loop μ-loop
 loop-holds c = (omega arith, filled-none (target c) (c .args .t2) (sym (lowered-length (read (c .args .h)) (c .args .t2))))
