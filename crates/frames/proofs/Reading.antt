@@ -198,7 +198,7 @@ pub record SentFor (k b : ℕ) (f : List ℤ) : Type 0 where
   pub given : openMessage k b f ≡ bytes
 
 -- what a strict reading takes has passed the open reading's tests and is the sent frame
-strict-passed : (k b : ℕ) (f : List ℤ) (n : ℕ) → strictRefusal k b f n ≡ 0 → (openRefusal k b f n ≡ 0) × (isSent k b f ≡ true)
+pub strict-passed : (k b : ℕ) (f : List ℤ) (n : ℕ) → strictRefusal k b f n ≡ 0 → (openRefusal k b f n ≡ 0) × (isSent k b f ≡ true)
 unfolding strictRefusal
 strict-passed k b f n e = go (openRefusal k b f n) (eqb (openRefusal k b f n) 0) refl e
   where
