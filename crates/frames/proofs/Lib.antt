@@ -9,3 +9,5 @@ pub mod Distance
 pub mod Demands
 pub mod Reached
 pub mod Exam
+pub mod Refusals
+pub mod Reading

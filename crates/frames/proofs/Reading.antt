@@ -1,0 +1,249 @@
+-- THE TWO READINGS as theorems, sentence by sentence: which frames each one takes, by which number the others are refused, and the message that is given.
+-- For every kind of the table and every grade. Assumes nothing.
+use Prim.Native.Nat.{ℕ, zero, suc, _+_, _-_, _*_, _/_, _^_, _≤_, _<_}
+use mathlib.Core.Path.{_≡_, refl, sym, ap, _∙_, subst}
+use mathlib.Core.Logic.{_⊎_, inl, inr}
+use mathlib.Core.Bool.{Bool, true, false, cond, true≢false}
+use mathlib.Core.List.{List}
+use native.Mathlib.Omega.{arith}
+use lib.Dec.{eqb}
+use lib.ListN.{length}
+use lib.Pow.{pow-pos, pow-mono}
+use lib.IntN.{ℤ}
+use borrow.Author.Tests.{eqb-true, eqb-false, ne-eqb}
+use Rattle.e8.specs.Energy.{energy, Within}
+use Rattle.e8.specs.Lattice.{Differ}
+use Rattle.e8.specs.Least.{IsLeast, leastFrame}
+use Rattle.e8.proofs.Frame.{differ-refl, differ-sym, differ-trans, leastFrame-is, least-only}
+use Rattle.frames.specs.Kind.{kinds, isKind, degrees, levels, blocks, messageBytes, scale}
+use Rattle.frames.specs.Message.{Message, leader}
+use Rattle.frames.specs.Frame.{InCodingSet, half, SameClass, Sent, sentFrame}
+use Rattle.frames.specs.Sending.{isGrade, unless}
+use Rattle.frames.specs.Reading.{openMessage, sameFrame, inRange, broken, openRefusal, isSent, strictRefusal, messageAfter, energyRead}
+use Rattle.frames.proofs.Class.{Shape}
+use Rattle.frames.proofs.One.{open-message, open-class}
+use Rattle.frames.proofs.Rows.{each-kind, shape, grade-low, grade-high}
+use Rattle.frames.proofs.Demands.{OneMessage, sent-frame, sent-only, sent-length, sent-within, sent-in-set, exactly-one}
+use Rattle.frames.proofs.Refusals.{passed, same-frame, frame-same, within-range, within-more, levels-answer, set-passes, Accepted, accepted, levels-decide}
+
+-- a grade is one more than some number
+record Above (b : ℕ) : Type 0 where
+  less : ℕ
+  is : b ≡ suc less
+
+grade-above : (b : ℕ) → 1 ≤ b → Above b
+grade-above zero h = absurd (omega arith)
+grade-above (suc c) h = record { less = c; is = refl }
+
+-- two levels at most, so M is at most 64
+pub few-levels : (k : ℕ) → isKind k ≡ true → levels k ≤ 2
+unfolding levels degrees kinds
+few-levels = each-kind (λ k. levels k ≤ 2) (omega arith) (omega arith) (omega arith)
+
+scale-small : (k b : ℕ) → isKind k ≡ true → isGrade b ≡ true → scale k b ≤ 1048576
+unfolding scale
+scale-small k b kind grade =
+    let l : levels k + b ≤ 6 = omega (arith, few-levels k kind, grade-high b grade) in
+    let e : 2 ^ (levels k + b) ≤ 2 ^ 6 = pow-mono l in
+    omega (arith, e)
+
+module _ (k b : ℕ) (kind : isKind k ≡ true) (grade : isGrade b ≡ true) where
+  above : Above b
+  above = grade-above b (grade-low b grade)
+
+  low : 1 ≤ b
+  low = grade-low b grade
+
+  half-pos : 0 < half k b
+  unfolding half
+  half-pos = pow-pos (levels k + b - 1)
+
+  frame-blocks : (f : List ℤ) → InCodingSet k f → length f ≡ 8 * blocks k
+  frame-blocks f set = set .long ∙ sym (shape k kind .whole)
+
+  leader-class : (f : List ℤ) → InCodingSet k f → SameClass k b f (leader k b (openMessage k b f))
+  leader-class f set = subst (λ (d : ℕ). SameClass k d f (leader k d (openMessage k d f))) (sym (above .is)) (open-class k (above .less) (shape k kind) f set)
+
+  -- ---- the message that the open reading gives
+
+  -- what is read is a message of the kind and grade
+  pub read-message : (f : List ℤ) → InCodingSet k f → Message k b (openMessage k b f)
+  read-message f set = subst (λ (d : ℕ). Message k d (openMessage k d f)) (sym (above .is)) (open-message k (above .less) (shape k kind) f set)
+
+  -- and the frame differs by a lattice point from the one that is sent for it
+  pub read-class : (f : List ℤ) → InCodingSet k f → SameClass k b (sentFrame k b (openMessage k b f)) f
+  read-class f set =
+      differ-trans (half k b) (blocks k) (sentFrame k b (openMessage k b f)) (leader k b (openMessage k b f)) f
+      (differ-sym (half k b) (blocks k) (leader k b (openMessage k b f)) (sentFrame k b (openMessage k b f)) (sent-frame k b kind low (openMessage k b f) .member))
+      (differ-sym (half k b) (blocks k) f (leader k b (openMessage k b f)) (leader-class f set))
+
+  -- "The open reading gives the message of any frame of the coding set": the one of demand 3
+  pub open-gives-the-one : (f : List ℤ) (set : InCodingSet k f) → openMessage k b f ≡ exactly-one k b kind grade f set .bytes
+  open-gives-the-one f set = exactly-one k b kind grade f set .only (openMessage k b f) (read-message f set) (read-class f set)
+
+  -- two frames of the coding set that are given the same message differ by a lattice point
+  pub same-message-same-class : (f g : List ℤ) → InCodingSet k f → InCodingSet k g → openMessage k b f ≡ openMessage k b g → SameClass k b f g
+  same-message-same-class f g sf sg e =
+      differ-trans (half k b) (blocks k) f (sentFrame k b (openMessage k b f)) g
+      (differ-sym (half k b) (blocks k) (sentFrame k b (openMessage k b f)) f (read-class f sf))
+      (subst (λ (x : List ℕ). SameClass k b (sentFrame k b x) g) (sym e) (read-class g sg))
+
+  -- and the other way round
+  pub same-class-same-message : (f g : List ℤ) → InCodingSet k f → InCodingSet k g → SameClass k b f g → openMessage k b f ≡ openMessage k b g
+  same-class-same-message f g sf sg d =
+      one .only (openMessage k b f) (read-message f sf) (differ-trans (half k b) (blocks k) (sentFrame k b (openMessage k b f)) f g (read-class f sf) d)
+      ∙ sym (open-gives-the-one g sg)
+    where
+      one : OneMessage k b g
+      one = exactly-one k b kind grade g sg
+
+  -- ---- the sent frame of what is read
+
+  -- THE SENT FRAME of a frame's message is the least member of the frame's own class: no message is needed to find it
+  pub sent-is-least : (f : List ℤ) → InCodingSet k f → sentFrame k b (openMessage k b f) ≡ leastFrame (half k b) (blocks k) f
+  sent-is-least f set = sym (sent-only k b kind low (openMessage k b f) (leastFrame H n f) (record {
+    member = differ-trans H n L f (leastFrame H n f) toFrame (least .member);
+    least = λ t d. least .least t (fromFrame t d);
+    first = λ t d e. least .first t (fromFrame t d) e;
+  }))
+    where
+      H : ℕ
+      H = half k b
+
+      n : ℕ
+      n = blocks k
+
+      L : List ℤ
+      L = leader k b (openMessage k b f)
+
+      toFrame : Differ H n L f
+      toFrame = differ-sym H n f L (leader-class f set)
+
+      fromFrame : (t : List ℤ) → Differ H n L t → Differ H n f t
+      fromFrame t d = differ-trans H n f L t (leader-class f set) d
+
+      least : IsLeast H n f (leastFrame H n f)
+      least = leastFrame-is H half-pos n f (frame-blocks f set)
+
+  -- ---- reading what sending writes gives the message back
+
+  pub read-sent : (bytes : List ℕ) → Message k b bytes → openMessage k b (sentFrame k b bytes) ≡ bytes
+  read-sent bytes m = open-gives-the-one f set ∙ sym (exactly-one k b kind grade f set .only bytes m (differ-refl (half k b) (blocks k) f))
+    where
+      f : List ℤ
+      f = sentFrame k b bytes
+
+      set : InCodingSet k f
+      set = sent-in-set k b kind grade bytes
+
+  -- a sent frame passes the test of the range, since M is at most 64
+  pub sent-in-range : (bytes : List ℕ) → inRange (sentFrame k b bytes) ≡ true
+  sent-in-range bytes = within-range (sentFrame k b bytes)
+      (within-more (scale k b) 1048576 (scale-small k b kind grade) (sentFrame k b bytes) (sent-within k b kind low bytes))
+
+  -- ---- which frames the open reading takes; n message bytes are lent
+
+  module _ (f : List ℤ) (n : ℕ) (bytes : n ≡ messageBytes k b) where
+    -- a frame of the coding set is refused by none
+    pub inside-taken : InCodingSet k f → inRange f ≡ true → openRefusal k b f n ≡ 0
+    inside-taken set range = levels-decide k b f n kind grade (set .long) bytes range ∙ set-passes k f set
+
+    -- one outside is refused by 7 or 8, and by no other number
+    pub outside-refused : length f ≡ 2 ^ k → inRange f ≡ true → (InCodingSet k f → ⊥) → (openRefusal k b f n ≡ 7) ⊎ (openRefusal k b f n ≡ 8)
+    outside-refused l range out = go (levels-answer k (few-levels k kind) f l)
+      where
+        same : openRefusal k b f n ≡ broken k 0 (degrees k) f
+        same = levels-decide k b f n kind grade l bytes range
+
+        go : ((broken k 0 (degrees k) f ≡ 0) × InCodingSet k f) ⊎ ((broken k 0 (degrees k) f ≡ 7) ⊎ (broken k 0 (degrees k) f ≡ 8))
+            → (openRefusal k b f n ≡ 7) ⊎ (openRefusal k b f n ≡ 8)
+        go (inl a) = absurd (out (a .1))
+        go (inr (inl e)) = inl (same ∙ e)
+        go (inr (inr e)) = inr (same ∙ e)
+
+-- a frame that the open reading takes is of the coding set
+pub taken-in-set : (k b : ℕ) (f : List ℤ) (n : ℕ) → openRefusal k b f n ≡ 0 → InCodingSet k f
+taken-in-set k b f n e = go (levels-answer k (few-levels k (a .kind)) f (a .coordinates))
+  where
+    a : Accepted k b f n
+    a = accepted k b f n e
+
+    go : ((broken k 0 (degrees k) f ≡ 0) × InCodingSet k f) ⊎ ((broken k 0 (degrees k) f ≡ 7) ⊎ (broken k 0 (degrees k) f ≡ 8)) → InCodingSet k f
+    go (inl t) = t .1
+    go (inr (inl t)) = absurd (omega (arith, t, a .words))
+    go (inr (inr t)) = absurd (omega (arith, t, a .words))
+
+-- ---- the strict reading
+
+-- past the tests of the open reading, the frame is the least member of its class, or 9
+pub strict-by-least : (k b : ℕ) (f : List ℤ) (n : ℕ) → openRefusal k b f n ≡ 0 → strictRefusal k b f n ≡ unless (sameFrame f (leastFrame (half k b) (blocks k) f)) 9 0
+unfolding strictRefusal isSent
+strict-by-least k b f n e =
+    ap (λ (x : ℕ). cond (eqb x 0) (unless (sameFrame f (sentFrame k b (openMessage k b f))) 9 0) x) e
+    ∙ ap (λ (g : List ℤ). unless (sameFrame f g) 9 0) (sent-is-least k b (a .kind) (a .grade) f (taken-in-set k b f n e))
+  where
+    a : Accepted k b f n
+    a = accepted k b f n e
+
+-- what the open reading refuses, the strict reading refuses by the same number
+pub strict-as-open : (k b : ℕ) (f : List ℤ) (n : ℕ) → (openRefusal k b f n ≡ 0 → ⊥) → strictRefusal k b f n ≡ openRefusal k b f n
+unfolding strictRefusal
+strict-as-open k b f n h = rw (ne-eqb (openRefusal k b f n) 0 h)
+
+-- f is sent for some message of the kind and grade, and the reading gives that one
+pub record SentFor (k b : ℕ) (f : List ℤ) : Type 0 where
+  pub bytes : List ℕ
+  pub message : Message k b bytes
+  pub sent : f ≡ sentFrame k b bytes
+  pub given : openMessage k b f ≡ bytes
+
+-- what a strict reading takes has passed the open reading's tests and is the sent frame
+pub strict-passed : (k b : ℕ) (f : List ℤ) (n : ℕ) → strictRefusal k b f n ≡ 0 → (openRefusal k b f n ≡ 0) × (isSent k b f ≡ true)
+unfolding strictRefusal
+strict-passed k b f n e = go (openRefusal k b f n) (eqb (openRefusal k b f n) 0) refl e
+  where
+    go : (x : ℕ) (t : Bool) → eqb x 0 ≡ t → cond t (unless (isSent k b f) 9 0) x ≡ 0 → (x ≡ 0) × (isSent k b f ≡ true)
+    go x true z e = (eqb-true x 0 z, passed (isSent k b f) 8 0 e .0)
+    go x false z e = absurd (eqb-false x 0 z e)
+
+-- "The strict reading gives it only for the sent frame": what is taken was sent for a message
+pub strict-takes-sent : (k b : ℕ) (f : List ℤ) (n : ℕ) → strictRefusal k b f n ≡ 0 → SentFor k b f
+unfolding isSent
+strict-takes-sent k b f n e = record {
+  bytes = openMessage k b f;
+  message = read-message k b (a .kind) (a .grade) f (taken-in-set k b f n (p .0));
+  sent = same-frame f (sentFrame k b (openMessage k b f)) (p .1);
+  given = refl;
+}
+  where
+    p : (openRefusal k b f n ≡ 0) × (isSent k b f ≡ true)
+    p = strict-passed k b f n e
+
+    a : Accepted k b f n
+    a = accepted k b f n (p .0)
+
+module _ (k b : ℕ) (kind : isKind k ≡ true) (grade : isGrade b ≡ true) (bytes : List ℕ) (m : Message k b bytes) where
+  -- what is sent for a message is taken by both readings
+  pub open-takes-sent : openRefusal k b (sentFrame k b bytes) (length bytes) ≡ 0
+  open-takes-sent = inside-taken k b kind grade (sentFrame k b bytes) (length bytes) (m .long) (sent-in-set k b kind grade bytes) (sent-in-range k b kind grade bytes)
+
+  pub sent-taken-strictly : strictRefusal k b (sentFrame k b bytes) (length bytes) ≡ 0
+  unfolding strictRefusal isSent
+  sent-taken-strictly = rw (open-takes-sent, read-sent k b kind grade bytes m, frame-same (sentFrame k b bytes))
+
+  -- which gives the message back with the energy of the frame, whatever bytes were lent
+  pub open-gives-back : (lent : List ℕ) → messageAfter (openRefusal k b (sentFrame k b bytes) (length bytes)) k b (sentFrame k b bytes) lent ≡ bytes
+  unfolding messageAfter
+  open-gives-back lent = rw open-takes-sent (read-sent k b kind grade bytes m)
+
+  pub strict-gives-back : (lent : List ℕ) → messageAfter (strictRefusal k b (sentFrame k b bytes) (length bytes)) k b (sentFrame k b bytes) lent ≡ bytes
+  unfolding messageAfter
+  strict-gives-back lent = rw sent-taken-strictly (read-sent k b kind grade bytes m)
+
+  pub open-same-energy : energyRead (openRefusal k b (sentFrame k b bytes) (length bytes)) (sentFrame k b bytes) ≡ energy (sentFrame k b bytes)
+  unfolding energyRead
+  open-same-energy = rw open-takes-sent
+
+  pub strict-same-energy : energyRead (strictRefusal k b (sentFrame k b bytes) (length bytes)) (sentFrame k b bytes) ≡ energy (sentFrame k b bytes)
+  unfolding energyRead
+  strict-same-energy = rw sent-taken-strictly

@@ -1,0 +1,7 @@
+pub mod Halves
+pub mod Range
+pub mod Words
+pub mod Same
+pub mod Writing
+pub mod Rows
+pub mod Pieces

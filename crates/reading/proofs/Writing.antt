@@ -1,0 +1,191 @@
+-- Rows of bits written one behind the other. Assumes nothing.
+use Prim.Native.Nat.{ℕ, zero, suc, _+_, _*_, _-_, _/_, _%_, _^_, _≤_, _<_}
+use mathlib.Core.Path.{_≡_, refl, sym, ap, ap₂, _∙_, subst}
+use mathlib.Core.Bool.{Bool, true, false}
+use mathlib.Core.List.{List, [], _∷_, _++_}
+use native.Mathlib.Decide.{decLt, ℕ-discrete}
+use native.Mathlib.Nat.{zero-div}
+use native.Mathlib.Numerals.{add-one}
+use native.Mathlib.Omega.{arith}
+use lib.Dec.{eqb, lit<}
+use lib.ListN.{length, getD, length-append, List·getD-append, List·getD-eq-default}
+use lib.Seq.{getD-append-add}
+use borrow.Author.Tests.{eq-eqb, ne-eqb}
+use Rattle.reed_muller.specs.Level.{pick, table}
+use Rattle.reed_muller.specs.Message.{messageBit, byteOf, bytesOf, withBit, withBits}
+use Rattle.reed_muller.proofs.Table.{length-table, table-at}
+use Rattle.reed_muller.proofs.Parity.{message-small}
+use Rattle.reed_muller.proofs.Message.{length-bytes, bits-of-bytes, bytes-ext, bytes-of-bits, byte-lt, with-in, with-before, with-past, with-small, with-none}
+use Rattle.reading.specs.Written.{Bytes, Written}
+
+-- ---- bytes made of bits
+
+table-below : (B : ℕ) (f : ℕ → ℕ) (n : ℕ) → 0 < B → ((i : ℕ) → f i < B) → (i : ℕ) → getD (table n f) i 0 < B
+table-below B f n z h i = go (decLt i n)
+  where
+    go : Dec (i < n) → getD (table n f) i 0 < B
+    go (yes l) = rw (table-at f n i l) (h i)
+    go (no k) = rw (List·getD-eq-default (table n f) 0 {n = i} (omega (arith, length-table f n))) z
+
+made-bytes : (n : ℕ) (bit : ℕ → ℕ) → ((i : ℕ) → bit i < 2) → Bytes (bytesOf n bit)
+unfolding bytesOf
+made-bytes n bit h = table-below 256 (byteOf bit) n (lit< tt) (λ j. byte-lt bit j (λ i l. h (8 * j + i)))
+
+-- ---- a row of bits of a table
+
+module _ (from n : ℕ) (new old : ℕ → ℕ) where
+  -- only the first n bits of the new ones count
+  row-of-table : (i : ℕ) → withBits from n new old i ≡ withBits from (length (table n new)) (λ t. getD (table n new) t 0) old i
+  row-of-table i = go (decLt i from) (decLt i (from + n)) ∙ ap (λ (m : ℕ). withBits from m (λ t. getD (table n new) t 0) old i) (sym (length-table new n))
+    where
+      row : ℕ → ℕ
+      row t = getD (table n new) t 0
+
+      go : Dec (i < from) → Dec (i < from + n) → withBits from n new old i ≡ withBits from n row old i
+      go (yes l) d = with-before from n new old i l ∙ sym (with-before from n row old i l)
+      go (no k) (yes l) =
+          let e : i ≡ from + (i - from) = omega arith in
+          ap (withBits from n new old) e ∙ with-in from n new old (i - from) (omega arith)
+          ∙ sym (ap (withBits from n row old) e ∙ with-in from n row old (i - from) (omega arith) ∙ table-at new n (i - from) (omega arith))
+      go (no k) (no h) = with-past from n new old i (omega arith) ∙ sym (with-past from n row old i (omega arith))
+
+-- bytes made with a table of bits put into them
+pub written-table : (from n : ℕ) (new : ℕ → ℕ) → ((t : ℕ) → new t < 2) → (before : List ℕ)
+    → Written from (table n new) before (bytesOf (length before) (withBits from n new (messageBit before)))
+written-table from n new small before = record {
+  long = length-bytes (length before) bit;
+  each = λ b. made-bytes (length before) bit bit-small;
+  bits = λ i l. bits-of-bytes (length before) bit (λ j h. bit-small j) i l ∙ row-of-table from n new (messageBit before) i;
+}
+  where
+    bit : ℕ → ℕ
+    bit = withBits from n new (messageBit before)
+
+    bit-small : (i : ℕ) → bit i < 2
+    bit-small = with-small from n new (messageBit before) small (message-small before)
+
+-- one bit
+pub written-bit : (from b : ℕ) → b < 2 → (before : List ℕ) → Written from (b ∷ []) before (withBit from b before)
+unfolding withBit
+written-bit from b small before = record {
+  long = length-bytes (length before) bit;
+  each = λ h. made-bytes (length before) bit bit-small;
+  bits = λ i l. bits-of-bytes (length before) bit (λ j h. bit-small j) i l ∙ at i (ℕ-discrete i from);
+}
+  where
+    bit : ℕ → ℕ
+    bit i = pick (eqb i from) b (messageBit before i)
+
+    pick-small : (t : Bool) (x y : ℕ) → x < 2 → y < 2 → pick t x y < 2
+    pick-small true x y hx hy = hx
+    pick-small false x y hx hy = hy
+
+    bit-small : (i : ℕ) → bit i < 2
+    bit-small i = pick-small (eqb i from) b (messageBit before i) small (message-small before i)
+
+    row : ℕ → ℕ
+    row t = getD (b ∷ []) t 0
+
+    at : (i : ℕ) → Dec (i ≡ from) → bit i ≡ withBits from 1 row (messageBit before) i
+    at i (yes e) =
+        let e₀ : i ≡ from + 0 = omega arith in
+        rw (eq-eqb i from e) (sym (ap (withBits from 1 row (messageBit before)) e₀ ∙ with-in from 1 row (messageBit before) 0 (omega arith)))
+    at i (no k) = rw (ne-eqb i from k) (sym (other (decLt i from)))
+      where
+        other : Dec (i < from) → withBits from 1 row (messageBit before) i ≡ messageBit before i
+        other (yes l) = with-before from 1 row (messageBit before) i l
+        other (no h) = with-past from 1 row (messageBit before) i (omega arith)
+
+-- ---- rows one behind the other
+
+pub written-none : (from : ℕ) (before : List ℕ) → Written from [] before before
+written-none from before = record {
+  long = refl;
+  each = λ b. b;
+  bits = λ i l. sym (with-none from (λ t. getD [] t 0) (messageBit before) i);
+}
+
+module _ (from : ℕ) (R S a b c : List ℕ) (first : Written from R a b) (second : Written (from + length R) S b c) where
+  abbrev r : ℕ → ℕ
+  r t = getD R t 0
+
+  abbrev s : ℕ → ℕ
+  s t = getD S t 0
+
+  abbrev rs : ℕ → ℕ
+  rs t = getD (R ++ S) t 0
+
+  abbrev both : ℕ → ℕ
+  both = withBits from (length (R ++ S)) rs (messageBit a)
+
+  long-both : length (R ++ S) ≡ length R + length S
+  long-both = length-append R S
+
+  in-turn : (i : ℕ) → i < 8 * length a → Dec (i < from) → Dec (i < from + length R) → Dec (i < from + length R + length S)
+      → withBits (from + length R) (length S) s (messageBit b) i ≡ both i
+  in-turn i l (yes h) d e =
+      with-before (from + length R) (length S) s (messageBit b) i (omega arith) ∙ first .bits i l ∙ with-before from (length R) r (messageBit a) i h
+      ∙ sym (with-before from (length (R ++ S)) rs (messageBit a) i h)
+  in-turn i l (no h) (yes d) e =
+      let q : i ≡ from + (i - from) = omega arith in
+      let z : i - from < length R = omega arith in
+      with-before (from + length R) (length S) s (messageBit b) i d ∙ first .bits i l ∙ ap (withBits from (length R) r (messageBit a)) q
+      ∙ with-in from (length R) r (messageBit a) (i - from) z
+      ∙ sym (ap both q ∙ with-in from (length (R ++ S)) rs (messageBit a) (i - from) (omega (arith, long-both)) ∙ List·getD-append R S 0 (i - from) z)
+  in-turn i l (no h) (no d) (yes e) =
+      let q : i ≡ from + length R + (i - (from + length R)) = omega arith in
+      let p : i ≡ from + (length R + (i - (from + length R))) = omega arith in
+      ap (withBits (from + length R) (length S) s (messageBit b)) q
+      ∙ with-in (from + length R) (length S) s (messageBit b) (i - (from + length R)) (omega arith)
+      ∙ sym (ap both p ∙ with-in from (length (R ++ S)) rs (messageBit a) (length R + (i - (from + length R))) (omega (arith, long-both)) ∙ getD-append-add R S (i - (from + length R)) 0)
+  in-turn i l (no h) (no d) (no e) =
+      with-past (from + length R) (length S) s (messageBit b) i (omega arith) ∙ first .bits i l ∙ with-past from (length R) r (messageBit a) i (omega arith)
+      ∙ sym (with-past from (length (R ++ S)) rs (messageBit a) i (omega (arith, long-both)))
+
+  pub written-append : Written from (R ++ S) a c
+  written-append = record {
+    long = second .long ∙ first .long;
+    each = λ h. second .each (first .each h);
+    bits = λ i l. second .bits i (omega (arith, first .long)) ∙ in-turn i l (decLt i from) (decLt i (from + length R)) (decLt i (from + length R + length S));
+  }
+
+-- a row that ends where the next one begins
+pub written-next : (from at : ℕ) (R S a b c : List ℕ) → at ≡ from + length R → Written from R a b → Written at S b c → Written from (R ++ S) a c
+written-next from at R S a b c e first second = written-append from R S a b c first (subst (λ (n : ℕ). Written n S b c) e second)
+
+-- one bit more of a table
+pub written-more : (from t : ℕ) (new : ℕ → ℕ) (a b c : List ℕ) (x : ℕ) → x < 2 → x ≡ new t → Written from (table t new) a b → c ≡ withBit (from + t) x b → Written from (table (t + 1) new) a c
+unfolding table
+written-more from t new a b c x small is first e =
+    rw (add-one t, sym is)
+    (written-next from (from + t) (table t new) (x ∷ []) a b c (ap (λ (n : ℕ). from + n) (sym (length-table new t))) first
+    (subst (Written (from + t) (x ∷ []) b) (sym e) (written-bit (from + t) x small b)))
+
+-- ---- into bytes that are 0
+
+-- n bytes of 0
+abbrev pub zeros : ℕ → List ℕ
+zeros n = table n (λ i. 0)
+
+zero-bit : (n i : ℕ) → messageBit (zeros n) i ≡ 0
+unfolding messageBit
+zero-bit n i = ap (λ (x : ℕ). x / 2 ^ (i % 8) % 2) (at (decLt (i / 8) n)) ∙ ap (λ (x : ℕ). x % 2) (zero-div (2 ^ (i % 8)))
+  where
+    at : Dec (i / 8 < n) → getD (zeros n) (i / 8) 0 ≡ 0
+    at (yes l) = table-at (λ i. 0) n (i / 8) l
+    at (no k) = List·getD-eq-default (zeros n) 0 {n = i / 8} (omega (arith, length-table (λ i. 0) n))
+
+-- the bytes of a row, spare bits 0
+pub written-whole : (n : ℕ) (row after : List ℕ) → Written 0 row (zeros n) after → after ≡ bytesOf n (λ i. getD row i 0)
+written-whole n row after w =
+    sym (bytes-of-bits after (w .each (table-below 256 (λ i. 0) n (lit< tt) (λ i. lit< tt))))
+    ∙ ap (λ (m : ℕ). bytesOf m (messageBit after)) (w .long ∙ length-table (λ i. 0) n)
+    ∙ bytes-ext n (messageBit after) bit (λ i l. w .bits i (omega (arith, length-table (λ i. 0) n)) ∙ at i (decLt i (length row)))
+  where
+    bit : ℕ → ℕ
+    bit i = getD row i 0
+
+    at : (i : ℕ) → Dec (i < length row) → withBits 0 (length row) bit (messageBit (zeros n)) i ≡ bit i
+    at i (yes l) = let e : i ≡ 0 + i = omega arith in ap (withBits 0 (length row) bit (messageBit (zeros n))) e ∙ with-in 0 (length row) bit (messageBit (zeros n)) i l
+    at i (no k) =
+        with-past 0 (length row) bit (messageBit (zeros n)) i (omega arith) ∙ zero-bit n i ∙ sym (List·getD-eq-default row 0 {n = i} (omega arith))

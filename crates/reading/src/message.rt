@@ -1,0 +1,141 @@
+// The message of a frame of the coding set: the lent bytes cleared, then the bits of the levels and those of the blocks, one behind the other.
+use super::level::level_word;
+use super::level::weight_bit;
+ghost use mathlib.Core.Path.{_≡_};
+ghost use mathlib.Core.Bool.{true};
+ghost use mathlib.Core.List.{List};
+ghost use Prim.Native.Nat.{ℕ, _+_, _-_, _*_, _/_, _^_, _<_, _≤_};
+ghost use lib.ListN.{length, getD};
+ghost use Rattle.reed_muller.specs.Level.{table};
+ghost use Rattle.e8.specs.Energy.{Within};
+ghost use Rattle.e8.specs.Lattice.{part};
+ghost use Rattle.e8.specs.Rows.{ints, reduced};
+ghost use Rattle.frames.specs.Kind.{isKind, degrees, levels, blocks, levelBits, messageBits, messageBytes};
+ghost use Rattle.frames.specs.Message.{widths};
+ghost use Rattle.frames.specs.Frame.{weightBit};
+ghost use Rattle.frames.specs.Sending.{isGrade};
+ghost use Rattle.frames.specs.Reading.{levelMessages, quotients, allDigits, blockMessages, openMessage, inRange};
+ghost use Rattle.reading.specs.Written.{Written};
+
+// Every byte is made 0.
+pub fn clear(out: &mut [u8])
+    ensures { λ _. ⌜ now (out .exit) ≡ table (length (now (out .entry))) (λ i. 0) ⌝ }
+{
+    let mut j: usize = 0;
+    while j < out.len() {
+        out[j] = 0;
+        j += 1;
+    }
+}
+
+// The bits of the levels, from bit 0 on.
+pub fn write_levels(kind: u8, frame: &[i32], out: &mut [u8])
+    requires { ⌜ (isKind kind ≡ true) × (length (now frame) ≡ 2 ^ kind) × (levelBits kind ≤ 8 * length (now out)) ⌝ }
+    ensures { λ _. ⌜ Written 0 (levelMessages kind 0 (degrees kind) (now (frame .entry))) (now (out .entry)) (now (out .exit)) ⌝ }
+{
+    let count = kind_table::levels(kind);
+    let mut from: usize = 0;
+    let mut i: usize = 0;
+    while i < count {
+        let word = level_word(frame, i);
+        let degree = kind_table::degree(kind, i);
+        reed_muller::read_level(&word, kind as usize, degree, out, from);
+        from += reed_muller::dimension_of(kind as usize, degree);
+        i += 1;
+    }
+}
+
+// The first w bits of a number, lowest first, from bit `from` on.
+pub fn write_number(s: i32, w: usize, out: &mut [u8], from: usize)
+    requires { ⌜ (w ≤ 32) × (from ≤ 1000) × (from + w ≤ 8 * length (now out)) ⌝ }
+    ensures { λ _. ⌜ Written from (table w (λ t. weightBit t s)) (now (out .entry)) (now (out .exit)) ⌝ }
+{
+    let mut t: usize = 0;
+    while t < w {
+        reed_muller::put_bit(out, from + t, weight_bit(s, t));
+        t += 1;
+    }
+}
+
+// The width of number i of a block: b - 1 bits for s1, b + 1 for s8, b for the others.
+pub fn width(grade: usize, i: usize) -> usize
+    requires { ⌜ (1 ≤ grade) × (grade ≤ 4) × (i < 8) ⌝ }
+    ensures { λ r. ⌜ r ≡ getD (widths grade) i 0 ⌝ }
+{
+    if i == 0 {
+        return grade - 1;
+    }
+    if i == 7 {
+        return grade + 1;
+    }
+    grade
+}
+
+// A block's numbers s1 to s8, from bit `from` on.
+pub fn write_numbers(s: [i32; 8], grade: usize, out: &mut [u8], from: usize)
+    requires { ⌜ (1 ≤ grade) × (grade ≤ 4) × (from ≤ 500) × (from + 8 * grade ≤ 8 * length (now out)) ⌝ }
+    ensures { λ _. ⌜ ((ss : List ℕ) → s ≡ ints ss → Written from (allDigits (widths grade) ss) (now (out .entry)) (now (out .exit))) ⌝ }
+{
+    let mut at = from;
+    let mut i: usize = 0;
+    while i < 8 {
+        let w = width(grade, i);
+        let z = s[i];
+        write_number(z, w, out, at);
+        at += w;
+        i += 1;
+    }
+}
+
+// A block's coordinates without their level bits, divided by 2^a.
+pub fn floor_quotients(a: usize, x: [i32; 8]) -> [i32; 8]
+    requires { ⌜ a < 32 ⌝ }
+    ensures { λ r. ⌜ r ≡ quotients a x ⌝ }
+{
+    let mut r = x;
+    let mut i: usize = 0;
+    while i < 8 {
+        let z = x[i];
+        r[i] = z >> a;
+        i += 1;
+    }
+    r
+}
+
+// Block j of a frame, reduced to its numbers s1 to s8.
+pub fn block_numbers(a: usize, grade: usize, frame: &[i32], j: usize) -> [i32; 8]
+    requires { ⌜ (a < 32) × (1 ≤ grade) × (grade ≤ 4) × (8 * j + 8 ≤ length (now frame)) × (j ≤ 1000) × Within (2 ^ 24) (now frame) ⌝ }
+    ensures { λ r. ⌜ r ≡ ints (reduced (2 ^ (grade - 1)) (part j (quotients a (now (frame .entry))))) ⌝ }
+{
+    let from = 8 * j;
+    let to = from + 8;
+    let v = floor_quotients(a, shaping::load(&frame[from..to]));
+    shaping::reduce((grade - 1) as u32, v)
+}
+
+// The bits of the blocks, behind those of the levels.
+pub fn write_blocks(kind: u8, grade: usize, frame: &[i32], out: &mut [u8])
+    requires { ⌜ (isKind kind ≡ true) × (1 ≤ grade) × (grade ≤ 4) × (length (now frame) ≡ 2 ^ kind) × Within (2 ^ 24) (now frame) × (messageBits kind grade ≤ 8 * length (now out)) ⌝ }
+    ensures { λ _. ⌜ Written (levelBits kind) (blockMessages grade (blocks kind) (quotients (levels kind) (now (frame .entry)))) (now (out .entry)) (now (out .exit)) ⌝ }
+{
+    let a = kind_table::levels(kind);
+    let n = frame.len() / 8;
+    let mut from = kind_table::level_bits(kind);
+    let mut j: usize = 0;
+    while j < n {
+        let s = block_numbers(a, grade, frame, j);
+        write_numbers(s, grade, out, from);
+        from += 8 * grade;
+        j += 1;
+    }
+}
+
+// The whole message: every lent byte, spare bits 0.
+pub fn write_message(kind: u8, grade: u8, frame: &[i32], out: &mut [u8])
+    requires { ⌜ (isKind kind ≡ true) × (isGrade grade ≡ true) × (length (now frame) ≡ 2 ^ kind) × (inRange (now frame) ≡ true) × (length (now out) ≡ messageBytes kind grade) ⌝ }
+    ensures { λ _. ⌜ now (out .exit) ≡ openMessage kind grade (now (frame .entry)) ⌝ }
+{
+    clear(out);
+    write_levels(kind, frame, out);
+    write_blocks(kind, grade as usize, frame, out);
+}
