@@ -1,9 +1,9 @@
 -- THE TWO READINGS as theorems, sentence by sentence: which frames each one takes, by which number the others are refused, and the message that is given.
 -- For every kind of the table and every grade. Assumes nothing.
-use Prim.Native.Nat.{ℕ, zero, suc, _+_, _-_, _*_, _/_, _^_, _≤_, _<_}
+use Prim.Native.Nat.{ℕ, zero, suc, _+_, _-_, _*_, _^_, _≤_, _<_}
 use mathlib.Core.Path.{_≡_, refl, sym, ap, _∙_, subst}
 use mathlib.Core.Logic.{_⊎_, inl, inr}
-use mathlib.Core.Bool.{Bool, true, false, cond, true≢false}
+use mathlib.Core.Bool.{Bool, true, false, cond}
 use mathlib.Core.List.{List}
 use native.Mathlib.Omega.{arith}
 use lib.Dec.{eqb}
@@ -11,19 +11,18 @@ use lib.ListN.{length}
 use lib.Pow.{pow-pos, pow-mono}
 use lib.IntN.{ℤ}
 use borrow.Author.Tests.{eqb-true, eqb-false, ne-eqb}
-use Rattle.e8.specs.Energy.{energy, Within}
+use Rattle.e8.specs.Energy.{energy}
 use Rattle.e8.specs.Lattice.{Differ}
 use Rattle.e8.specs.Least.{IsLeast, leastFrame}
-use Rattle.e8.proofs.Frame.{differ-refl, differ-sym, differ-trans, leastFrame-is, least-only}
+use Rattle.e8.proofs.Frame.{differ-refl, differ-sym, differ-trans, leastFrame-is}
 use Rattle.frames.specs.Kind.{kinds, isKind, degrees, levels, blocks, messageBytes, scale}
 use Rattle.frames.specs.Message.{Message, leader}
-use Rattle.frames.specs.Frame.{InCodingSet, half, SameClass, Sent, sentFrame}
+use Rattle.frames.specs.Frame.{InCodingSet, half, SameClass, sentFrame}
 use Rattle.frames.specs.Sending.{isGrade, unless}
 use Rattle.frames.specs.Reading.{openMessage, sameFrame, inRange, broken, openRefusal, isSent, strictRefusal, messageAfter, energyRead}
-use Rattle.frames.proofs.Class.{Shape}
 use Rattle.frames.proofs.One.{open-message, open-class}
 use Rattle.frames.proofs.Rows.{each-kind, shape, grade-low, grade-high}
-use Rattle.frames.proofs.Demands.{OneMessage, sent-frame, sent-only, sent-length, sent-within, sent-in-set, exactly-one}
+use Rattle.frames.proofs.Demands.{OneMessage, sent-frame, sent-only, sent-within, sent-in-set, exactly-one}
 use Rattle.frames.proofs.Refusals.{passed, same-frame, frame-same, within-range, within-more, levels-answer, set-passes, Accepted, accepted, levels-decide}
 
 -- a grade is one more than some number

@@ -1,14 +1,14 @@
 -- Quotients and the remainder by 2 of an i32: what fits on the way to a bit. Assumes nothing.
-use Prim.Native.Nat.{ℕ, suc, _+_, _*_, _^_, _<_, _≤_}
+use Prim.Native.Nat.{ℕ, _+_, _^_, _<_, _≤_}
 use mathlib.Core.Path.{_≡_}
 use native.Mathlib.Omega.{arith}
-use lib.IntN.{ℤ, pos, negsuc, _+ℤ_, _-ℤ_, _*ℤ_}
+use lib.IntN.{ℤ, pos, negsuc, _-ℤ_, _*ℤ_}
 use lib.Signed.{shrZ, mag, mag-shr}
 use mir.Syntax.{w32}
 use mir.Val.{SFits}
 use mir.ValLaws.{sfits-le}
 use Rattle.integers.specs.Integer.{modZ}
-use Rattle.integers.proofs.Zed.{E, `_, #_, _⊕_, _⊖_, _⊗_, P, N, up, down, eq!, eq?, sfits! }
+use Rattle.integers.proofs.Zed.{`_, #_, _⊕_, _⊖_, _⊗_, P, N, up, down, eq!, eq?, sfits! }
 use Rattle.integers.proofs.Floor.{modZ-lt, div-mod}
 
 pub fits-quotient : {z : ℤ} (m : ℕ) → SFits w32 z → SFits w32 (shrZ z m)

@@ -1,6 +1,6 @@
 -- The rows of bits of a message: those of a number, of a block's numbers, of the levels, of the blocks; each grows by one piece. Assumes nothing.
 use Prim.Native.Nat.{ℕ, zero, suc, _+_, _*_, _-_, _/_, _%_, _^_, _≤_, _<_}
-use mathlib.Core.Path.{_≡_, refl, sym, ap, ap₂, subst, _∙_}
+use mathlib.Core.Path.{_≡_, refl, sym, ap, ap₂, _∙_}
 use mathlib.Core.List.{List, [], _∷_, _++_, append-assoc, append-nil}
 use native.Mathlib.Numerals.{add-one}
 use native.Mathlib.Nat.{le-trans, div-le-self}
@@ -9,7 +9,6 @@ use lib.Pow.{pow-pos}
 use lib.IntN.{ℤ, pos, negsuc, _+ℤ_, _*ℤ_, natAbs}
 use lib.ListN.{length, take, drop, getD, length-append, length-take, length-drop}
 use lib.Signed.{shrZ}
-use Rattle.integers.specs.Integer.{modZ}
 use Rattle.integers.proofs.Floor.{modZ-lt}
 use Rattle.reed_muller.specs.Level.{table, dimension, order, backwards}
 use Rattle.reed_muller.proofs.Table.{length-table, table-ext}

@@ -21,10 +21,10 @@ ghost use Rattle.reading.specs.Written.{Written};
 pub fn clear(out: &mut [u8])
     ensures { λ _. ⌜ now (out .exit) ≡ table (length (now (out .entry))) (λ i. 0) ⌝ }
 {
-    let mut j: usize = 0;
-    while j < out.len() {
-        out[j] = 0;
-        j += 1;
+    let mut byte: usize = 0;
+    while byte < out.len() {
+        out[byte] = 0;
+        byte += 1;
     }
 }
 

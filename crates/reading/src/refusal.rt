@@ -2,7 +2,7 @@
 use super::level::level_word;
 ghost use mathlib.Core.Path.{_≡_};
 ghost use mathlib.Core.Bool.{true};
-ghost use Prim.Native.Nat.{_^_, _<_, _≤_};
+ghost use Prim.Native.Nat.{_^_, _<_};
 ghost use lib.ListN.{length};
 ghost use Rattle.frames.specs.Kind.{isKind, degrees};
 ghost use Rattle.frames.specs.Reading.{inRange, broken, openRefusal};

@@ -59,6 +59,13 @@ fn fill(kind: u8, grade: usize, message: &[u8], frame: &mut [i32]) -> u64
     shape(kind, grade, message, &sums[..n], frame)
 }
 
+// The tests alone, for a caller that has a test of its own to make before anything is written; n coordinates are lent.
+pub fn test(kind: u8, grade: u8, message: &[u8], n: usize) -> u8
+    ensures { λ r. ⌜ r ≡ sendRefusal kind grade (now (message .entry)) n ⌝ }
+{
+    refusal::refusal(kind, grade, message, n)
+}
+
 // Sends a message: tests 1, 2, 3, 4, 5, and then writes the sent frame and gives its energy. A refusal writes nothing.
 pub fn send(kind: u8, grade: u8, message: &[u8], frame: &mut [i32]) -> Outcome
     ensures number { λ r. ⌜ r .number ≡ sendRefusal kind grade (now (message .entry)) (length (now (frame .entry))) ⌝ }

@@ -1,9 +1,7 @@
 -- `read_open`: the answer by the number of its tests. Assumes nothing.
 use Prim.Native.Nat.{ℕ}
-use mathlib.Core.Path.{_≡_, ap, _∙_}
-use mathlib.Core.List.{List}
-use lib.ListN.{length}
-use Rattle.frames.specs.Reading.{openRefusal, messageAfter, energyRead}
+use mathlib.Core.Path.{ap, _∙_}
+use Rattle.frames.specs.Reading.{messageAfter, energyRead}
 use borrow.Author.Needs.{needs}
 use Rattle.reading.proofs.read_open.Statement.{statement}
 use Rattle.reading.proofs.read_open.Tie as tie

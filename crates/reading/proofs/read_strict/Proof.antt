@@ -1,9 +1,8 @@
 -- `read_strict`: the answer by the number of its tests. Assumes nothing.
 use Prim.Native.Nat.{ℕ}
-use mathlib.Core.Path.{_≡_, sym, ap, _∙_}
-use mathlib.Core.List.{List}
+use mathlib.Core.Path.{sym, ap, _∙_}
 use lib.ListN.{length}
-use Rattle.frames.specs.Reading.{strictRefusal, messageAfter, energyRead}
+use Rattle.frames.specs.Reading.{messageAfter, energyRead}
 use Rattle.frames.proofs.Reading.{strict-passed}
 use borrow.Author.Needs.{needs}
 use Rattle.reading.proofs.read_strict.Statement.{statement}

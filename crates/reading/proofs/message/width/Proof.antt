@@ -1,10 +1,7 @@
 -- `width`: by the place of the number. Assumes nothing.
-use Prim.Native.Nat.{ℕ, zero, suc, _+_, _*_, _-_, _/_, _^_, _≤_, _<_}
-use mathlib.Core.Path.{_≡_, refl, sym, ap, ap₂, subst, _∙_}
-use mathlib.Core.List.{List, [], _∷_, _++_}
-use native.Mathlib.Omega.{arith}
-use lib.IntN.{ℤ, pos}
-use lib.ListN.{length, take, drop, getD, length-set}
+use Prim.Native.Nat.{ℕ}
+use mathlib.Core.Path.{sym, ap}
+use lib.ListN.{getD}
 use Rattle.frames.specs.Message.{widths}
 use Rattle.reading.proofs.Rows.{middle}
 use borrow.Author.Needs.{needs}

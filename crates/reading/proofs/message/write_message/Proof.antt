@@ -1,18 +1,15 @@
 -- `write_message`: cleared bytes, then the levels, then the blocks. Assumes nothing.
-use Prim.Native.Nat.{ℕ, _+_, _*_, _/_, _^_, _≤_, _<_}
-use mathlib.Core.Path.{_≡_, refl, sym, ap, subst, _∙_}
+use Prim.Native.Nat.{ℕ, _*_, _^_, _≤_}
+use mathlib.Core.Path.{_≡_, ap, subst, _∙_}
 use mathlib.Core.List.{List}
 use native.Mathlib.Omega.{arith}
-use lib.IntN.{ℤ}
 use lib.ListN.{length}
 use Rattle.reed_muller.proofs.Table.{length-table}
-use Rattle.e8.specs.Energy.{Within}
-use Rattle.frames.specs.Kind.{degrees, levels, blocks, levelBits, messageBits, messageBytes}
+use Rattle.frames.specs.Kind.{degrees, levelBits, messageBits, messageBytes}
 use Rattle.frames.specs.Reading.{levelMessages}
 use Rattle.frames.proofs.Rows.{grade-low, grade-high}
 use Rattle.frames.proofs.Refusals.{range-within, within-more}
 use Rattle.reading.specs.Written.{Written}
-use Rattle.reading.proofs.Writing.{zeros}
 use Rattle.reading.proofs.Pieces.{message-written}
 use borrow.Author.Needs.{needs}
 use Rattle.reading.proofs.message.write_message.Statement.{statement}

@@ -1,10 +1,10 @@
 -- `write_numbers`: the first i numbers are written. Assumes nothing.
-use Prim.Native.Nat.{ℕ, zero, suc, _+_, _*_, _-_, _/_, _^_, _≤_, _<_}
+use Prim.Native.Nat.{ℕ, _+_, _*_, _-_, _≤_}
 use mathlib.Core.Path.{_≡_, refl, sym, ap, ap₂, subst, _∙_}
-use mathlib.Core.List.{List, [], _∷_, _++_}
+use mathlib.Core.List.{List}
 use native.Mathlib.Omega.{arith}
 use lib.IntN.{ℤ, pos}
-use lib.ListN.{length, take, drop, getD, length-take}
+use lib.ListN.{length, take, getD, length-take}
 use lib.Seq.{take-all}
 use mir.Syntax.{w32}
 use mir.Val.{toZ, ofZ}

@@ -1,12 +1,9 @@
 -- `strict_refusal`: past the tests of the open reading, the frame is the least member of its class or is refused by 9. Assumes nothing.
-use Prim.Native.Nat.{ℕ, _+_, _*_, _-_, _/_, _^_, _≤_, _<_}
-use mathlib.Core.Path.{_≡_, refl, sym, ap, ap₂, subst, _∙_}
-use mathlib.Core.List.{List}
+use Prim.Native.Nat.{ℕ, _+_, _*_, _-_, _/_, _^_, _≤_}
+use mathlib.Core.Path.{_≡_, sym, ap, ap₂, _∙_}
 use mathlib.Core.Bool.{Bool}
 use native.Mathlib.Omega.{arith}
-use lib.IntN.{ℤ}
 use lib.ListN.{length}
-use Rattle.e8.specs.Energy.{Within}
 use Rattle.e8.specs.Least.{leastFrame}
 use Rattle.frames.specs.Kind.{levels, blocks}
 use Rattle.frames.specs.Frame.{half}

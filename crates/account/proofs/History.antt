@@ -1,0 +1,100 @@
+-- An account grown from the beginning by calls of sending, refused ones among them, holds the number of accepted sends and exactly
+-- the sum of their powers. Assumes nothing.
+use Prim.Native.Nat.{ℕ, _+_, _≤_, _<_}
+use mathlib.Core.Path.{_≡_, refl, sym, ap, _∙_}
+use mathlib.Core.Bool.{Bool, true, false, cond}
+use mathlib.Core.List.{List, [], _∷_}
+use native.Mathlib.Omega.{arith}
+use lib.Dec.{eqb}
+use lib.ListN.{length}
+use lib.Ieee.Exact.{HasValue}
+use borrow.Author.Tests.{eqb-true, eqb-false, leb-false}
+use Rattle.e8.specs.Energy.{energy}
+use Rattle.frames.specs.Sending.{sendRefusal}
+use Rattle.frames.proofs.Rows.{grade-low, grade-high}
+use Rattle.kind_table.proofs.Each.{size}
+use Rattle.sending.proofs.Answers.{accepted}
+use Rattle.power.specs.declared.Account.{Account}
+use Rattle.power.specs.Power.{begun, full, grown}
+use Rattle.power.specs.History.{grownBy, powersIn, Counted, AllCounted}
+use Rattle.power.proofs.History.{history as grown-exactly}
+use Rattle.account.specs.Counted.{countedRefusal, countedAccount}
+use Rattle.account.specs.History.{Call, answer, after, accountAfter, entryOf, sentBy}
+use Rattle.account.proofs.Answers.{energy-small}
+
+-- an accepted call passed sending's tests, and the account had room
+passed : (s : ℕ) (t : Bool) → cond (eqb s 0) (cond {A = ℕ} t 11 0) s ≡ 0 → (s ≡ 0) × (t ≡ false)
+passed s t e = go (eqb s 0) t refl e
+  where
+    go : (v t : Bool) → eqb s 0 ≡ v → cond v (cond {A = ℕ} t 11 0) s ≡ 0 → (s ≡ 0) × (t ≡ false)
+    go true true q e = absurd (omega arith)
+    go true false q e = (eqb-true _ _ q, refl)
+    go false t q e = absurd (eqb-false _ _ q e)
+
+module _ (a : Account) (c : Call) where
+  accepted-call : answer a c ≡ 0 → (sendRefusal (c .kind) (c .grade) (c .message) (c .n) ≡ 0) × (full a ≡ false)
+  unfolding countedRefusal
+  accepted-call e = passed _ (full a) e
+
+  counts : answer a c ≡ 0 → Counted 5 (entryOf c)
+  counts e =
+      let p = accepted (c .kind) (c .grade) (c .message) (c .n) (accepted-call e .0) in
+      let s = energy-small (c .kind) (c .grade) (p .kind) (grade-low (c .grade) (p .grade)) (grade-high (c .grade) (p .grade)) (c .message) in
+      record { exponent = c .kind; short = size (c .kind) (p .kind) .high; is = refl; small = omega (arith, s) }
+
+  room : answer a c ≡ 0 → a .count < 1000000
+  room e = leb-false _ _ (accepted-call e .1)
+
+  after-sent : eqb (answer a c) 0 ≡ true → after a c ≡ grown a (entryOf c .energy) (entryOf c .n)
+  unfolding countedAccount
+  after-sent q = simp q
+
+  after-refused : eqb (answer a c) 0 ≡ false → after a c ≡ a
+  unfolding countedAccount
+  after-refused q = simp q
+
+  by-sent : eqb (answer a c) 0 ≡ true → (cs : List Call) → sentBy a (c ∷ cs) ≡ entryOf c ∷ sentBy (after a c) cs
+  unfolding sentBy
+  by-sent q cs = simp q
+
+  by-refused : eqb (answer a c) 0 ≡ false → (cs : List Call) → sentBy a (c ∷ cs) ≡ sentBy (after a c) cs
+  unfolding sentBy
+  by-refused q cs = simp q
+
+-- the account is grown by the frames sent and by nothing else; at most 1,000,000 are
+record Grown (a : Account) (cs : List Call) : Type 0 where
+  is : accountAfter a cs ≡ grownBy a (sentBy a cs)
+  counted : AllCounted 5 (sentBy a cs)
+  most : a .count ≤ 1000000 → a .count + length (sentBy a cs) ≤ 1000000
+
+grows : (a : Account) (cs : List Call) → Grown a cs
+unfolding accountAfter sentBy grownBy
+grows a [] = record { is = refl; counted = tt; most = λ h. omega arith }
+grows a (c ∷ cs) = go (eqb (answer a c) 0) refl (grows (after a c) cs)
+  where
+    go : (v : Bool) → eqb (answer a c) 0 ≡ v → Grown (after a c) cs → Grown a (c ∷ cs)
+    go true q g =
+        let n : after a c .count ≡ a .count + 1 = ap (λ (x : Account). x .count) (after-sent a c q) in
+        let r : a .count < 1000000 = room a c (eqb-true _ _ q) in
+        record {
+          is = g .is ∙ ap (λ (x : Account). grownBy x (sentBy (after a c) cs)) (after-sent a c q) ∙ ap (grownBy a) (sym (by-sent a c q cs));
+          counted = rw (by-sent a c q cs) (counts a c (eqb-true _ _ q), g .counted);
+          most = λ h. rw (by-sent a c q cs) (omega (arith, n, r, g .most (omega (arith, n, r))));
+        }
+    go false q g =
+        let n : after a c .count ≡ a .count = ap (λ (x : Account). x .count) (after-refused a c q) in
+        record {
+          is = g .is ∙ ap (λ (x : Account). grownBy x (sentBy (after a c) cs)) (after-refused a c q) ∙ ap (grownBy a) (sym (by-refused a c q cs));
+          counted = rw (by-refused a c q cs) (g .counted);
+          most = λ h. rw (by-refused a c q cs) (omega (arith, n, g .most (omega (arith, n))));
+        }
+
+-- THE HISTORY of an account: for any calls from the beginning on
+pub history : (cs : List Call)
+    → (length (sentBy begun cs) ≤ 1000000) × (accountAfter begun cs .count ≡ length (sentBy begun cs))
+    × HasValue (accountAfter begun cs .sum) false (powersIn 32 (sentBy begun cs)) 32
+history cs =
+    let g = grows begun cs in
+    let l : length (sentBy begun cs) ≤ 1000000 = omega (arith, g .most (omega arith)) in
+    let r = grown-exactly 5 (sentBy begun cs) (omega arith) l (g .counted) in
+    (l, rw (g .is) (r .0), rw (g .is) (r .1))
