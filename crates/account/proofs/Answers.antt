@@ -1,25 +1,19 @@
 -- What sending with an account answers, by its tests; and the energies that it counts. Assumes nothing.
-use Prim.Native.Nat.{ℕ, _*_, _^_, _≤_}
+use Prim.Native.Nat.{ℕ, _^_}
 use mathlib.Core.Path.{_≡_, sym, _∙_}
 use mathlib.Core.Bool.{true, false}
 use mathlib.Core.List.{List}
-use native.Mathlib.Nat.{mul-le-mul}
 use native.Mathlib.Omega.{arith}
 use lib.Dec.{eqb}
 use lib.IntN.{ℤ}
 use lib.ListN.{length}
-use lib.Pow.{pow-mono}
 use borrow.Author.Tests.{eq-eqb, ne-eqb}
 use Rattle.e8.specs.Energy.{energy}
-use Rattle.frames.specs.Kind.{isKind, scale}
 use Rattle.frames.specs.Frame.{sentFrame}
 use Rattle.frames.specs.Sending.{sendRefusal, frameAfter, energySent}
-use Rattle.frames.proofs.Demands.{sent-length, sent-within}
-use Rattle.frames.proofs.Rows.{grade-low, grade-high}
 use Rattle.kind_table.proofs.Each.{size}
 use Rattle.sending.proofs.Answers.{accepted}
-use Rattle.sending.proofs.Stack.{few-levels}
-use Rattle.sending.proofs.Turn.{energy-within}
+use Rattle.frames.proofs.Bounds.{sent-energy}
 use Rattle.power.specs.declared.Account.{Account}
 use Rattle.power.specs.Power.{Measured, full, grown}
 use Rattle.account.specs.Counted.{countedRefusal, countedFrame, countedEnergy, countedAccount}
@@ -72,20 +66,6 @@ module _ (k b : ℕ) (m : List ℕ) (f : List ℤ) (a : Account) where
         account-is = qa ∙ simp (x, r);
       }
 
--- ---- the energy of a sent frame
-
-module _ (k b : ℕ) (kind : isKind k ≡ true) (low : 1 ≤ b) (high : b ≤ 4) (m : List ℕ) where
-  scale-small : scale k b ≤ 64
-  unfolding scale
-  scale-small = pow-mono {j = 6} (omega (arith, few-levels k kind))
-
-  -- at most 32 coordinates, each of at most 64 in size
-  pub energy-small : energy (sentFrame k b m) ≤ 2 ^ 17
-  energy-small =
-      let s : scale k b * scale k b ≤ 64 * 64 = mul-le-mul scale-small scale-small in
-      let n : length (sentFrame k b m) ≤ 32 = omega (arith, sent-length k b kind low m, size k kind .positions) in
-      omega (arith, energy-within (scale k b) (sentFrame k b m) (sent-within k b kind low m), mul-le-mul n s)
-
 -- what an accepted call counts has a power
 pub measured : (k b : ℕ) (m : List ℕ) (n : ℕ) → sendRefusal k b m n ≡ 0 → (e : ℕ) → e ≡ energySent k b m n → Measured e n
 unfolding energySent
@@ -93,7 +73,7 @@ measured k b m n z e q =
     let p = accepted k b m n z in
     let x : e ≡ energy (sentFrame k b m) = q ∙ simp z in
     record {
-      small = omega (arith, energy-small k b (p .kind) (grade-low b (p .grade)) (grade-high b (p .grade)) m);
+      small = omega (arith, sent-energy k b m (p .kind) (p .grade));
       exponent = k;
       short = omega (arith, size k (p .kind) .high);
       is = p .positions;

@@ -11,7 +11,6 @@ use lib.Ieee.Exact.{HasValue}
 use borrow.Author.Tests.{eqb-true, eqb-false, leb-false}
 use Rattle.e8.specs.Energy.{energy}
 use Rattle.frames.specs.Sending.{sendRefusal}
-use Rattle.frames.proofs.Rows.{grade-low, grade-high}
 use Rattle.kind_table.proofs.Each.{size}
 use Rattle.sending.proofs.Answers.{accepted}
 use Rattle.power.specs.declared.Account.{Account}
@@ -20,10 +19,10 @@ use Rattle.power.specs.History.{grownBy, powersIn, Counted, AllCounted}
 use Rattle.power.proofs.History.{history as grown-exactly}
 use Rattle.account.specs.Counted.{countedRefusal, countedAccount}
 use Rattle.account.specs.History.{Call, answer, after, accountAfter, entryOf, sentBy}
-use Rattle.account.proofs.Answers.{energy-small}
+use Rattle.frames.proofs.Bounds.{sent-energy}
 
 -- an accepted call passed sending's tests, and the account had room
-passed : (s : ℕ) (t : Bool) → cond (eqb s 0) (cond {A = ℕ} t 11 0) s ≡ 0 → (s ≡ 0) × (t ≡ false)
+pub passed : (s : ℕ) (t : Bool) → cond (eqb s 0) (cond {A = ℕ} t 11 0) s ≡ 0 → (s ≡ 0) × (t ≡ false)
 passed s t e = go (eqb s 0) t refl e
   where
     go : (v t : Bool) → eqb s 0 ≡ v → cond v (cond {A = ℕ} t 11 0) s ≡ 0 → (s ≡ 0) × (t ≡ false)
@@ -39,7 +38,7 @@ module _ (a : Account) (c : Call) where
   counts : answer a c ≡ 0 → Counted 5 (entryOf c)
   counts e =
       let p = accepted (c .kind) (c .grade) (c .message) (c .n) (accepted-call e .0) in
-      let s = energy-small (c .kind) (c .grade) (p .kind) (grade-low (c .grade) (p .grade)) (grade-high (c .grade) (p .grade)) (c .message) in
+      let s = sent-energy (c .kind) (c .grade) (c .message) (p .kind) (p .grade) in
       record { exponent = c .kind; short = size (c .kind) (p .kind) .high; is = refl; small = omega (arith, s) }
 
   room : answer a c ≡ 0 → a .count < 1000000

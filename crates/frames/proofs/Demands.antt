@@ -33,16 +33,16 @@ pub record OneMessage (k b : ℕ) (f : List ℤ) : Type 0 where
   pub class : SameClass k b (sentFrame k b bytes) f
   pub only : (other : List ℕ) → Message k b other → SameClass k b (sentFrame k b other) f → other ≡ bytes
 
-half-pos : (k b : ℕ) → 0 < half k b
+pub half-pos : (k b : ℕ) → 0 < half k b
 unfolding half
 half-pos k b = pow-pos (levels k + b - 1)
 
 -- a grade is one more than some number
-record Above (b : ℕ) : Type 0 where
-  less : ℕ
-  is : b ≡ suc less
+pub record Above (b : ℕ) : Type 0 where
+  pub less : ℕ
+  pub is : b ≡ suc less
 
-grade-above : (b : ℕ) → 1 ≤ b → Above b
+pub grade-above : (b : ℕ) → 1 ≤ b → Above b
 grade-above zero h = absurd (omega arith)
 grade-above (suc c) h = record { less = c; is = refl }
 

@@ -7,6 +7,7 @@ pub mod One
 pub mod Rows
 pub mod Distance
 pub mod Demands
+pub mod Bounds
 pub mod Reached
 pub mod Exam
 pub mod Refusals

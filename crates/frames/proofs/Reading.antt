@@ -1,6 +1,6 @@
 -- THE TWO READINGS as theorems, sentence by sentence: which frames each one takes, by which number the others are refused, and the message that is given.
 -- For every kind of the table and every grade. Assumes nothing.
-use Prim.Native.Nat.{ℕ, zero, suc, _+_, _-_, _*_, _^_, _≤_, _<_}
+use Prim.Native.Nat.{ℕ, _-_, _*_, _^_, _≤_}
 use mathlib.Core.Path.{_≡_, refl, sym, ap, _∙_, subst}
 use mathlib.Core.Logic.{_⊎_, inl, inr}
 use mathlib.Core.Bool.{Bool, true, false, cond}
@@ -8,43 +8,23 @@ use mathlib.Core.List.{List}
 use native.Mathlib.Omega.{arith}
 use lib.Dec.{eqb}
 use lib.ListN.{length}
-use lib.Pow.{pow-pos, pow-mono}
 use lib.IntN.{ℤ}
 use borrow.Author.Tests.{eqb-true, eqb-false, ne-eqb}
 use Rattle.e8.specs.Energy.{energy}
 use Rattle.e8.specs.Lattice.{Differ}
 use Rattle.e8.specs.Least.{IsLeast, leastFrame}
 use Rattle.e8.proofs.Frame.{differ-refl, differ-sym, differ-trans, leastFrame-is}
-use Rattle.frames.specs.Kind.{kinds, isKind, degrees, levels, blocks, messageBytes, scale}
+use Rattle.e8.proofs.Within.{within-to}
+use Rattle.frames.specs.Kind.{isKind, degrees, blocks, messageBytes, scale}
 use Rattle.frames.specs.Message.{Message, leader}
 use Rattle.frames.specs.Frame.{InCodingSet, half, SameClass, sentFrame}
 use Rattle.frames.specs.Sending.{isGrade, unless}
 use Rattle.frames.specs.Reading.{openMessage, sameFrame, inRange, broken, openRefusal, isSent, strictRefusal, messageAfter, energyRead}
 use Rattle.frames.proofs.One.{open-message, open-class}
-use Rattle.frames.proofs.Rows.{each-kind, shape, grade-low, grade-high}
-use Rattle.frames.proofs.Demands.{OneMessage, sent-frame, sent-only, sent-within, sent-in-set, exactly-one}
-use Rattle.frames.proofs.Refusals.{passed, same-frame, frame-same, within-range, within-more, levels-answer, set-passes, Accepted, accepted, levels-decide}
-
--- a grade is one more than some number
-record Above (b : ℕ) : Type 0 where
-  less : ℕ
-  is : b ≡ suc less
-
-grade-above : (b : ℕ) → 1 ≤ b → Above b
-grade-above zero h = absurd (omega arith)
-grade-above (suc c) h = record { less = c; is = refl }
-
--- two levels at most, so M is at most 64
-pub few-levels : (k : ℕ) → isKind k ≡ true → levels k ≤ 2
-unfolding levels degrees kinds
-few-levels = each-kind (λ k. levels k ≤ 2) (omega arith) (omega arith) (omega arith)
-
-scale-small : (k b : ℕ) → isKind k ≡ true → isGrade b ≡ true → scale k b ≤ 1048576
-unfolding scale
-scale-small k b kind grade =
-    let l : levels k + b ≤ 6 = omega (arith, few-levels k kind, grade-high b grade) in
-    let e : 2 ^ (levels k + b) ≤ 2 ^ 6 = pow-mono l in
-    omega (arith, e)
+use Rattle.frames.proofs.Rows.{shape, grade-low}
+use Rattle.frames.proofs.Demands.{OneMessage, half-pos, Above, grade-above, sent-frame, sent-only, sent-within, sent-in-set, exactly-one}
+use Rattle.frames.proofs.Bounds.{few-levels, scale-64}
+use Rattle.frames.proofs.Refusals.{passed, same-frame, frame-same, within-range, levels-answer, set-passes, Accepted, accepted, levels-decide}
 
 module _ (k b : ℕ) (kind : isKind k ≡ true) (grade : isGrade b ≡ true) where
   above : Above b
@@ -52,10 +32,6 @@ module _ (k b : ℕ) (kind : isKind k ≡ true) (grade : isGrade b ≡ true) whe
 
   low : 1 ≤ b
   low = grade-low b grade
-
-  half-pos : 0 < half k b
-  unfolding half
-  half-pos = pow-pos (levels k + b - 1)
 
   frame-blocks : (f : List ℤ) → InCodingSet k f → length f ≡ 8 * blocks k
   frame-blocks f set = set .long ∙ sym (shape k kind .whole)
@@ -122,7 +98,7 @@ module _ (k b : ℕ) (kind : isKind k ≡ true) (grade : isGrade b ≡ true) whe
       fromFrame t d = differ-trans H n f L t (leader-class f set) d
 
       least : IsLeast H n f (leastFrame H n f)
-      least = leastFrame-is H half-pos n f (frame-blocks f set)
+      least = leastFrame-is H (half-pos k b) n f (frame-blocks f set)
 
   -- ---- reading what sending writes gives the message back
 
@@ -138,7 +114,7 @@ module _ (k b : ℕ) (kind : isKind k ≡ true) (grade : isGrade b ≡ true) whe
   -- a sent frame passes the test of the range, since M is at most 64
   pub sent-in-range : (bytes : List ℕ) → inRange (sentFrame k b bytes) ≡ true
   sent-in-range bytes = within-range (sentFrame k b bytes)
-      (within-more (scale k b) 1048576 (scale-small k b kind grade) (sentFrame k b bytes) (sent-within k b kind low bytes))
+      (within-to (scale k b) 1048576 (sentFrame k b bytes) (omega (arith, scale-64 k b kind grade)) (sent-within k b kind low bytes))
 
   -- ---- which frames the open reading takes; n message bytes are lent
 

@@ -2,9 +2,9 @@
 use Prim.Native.Nat.{ℕ, zero, suc, _+_, _^_, _≤_, _<_}
 use mathlib.Core.Path.{_≡_, refl, sym, ap, ap₂, _∙_}
 use mathlib.Core.Logic.{_⊎_, inl, inr}
-use mathlib.Core.Bool.{Bool, true, false, _&&_, true≢false}
+use mathlib.Core.Bool.{Bool, true, false, true≢false}
 use mathlib.Core.List.{List, [], _∷_}
-use native.Mathlib.Nat.{le-trans, zero-add}
+use native.Mathlib.Nat.{zero-add}
 use native.Mathlib.Omega.{arith}
 use lib.Dec.{eqb, leb}
 use lib.ListN.{length, getD}
@@ -16,6 +16,7 @@ use Rattle.frames.specs.Kind.{isKind, degrees, levels, messageBytes}
 use Rattle.frames.specs.Frame.{levelWord, InCodingSet}
 use Rattle.frames.specs.Sending.{isGrade, unless}
 use Rattle.frames.specs.Reading.{sameNumber, sameFrame, inRange, brokenNumber, broken, openRefusal}
+use Rattle.frames.proofs.Rows.{and-both}
 
 -- ---- one test after the other
 
@@ -23,10 +24,6 @@ use Rattle.frames.specs.Reading.{sameNumber, sameFrame, inRange, brokenN
 pub passed : (t : Bool) (n next : ℕ) → unless t (suc n) next ≡ 0 → (t ≡ true) × (next ≡ 0)
 passed true n next e = (refl, e)
 passed false n next e = absurd (omega arith)
-
-pub both : (s t : Bool) → (s && t) ≡ true → (s ≡ true) × (t ≡ true)
-both true t e = (refl, e)
-both false t e = absurd (true≢false (sym e))
 
 -- ---- frames compared
 
@@ -45,7 +42,7 @@ unfolding sameFrame
 same-frame [] [] e = refl
 same-frame [] (y ∷ g) e = absurd (true≢false (sym e))
 same-frame (x ∷ f) [] e = absurd (true≢false (sym e))
-same-frame (x ∷ f) (y ∷ g) e = let t = both (sameNumber x y) (sameFrame f g) e in ap₂ _∷_ (same-number x y (t .0)) (same-frame f g (t .1))
+same-frame (x ∷ f) (y ∷ g) e = let t = and-both (sameNumber x y) (sameFrame f g) e in ap₂ _∷_ (same-number x y (t .0)) (same-frame f g (t .1))
 
 pub frame-same : (f : List ℤ) → sameFrame f f ≡ true
 unfolding sameFrame
@@ -57,16 +54,12 @@ frame-same (x ∷ f) = rw (number-same x) (frame-same f)
 pub range-within : (f : List ℤ) → inRange f ≡ true → Within 1048576 f
 unfolding inRange
 range-within [] e = tt
-range-within (z ∷ f) e = let t = both (leb (natAbs z) 1048576) (inRange f) e in (leb-true (natAbs z) 1048576 (t .0), range-within f (t .1))
+range-within (z ∷ f) e = let t = and-both (leb (natAbs z) 1048576) (inRange f) e in (leb-true (natAbs z) 1048576 (t .0), range-within f (t .1))
 
 pub within-range : (f : List ℤ) → Within 1048576 f → inRange f ≡ true
 unfolding inRange
 within-range [] h = refl
 within-range (z ∷ f) h = rw (le-leb (natAbs z) 1048576 (h .0)) (within-range f (h .1))
-
-pub within-more : (m n : ℕ) → m ≤ n → (f : List ℤ) → Within m f → Within n f
-within-more m n l [] h = tt
-within-more m n l (z ∷ f) h = (le-trans (h .0) l, within-more m n l f (h .1))
 
 -- ---- the levels
 

@@ -53,22 +53,18 @@ pub each-kind : (P : ℕ → Type 0) → P 3 → P 4 → P 5 → (k : ℕ) → i
 unfolding isKind kinds
 each-kind P a b c k e = one-of P k 3 (eqb k 4 || (eqb k 5 || false)) a (one-of P k 4 (eqb k 5 || false) b (one-of P k 5 false c (λ x. absurd (true≢false (sym x))))) e
 
-and-left : (s t : Bool) → (s && t) ≡ true → s ≡ true
-and-left true t e = refl
-and-left false t e = e
-
-and-right : (s t : Bool) → (s && t) ≡ true → t ≡ true
-and-right true t e = e
-and-right false t e = absurd (true≢false (sym e))
+pub and-both : (s t : Bool) → (s && t) ≡ true → (s ≡ true) × (t ≡ true)
+and-both true t e = (refl, e)
+and-both false t e = absurd (true≢false (sym e))
 
 -- the grades, from 1 to 4
 pub grade-low : (b : ℕ) → isGrade b ≡ true → 1 ≤ b
 unfolding isGrade
-grade-low b e = leb-true 1 b (and-left (leb 1 b) (leb b 4) e)
+grade-low b e = leb-true 1 b (and-both (leb 1 b) (leb b 4) e .0)
 
 pub grade-high : (b : ℕ) → isGrade b ≡ true → b ≤ 4
 unfolding isGrade
-grade-high b e = leb-true b 4 (and-right (leb 1 b) (leb b 4) e)
+grade-high b e = leb-true b 4 (and-both (leb 1 b) (leb b 4) e .1)
 
 -- what holds at each grade of document 01 holds at every one
 pub each-grade : (P : ℕ → Type 0) → P 1 → P 2 → P 3 → P 4 → (b : ℕ) → isGrade b ≡ true → P b

@@ -4,7 +4,8 @@ ghost use Prim.Native.Nat.{_≤_, _^_};
 ghost use lib.ListN.{length};
 ghost use Rattle.frames.specs.Sending.{sendRefusal, frameAfter, energySent};
 ghost use Rattle.frames.specs.Reading.{openRefusal, strictRefusal, messageAfter, energyRead};
-ghost use Rattle.link.specs.Answer.{answerOf};
+ghost use Rattle.account.specs.Counted.{countedRefusal, countedFrame, countedEnergy, countedAccount};
+ghost use Rattle.link.specs.Answer.{answerOf, accountOf};
 
 // The energy, or minus the refusal number.
 fn answer(number: u8, energy: u64) -> i64
@@ -44,5 +45,30 @@ pub extern "C" fn link_read_strict(kind: u8, grade: u8, frame: &[i32], message: 
     ensures message { λ r. ⌜ now (message .exit) ≡ messageAfter (strictRefusal kind grade (now (frame .entry)) (length (now (message .entry)))) kind grade (now (frame .entry)) (now (message .entry)) ⌝ }
 {
     let r = reading::read_strict(kind, grade, frame, message);
+    answer(r.number, r.energy)
+}
+
+// Sending with an account that is held in two lent numbers, changed only on success: the energy, or minus the refusal number.
+#[no_mangle]
+pub extern "C" fn link_send_counted(
+    kind: u8,
+    grade: u8,
+    message: &[u8],
+    frame: &mut [i32],
+    count: &mut u32,
+    sum: &mut f64,
+) -> i64
+    ensures answer { λ r. ⌜ r ≡ answerOf (countedRefusal kind grade (now (message .entry)) (length (now (frame .entry))) (accountOf (now (count .entry)) (now (sum .entry)))) (countedEnergy kind grade (now (message .entry)) (length (now (frame .entry))) (accountOf (now (count .entry)) (now (sum .entry)))) ⌝ }
+    ensures frame { λ r. ⌜ now (frame .exit) ≡ countedFrame kind grade (now (message .entry)) (now (frame .entry)) (accountOf (now (count .entry)) (now (sum .entry))) ⌝ }
+    ensures account { λ r. ⌜ accountOf (now (count .exit)) (now (sum .exit)) ≡ countedAccount kind grade (now (message .entry)) (length (now (frame .entry))) (accountOf (now (count .entry)) (now (sum .entry))) ⌝ }
+{
+    let before = power::Account {
+        count: *count,
+        sum: *sum,
+    };
+    let r = account::send_counted(kind, grade, message, frame, before);
+    let after = r.account;
+    *count = after.count;
+    *sum = after.sum;
     answer(r.number, r.energy)
 }

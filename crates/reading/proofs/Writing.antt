@@ -16,16 +16,10 @@ use Rattle.reed_muller.specs.Message.{messageBit, byteOf, bytesOf, withBit, wit
 use Rattle.reed_muller.proofs.Table.{length-table, table-at}
 use Rattle.reed_muller.proofs.Parity.{message-small}
 use Rattle.reed_muller.proofs.Message.{length-bytes, bits-of-bytes, bytes-ext, bytes-of-bits, byte-lt, with-in, with-before, with-past, with-small, with-none}
+use Rattle.frames.proofs.One.{table-below}
 use Rattle.reading.specs.Written.{Bytes, Written}
 
 -- ---- bytes made of bits
-
-table-below : (B : ℕ) (f : ℕ → ℕ) (n : ℕ) → 0 < B → ((i : ℕ) → f i < B) → (i : ℕ) → getD (table n f) i 0 < B
-table-below B f n z h i = go (decLt i n)
-  where
-    go : Dec (i < n) → getD (table n f) i 0 < B
-    go (yes l) = rw (table-at f n i l) (h i)
-    go (no k) = rw (List·getD-eq-default (table n f) 0 {n = i} (omega (arith, length-table f n))) z
 
 made-bytes : (n : ℕ) (bit : ℕ → ℕ) → ((i : ℕ) → bit i < 2) → Bytes (bytesOf n bit)
 unfolding bytesOf

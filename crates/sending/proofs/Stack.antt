@@ -12,11 +12,11 @@ use lib.Pow.{pow-mono}
 use Rattle.reed_muller.specs.Level.{table, dimension, codeword}
 use Rattle.reed_muller.proofs.Codeword.{codeword-small}
 use Rattle.reed_muller.proofs.Table.{table-at, table-ext}
-use Rattle.frames.specs.Kind.{kinds, isKind, degrees, levels, dimensions, levelBits}
+use Rattle.frames.specs.Kind.{isKind, degrees, levels, dimensions, levelBits}
 use Rattle.frames.specs.Message.{stacked}
 use Rattle.frames.proofs.Levels.{Fit}
 use Rattle.frames.proofs.One.{table-below}
-use Rattle.frames.proofs.Rows.{each-kind, shape}
+use Rattle.frames.proofs.Rows.{shape}
 
 -- the offset of the bits of level i
 abbrev pub offset : ℕ → List ℕ → ℕ → ℕ
@@ -125,7 +125,3 @@ module _ (k i from r d : ℕ) (kind : isKind k ≡ true) (hi : 0 < i) (li : i �
       let e : i ≡ suc (i - 1) = omega arith in
       ap₂ (λ (x o : ℕ). table (2 ^ k) (λ p. codeword x k (λ t. bit (o + t)) p + 2 * getD sums p 0)) er turn-from
       ∙ one-more k (degrees k) bit (i - 1) turn-inside sums (es ∙ ap (from-level k (degrees k) bit) e)
-
-pub few-levels : (k : ℕ) → isKind k ≡ true → levels k ≤ 2
-unfolding levels degrees kinds
-few-levels = each-kind (λ k. levels k ≤ 2) (omega arith) (omega arith) (omega arith)

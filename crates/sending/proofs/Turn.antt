@@ -29,9 +29,10 @@ use Rattle.frames.proofs.Frame.{at, ints-at, ints-length, part-length, part-at}
 use Rattle.frames.proofs.One.{leader-length, leader-at}
 use Rattle.frames.proofs.Rows.{shape}
 use Rattle.frames.proofs.Numbers.{total}
+use Rattle.frames.proofs.Bounds.{few-levels}
 use Rattle.sending.proofs.Bits.{number-small}
 use Rattle.sending.proofs.Block.{numbers-at, width-small}
-use Rattle.sending.proofs.Stack.{stacked-below, stacked-over, few-levels}
+use Rattle.sending.proofs.Stack.{stacked-below, stacked-over}
 
 -- ---- the frame
 

@@ -1,20 +1,17 @@
 -- `answer` meets its contract. Assumes nothing.
 use Prim.Native.Nat.{ℕ, _<_}
-use mathlib.Core.Path.{_≡_, refl, sym, ap, _∙_, subst}
+use mathlib.Core.Path.{_≡_, sym, ap, _∙_, subst}
 use native.Mathlib.Omega.{arith}
 use lib.IntN.{ℤ, pos, negℤ, _-ℤ_, +ℤ-idl}
 use mir.Syntax.{w64}
-use mir.Val.{SFits, toZ, ofZ}
+use mir.Val.{SFits, toZ}
 use mir.Facts.{toZ-ofZ, toZ-pos}
 use borrow.Author.Tests.{ne-eqb, eq-eqb}
-use Rattle.integers.proofs.Zed.{#_, _⊖_, sfits!}
+use Rattle.integers.proofs.Zed.{#_, _⊖_, sfits! }
 use Rattle.link.specs.Answer.{answerOf}
 use borrow.Author.Needs.{needs}
 use Rattle.link.proofs.answer.Statement.{statement}
 use Rattle.link.proofs.answer.Tie as tie
-use Rattle.link.proofs.answer.Reads as reads
-use Rattle.link.proofs.answer.Lts as lts
-
 
 -- minus a number of eight bits
 small : (n : ℕ) → n < 256 → toZ w64 n ≡ pos n
@@ -23,27 +20,21 @@ small n h = toZ-pos w64 {n = n} (omega arith)
 minus-fits : (n : ℕ) → n < 256 → SFits w64 (pos 0 -ℤ toZ w64 n)
 minus-fits n h = subst (λ (z : ℤ). SFits w64 (pos 0 -ℤ z)) (sym (small n h)) (sfits! w64 (# 0 ⊖ # n) (omega arith) (omega arith))
 
-
--- src/lib.rt:15:20
 cast-result : tie.Need-cast-result
 cast-result c = search needs
 
--- src/lib.rt:15:16
 sub-result : tie.Need-sub-result
 sub-result c = minus-fits (c .before .args .number) (c .before .fits .number .fits)
 
--- src/lib.rt:15:9
 returns : tie.Need-returns
 unfolding answerOf
 returns c =
     let n = c .before .args .number in
     toZ-ofZ (minus-fits n (c .before .fits .number .fits)) ∙ ap (λ (z : ℤ). pos 0 -ℤ z) (small n (c .before .fits .number .fits)) ∙ +ℤ-idl (negℤ (pos n)) ∙ sym (simp (ne-eqb _ _ (c .if1 .taken)))
 
--- src/lib.rt:17:5
 cast-result-2 : tie.Need-cast-result-2
 cast-result-2 c = search needs
 
--- src/lib.rt:10:1
 returns-2 : tie.Need-returns-2
 unfolding answerOf
 returns-2 c =

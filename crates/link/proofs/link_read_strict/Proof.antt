@@ -1,5 +1,5 @@
 -- `link_read_strict` meets its contract: what the reading ensures, in one number. Assumes nothing.
-use mathlib.Core.Path.{_≡_, sym, ap, ap₂, _∙_, subst}
+use mathlib.Core.Path.{ap₂, _∙_}
 use native.Mathlib.Omega.{arith}
 use lib.ListN.{length}
 use mir.Facts.{toZ-ofZ}
@@ -9,26 +9,18 @@ use Rattle.link.proofs.Bounds.{strict-fits}
 use borrow.Author.Needs.{needs}
 use Rattle.link.proofs.link_read_strict.Statement.{statement}
 use Rattle.link.proofs.link_read_strict.Tie as tie
-use Rattle.link.proofs.link_read_strict.Reads as reads
-use Rattle.link.proofs.link_read_strict.Lts as lts
-use Rattle.link.proofs.answer.Reads as answer-reads
-use Rattle.reading.proofs.read_strict.Reads as read-strict-reads
 
--- src/lib.rt:46:9
 read-strict-requires : tie.Need-read-strict-requires
 read-strict-requires c κs = search needs
 
--- src/lib.rt:47:5
 answer-requires : tie.Need-answer-requires
 answer-requires c κs =
     let s = c .before .before .before .before .before .args in
     omega (arith, c .before .before .read-strict .ensures .1 .1, strict-fits (s .kind) (s .grade) (s .frame .now) (length (s .message .now)))
 
--- src/lib.rt:41:1
 same-length : tie.Need-same-length
 same-length c = search needs
 
--- src/lib.rt:41:1
 returns : tie.Need-returns
 returns c =
     let e = c .before .before .before .read-strict .ensures in

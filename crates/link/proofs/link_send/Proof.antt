@@ -1,5 +1,5 @@
 -- `link_send` meets its contract: what `send` ensures, in one number. Assumes nothing.
-use mathlib.Core.Path.{_≡_, sym, ap, ap₂, _∙_, subst}
+use mathlib.Core.Path.{ap₂, _∙_}
 use native.Mathlib.Omega.{arith}
 use lib.ListN.{length}
 use mir.Facts.{toZ-ofZ}
@@ -9,26 +9,18 @@ use Rattle.link.proofs.Bounds.{sent-fits}
 use borrow.Author.Needs.{needs}
 use Rattle.link.proofs.link_send.Statement.{statement}
 use Rattle.link.proofs.link_send.Tie as tie
-use Rattle.link.proofs.link_send.Reads as reads
-use Rattle.link.proofs.link_send.Lts as lts
-use Rattle.link.proofs.answer.Reads as answer-reads
-use Rattle.sending.proofs.send.Reads as send-reads
 
--- src/lib.rt:26:9
 send-requires : tie.Need-send-requires
 send-requires c κs = search needs
 
--- src/lib.rt:27:5
 answer-requires : tie.Need-answer-requires
 answer-requires c κs =
     let s = c .before .before .before .before .args in
     omega (arith, c .before .send .ensures .1 .1 .0, sent-fits (s .kind) (s .grade) (s .message .now) (length (s .frame .now)))
 
--- src/lib.rt:21:1
 same-length : tie.Need-same-length
 same-length c = search needs
 
--- src/lib.rt:21:1
 returns : tie.Need-returns
 returns c =
     let e = c .before .before .send .ensures in

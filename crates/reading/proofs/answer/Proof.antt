@@ -7,8 +7,9 @@ use lib.IntN.{ℤ}
 use lib.ListN.{length}
 use borrow.Author.Tests.{eq-eqb, ne-eqb}
 use Rattle.e8.specs.Energy.{energy}
+use Rattle.e8.proofs.Within.{within-to}
 use Rattle.frames.specs.Reading.{openMessage, messageAfter, energyRead}
-use Rattle.frames.proofs.Refusals.{range-within, within-more, Accepted, accepted}
+use Rattle.frames.proofs.Refusals.{range-within, Accepted, accepted}
 use Rattle.kind_table.proofs.Each.{size}
 use borrow.Author.Needs.{needs}
 use Rattle.reading.proofs.answer.Statement.{statement}
@@ -41,7 +42,7 @@ energy-requires c κs =
     let d = c .before .before .before .before in
     let a = d .before .before .args in
     let t = taken d in
-    (omega (arith, t .coordinates, size (a .kind) (t .kind) .positions), within-more 1048576 (2 ^ 24) (omega arith) (a .frame .now) (range-within (a .frame .now) (t .range)))
+    (omega (arith, t .coordinates, size (a .kind) (t .kind) .positions), within-to 1048576 (2 ^ 24) (a .frame .now) (omega arith) (range-within (a .frame .now) (t .range)))
 
 same-length : tie.Need-same-length
 same-length c = search needs

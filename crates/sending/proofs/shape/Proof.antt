@@ -22,7 +22,8 @@ use Rattle.frames.specs.Message.{widths, numbers, stacked, leader}
 use Rattle.frames.specs.Frame.{half}
 use Rattle.frames.proofs.Rows.{shape}
 use Rattle.kind_table.proofs.Each.{size, bits-row}
-use Rattle.sending.proofs.Stack.{few-levels, level-below}
+use Rattle.frames.proofs.Bounds.{few-levels}
+use Rattle.sending.proofs.Stack.{level-below}
 use Rattle.sending.proofs.Turn.{put-block, read-block, block-is, shaped-length, block-length, block-within, block-energy, more-energy, more-frame, none-energy, none-frame, whole-frame, block-room, part-within, offset-small, taken-below}
 use Rattle.sending.proofs.shape.Statement.{statement}
 use Rattle.sending.proofs.shape.Tie as tie

@@ -11,7 +11,7 @@ use Rattle.frames.specs.Kind.{levels, blocks, levelBits, messageBits}
 use Rattle.frames.specs.Message.{widths}
 use Rattle.frames.specs.Reading.{quotients, allDigits, blockMessages}
 use Rattle.frames.proofs.Rows.{shape}
-use Rattle.frames.proofs.Reading.{few-levels}
+use Rattle.frames.proofs.Bounds.{few-levels}
 use Rattle.kind_table.proofs.Each.{size, message-small}
 use Rattle.reading.specs.Written.{Written}
 use Rattle.reading.proofs.Writing.{written-none}

@@ -10,7 +10,7 @@ use Rattle.reed_muller.specs.Level.{dimension}
 use Rattle.frames.specs.Kind.{degrees, levels, dimensions, levelBits}
 use Rattle.frames.specs.Frame.{levelWord}
 use Rattle.frames.specs.Reading.{levelMessage, levelMessages}
-use Rattle.frames.proofs.Reading.{few-levels}
+use Rattle.frames.proofs.Bounds.{few-levels}
 use Rattle.kind_table.proofs.Each.{size, bits-row}
 use Rattle.reading.specs.Written.{Written}
 use Rattle.reading.proofs.Words.{degree-fits}

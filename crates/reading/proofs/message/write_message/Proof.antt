@@ -5,10 +5,11 @@ use mathlib.Core.List.{List}
 use native.Mathlib.Omega.{arith}
 use lib.ListN.{length}
 use Rattle.reed_muller.proofs.Table.{length-table}
+use Rattle.e8.proofs.Within.{within-to}
 use Rattle.frames.specs.Kind.{degrees, levelBits, messageBits, messageBytes}
 use Rattle.frames.specs.Reading.{levelMessages}
 use Rattle.frames.proofs.Rows.{grade-low, grade-high}
-use Rattle.frames.proofs.Refusals.{range-within, within-more}
+use Rattle.frames.proofs.Refusals.{range-within}
 use Rattle.reading.specs.Written.{Written}
 use Rattle.reading.proofs.Pieces.{message-written}
 use borrow.Author.Needs.{needs}
@@ -46,7 +47,7 @@ write-blocks-requires c κs =
       grade-low (s .args .grade) (s .pre .1),
       grade-high (s .args .grade) (s .pre .1),
       s .pre .2,
-      within-more 1048576 (2 ^ 24) (omega arith) f (range-within f (s .pre .3)),
+      within-to 1048576 (2 ^ 24) f (omega arith) (range-within f (s .pre .3)),
       omega (arith, w .write-levels .ensures .long, cleared z, s .pre .4, bytes-hold (s .args .kind) (s .args .grade)),
     )
 

@@ -11,7 +11,7 @@ use Rattle.reed_muller.specs.Level.{belongs}
 use Rattle.frames.specs.Kind.{degrees, levels}
 use Rattle.frames.specs.Frame.{levelWord}
 use Rattle.frames.specs.Reading.{broken}
-use Rattle.frames.proofs.Reading.{few-levels}
+use Rattle.frames.proofs.Bounds.{few-levels}
 use Rattle.kind_table.proofs.Each.{size}
 use Rattle.reading.proofs.Words.{word-belongs, degree-fits, number-at, broken-at, whole-at, no-more}
 use Rattle.reading.proofs.refusal.broken_level.Statement.{statement}

@@ -5,13 +5,15 @@ use mathlib.Core.Bool.{Bool}
 use native.Mathlib.Omega.{arith}
 use lib.ListN.{length}
 use Rattle.e8.specs.Least.{leastFrame}
+use Rattle.e8.proofs.Within.{within-to}
 use Rattle.frames.specs.Kind.{levels, blocks}
 use Rattle.frames.specs.Frame.{half}
 use Rattle.frames.specs.Sending.{unless}
 use Rattle.frames.specs.Reading.{sameFrame, openRefusal, strictRefusal}
 use Rattle.frames.proofs.Rows.{shape, grade-low, grade-high}
-use Rattle.frames.proofs.Refusals.{range-within, within-more, Accepted, accepted}
-use Rattle.frames.proofs.Reading.{few-levels, strict-by-least, strict-as-open}
+use Rattle.frames.proofs.Refusals.{range-within, Accepted, accepted}
+use Rattle.frames.proofs.Bounds.{few-levels}
+use Rattle.frames.proofs.Reading.{strict-by-least, strict-as-open}
 use borrow.Author.Needs.{needs}
 use Rattle.reading.proofs.strict.strict_refusal.Statement.{statement}
 use Rattle.reading.proofs.strict.strict_refusal.Tie as tie
@@ -72,7 +74,7 @@ is-least-requires c κs =
     let s = start (c .before) .args in (
       omega (arith, c .levels .ensures, small (c .before)),
       whole (c .before),
-      within-more 1048576 (2 ^ 24) (omega arith) (s .frame .now) (range-within (s .frame .now) (a (c .before) .range)),
+      within-to 1048576 (2 ^ 24) (s .frame .now) (omega arith) (range-within (s .frame .now) (a (c .before) .range)),
     )
 
 returns-2 : tie.Need-returns-2

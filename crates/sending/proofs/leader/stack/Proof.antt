@@ -11,7 +11,8 @@ use Rattle.reed_muller.proofs.Table.{length-table}
 use Rattle.frames.specs.Kind.{degrees, levels, dimensions, levelBits}
 use Rattle.frames.specs.Message.{stacked}
 use Rattle.kind_table.proofs.Each.{size, bits-row}
-use Rattle.sending.proofs.Stack.{offset, from-level, none-stacked, level-below, turn-degree, turn-split, turn-room, turn-stack, few-levels}
+use Rattle.frames.proofs.Bounds.{few-levels}
+use Rattle.sending.proofs.Stack.{offset, from-level, none-stacked, level-below, turn-degree, turn-split, turn-room, turn-stack}
 use Rattle.sending.proofs.leader.stack.Statement.{statement}
 use Rattle.sending.proofs.leader.stack.Tie as tie
 
