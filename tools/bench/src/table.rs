@@ -1,4 +1,4 @@
-//! The table of times: library and hand-tuned coder on the same messages, in one run.
+//! The tables of times: library and hand-tuned coder on the same messages, in one run.
 
 use std::hint::black_box;
 use std::time::{Duration, Instant};
@@ -8,10 +8,10 @@ use bench::hand;
 use bench::random::Random;
 
 const FRAMES: usize = 1024;
-const TURNS: usize = 50;
-const TURN: Duration = Duration::from_millis(4);
+const TURNS: usize = 200;
+const TURN: Duration = Duration::from_millis(1);
 
-/// Nanoseconds for each frame, over at least one turn's time.
+/// Nanoseconds for each frame or block, over at least one turn's time.
 fn turn(pass: &mut dyn FnMut()) -> f64 {
     let (start, mut passes) = (Instant::now(), 0);
     while start.elapsed() < TURN {
@@ -32,8 +32,8 @@ fn measure(library: &mut dyn FnMut(), hand: &mut dyn FnMut()) -> (f64, f64) {
     least
 }
 
-fn line(kind: u8, grade: u8, what: &str, (library, hand): (f64, f64)) {
-    println!("| {kind} | {grade} | {what} | {library:.1} | {hand:.1} | {:.2} |", library / hand);
+fn line(what: &str, (library, hand): (f64, f64)) {
+    println!("| {what} | {library:.1} | {hand:.1} | {:.2} |", library / hand);
 }
 
 /// Measures a function that fills a buffer from each input, for the library and by hand.
@@ -56,25 +56,63 @@ macro_rules! measured {
     }};
 }
 
-pub fn print() {
+/// Sent frames of random messages, and their messages.
+fn sent(kind: u8, grade: u8, random: &mut Random) -> (Vec<Vec<u8>>, Vec<Vec<i32>>) {
+    let messages: Vec<Vec<u8>> = (0..FRAMES).map(|_| dense(kind, grade, random)).collect();
+    let frame = |message: &Vec<u8>| {
+        let mut frame = vec![0; lengths(kind, grade).0];
+        hand::send(kind, grade, message, &mut frame).expect("the message is good");
+        frame
+    };
+    let frames = messages.iter().map(frame).collect();
+    (messages, frames)
+}
+
+fn frames(random: &mut Random) {
     println!("| kind | grade | function | library, ns a frame | by hand, ns a frame | ratio |");
     println!("|---|---|---|---|---|---|");
-    let mut random = Random(1);
     for kind in 3..=5 {
         for grade in [1, 4] {
             let (length, bytes) = lengths(kind, grade);
-            let messages: Vec<Vec<u8>> = (0..FRAMES).map(|_| dense(kind, grade, &mut random)).collect();
-            let frames: Vec<Vec<i32>> = messages
-                .iter()
-                .map(|message| {
-                    let mut frame = vec![0; length];
-                    hand::send(kind, grade, message, &mut frame).expect("the message is good");
-                    frame
-                })
-                .collect();
-            line(kind, grade, "send", measured!(kind, grade, &messages, length, 0i32, send));
-            line(kind, grade, "read openly", measured!(kind, grade, &frames, bytes, 0u8, read_open));
-            line(kind, grade, "read strictly", measured!(kind, grade, &frames, bytes, 0u8, read_strict));
+            let (messages, frames) = sent(kind, grade, random);
+            let row = |function| format!("{kind} | {grade} | {function}");
+            line(&row("send"), measured!(kind, grade, &messages, length, 0i32, send));
+            line(&row("read openly"), measured!(kind, grade, &frames, bytes, 0u8, read_open));
+            line(&row("read strictly"), measured!(kind, grade, &frames, bytes, 0u8, read_strict));
         }
     }
+}
+
+/// The hand-tuned coder's time for a block of random coordinates at scale 2^k.
+fn shaping_by_hand(k: u32, random: &mut Random) -> f64 {
+    let blocks: Vec<[i32; 8]> = (0..FRAMES).map(|_| std::array::from_fn(|_| random.below(2 << k) as i32)).collect();
+    let mut pass = || {
+        for block in &blocks {
+            black_box(hand::shape(black_box(k), black_box(block)));
+        }
+    };
+    (0..TURNS).map(|_| turn(&mut pass)).fold(f64::INFINITY, f64::min)
+}
+
+fn blocks(random: &mut Random) {
+    println!("| shape a block alone | library, ns a block | by hand, ns a block | ratio |");
+    println!("|---|---|---|---|");
+    for grade in [1, 4] {
+        let (_, frames) = sent(5, grade, random);
+        let bytes = lengths(5, grade).1;
+        let open = measured!(5, grade, &frames, bytes, 0u8, read_open).0;
+        let strict = measured!(5, grade, &frames, bytes, 0u8, read_strict).0;
+        let k = grade as u32 + 2;
+        line(&format!("scale {}", 1 << k), ((strict - open) / 4.0, shaping_by_hand(k, random)));
+    }
+    println!();
+    println!("The library exports no shaping of a block. Its time there is a fourth of what the strict reading of");
+    println!("kind 5, four blocks, takes over the open one: shaping each block and comparing it.");
+}
+
+pub fn print() {
+    let mut random = Random(1);
+    frames(&mut random);
+    println!();
+    blocks(&mut random);
 }
