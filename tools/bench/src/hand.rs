@@ -1,7 +1,8 @@
-//! A hand-tuned coder of document 01, for x86-64 (SSE2 only, which every such processor has).
+//! A hand-tuned coder of document 01 in portable Rust: no intrinsics and no unsafe code.
 //!
-//! A block is eight bytes in a u64 while it is packed and unpacked, and eight i16 lanes while it
-//! is shaped. Codewords and message bits come from tables by byte, since both directions are linear.
+//! A block is an array of eight i32, and its loops have no branches, so that the compiler can put
+//! them into lanes. A codeword is a u32, the sum modulo 2 of the rows of its message bits; backwards
+//! it goes through the transform in place. Numbers stand in the message by shifts.
 //!
 //! # Rounding finds the first of the least members
 //!
@@ -28,11 +29,20 @@
 //!   32m + 15, falling with i; for c_i = −m from 32m − 15 to 32m − 1, rising with i. No two
 //!   coordinates have the same key, and m is (key + 16) / 32.
 //!
+//! The half part needs no second rounding. Let d be x − H rounded into [−H, H): d_i is c_i − H
+//! where c_i ≥ 0, and c_i + H where c_i < 0. So |d_i| = H − |c_i|, and the key of d_i is 32·H less
+//! the key of c_i: in V the coordinate to change is the one whose c_i has the smallest key. Before
+//! any change V's energy is M·(2M − the sum of |c_i|) more than W's; a change costs M·(M − 2m) in W
+//! and M·2m in V, m being the size |c_i| of the coordinate changed.
+//!
 //! Members of W and V differ at every coordinate, since their residues modulo M differ by H. So
 //! the first of all is the one of less energy, and at equal energy the one whose first coordinate
-//! is smaller.
+//! is smaller. Where c_0 ≥ 0, W's is c_0 or c_0 − M, and V's is c_0 − H or c_0 + H: V's is the
+//! smaller just when neither is changed. Where c_0 < 0, the other way round.
 
-use std::arch::x86_64::*;
+#![forbid(unsafe_code)]
+
+use std::array::from_fn;
 
 /// The refusals of document 01, by number.
 pub mod refusal {
@@ -51,18 +61,13 @@ pub mod refusal {
 const FURTHEST: i32 = 1_048_576;
 const FULL: u32 = 1_000_000;
 
-/// The byte in all eight bytes.
-const fn rep8(byte: u64) -> u64 {
-    byte * 0x0101_0101_0101_0101
-}
-
-/// The masks of 2^m positions, by number of set bits, then by value.
-const fn order<const N: usize>() -> [usize; N] {
+/// The masks of N positions, by number of set bits, then by value.
+const fn order<const N: usize>() -> [u32; N] {
     let mut masks = [0; N];
     let (mut next, mut weight) = (0, 0);
     while next < N {
         let mut mask = 0;
-        while mask < N {
+        while mask < N as u32 {
             if mask.count_ones() == weight {
                 masks[next] = mask;
                 next += 1;
@@ -74,88 +79,59 @@ const fn order<const N: usize>() -> [usize; N] {
     masks
 }
 
-/// For each byte of the message bits in order of masks, its codeword.
-const fn forward<const N: usize, const BYTES: usize>() -> [[u32; 256]; BYTES] {
+/// For each message bit, the positions whose value it is part of: those its mask lies in.
+const fn rows<const N: usize>() -> [u32; N] {
     let masks = order::<N>();
-    let mut table = [[0; 256]; BYTES];
+    let mut rows = [0; N];
     let mut k = 0;
     while k < N {
-        let mut row = 0u32;
         let mut p = 0;
-        while p < N {
+        while p < N as u32 {
             if masks[k] & p == masks[k] {
-                row |= 1 << p;
+                rows[k] |= 1 << p;
             }
             p += 1;
         }
-        let mut byte = 0;
-        while byte < 256 {
-            if byte >> (k % 8) & 1 == 1 {
-                table[k / 8][byte] ^= row;
-            }
-            byte += 1;
-        }
         k += 1;
     }
-    table
+    rows
 }
 
-/// For each byte of a word, what it adds to the bits of all masks, in order.
-const fn backward<const N: usize, const BYTES: usize>() -> [[u32; 256]; BYTES] {
-    let masks = order::<N>();
-    let mut table = [[0; 256]; BYTES];
-    let mut p = 0;
-    while p < N {
-        let mut column = 0u32;
-        let mut k = 0;
-        while k < N {
-            if p & masks[k] == p {
-                column |= 1 << k;
-            }
-            k += 1;
-        }
-        let mut byte = 0;
-        while byte < 256 {
-            if byte >> (p % 8) & 1 == 1 {
-                table[p / 8][byte] ^= column;
-            }
-            byte += 1;
-        }
-        p += 1;
-    }
-    table
-}
+static ORDER_3: [u32; 8] = order();
+static ORDER_4: [u32; 16] = order();
+static ORDER_5: [u32; 32] = order();
+static ROWS_3: [u32; 8] = rows();
+static ROWS_4: [u32; 16] = rows();
+static ROWS_5: [u32; 32] = rows();
 
-/// Bit i of the index in byte i.
-const fn spread() -> [u64; 256] {
-    let mut table = [0; 256];
-    let mut byte = 0;
-    while byte < 256 {
-        let mut i = 0;
-        while i < 8 {
-            table[byte] |= ((byte as u64 >> i) & 1) << (8 * i);
-            i += 1;
-        }
-        byte += 1;
-    }
-    table
-}
-
-static FORWARD_3: [[u32; 256]; 1] = forward::<8, 1>();
-static FORWARD_4: [[u32; 256]; 2] = forward::<16, 2>();
-static FORWARD_5: [[u32; 256]; 4] = forward::<32, 4>();
-static BACKWARD_3: [[u32; 256]; 1] = backward::<8, 1>();
-static BACKWARD_4: [[u32; 256]; 2] = backward::<16, 2>();
-static BACKWARD_5: [[u32; 256]; 4] = backward::<32, 4>();
-static SPREAD: [u64; 256] = spread();
-
+/// The sum modulo 2 of the rows whose message bits are set.
 #[inline(always)]
-fn transform<const BYTES: usize>(table: &[[u32; 256]; BYTES], word: u32) -> u32 {
+fn sum_of_rows(rows: &[u32], bits: u32) -> u32 {
     let mut sum = 0;
-    for (i, part) in table.iter().enumerate() {
-        sum ^= part[(word >> (8 * i)) as usize & 255];
+    for (k, row) in rows.iter().enumerate() {
+        sum ^= row & (bits >> k & 1).wrapping_neg();
     }
     sum
+}
+
+/// For each mask, the parity of the word at all positions that lie in it; at most 32 positions.
+#[inline(always)]
+fn parities(word: u32) -> u32 {
+    let word = word ^ (word & 0x5555_5555) << 1;
+    let word = word ^ (word & 0x3333_3333) << 2;
+    let word = word ^ (word & 0x0F0F_0F0F) << 4;
+    let word = word ^ (word & 0x00FF_00FF) << 8;
+    word ^ word << 16
+}
+
+/// The bits at the masks, in the order given.
+#[inline(always)]
+fn gathered(masks: &[u32], parities: u32) -> u32 {
+    let mut bits = 0;
+    for (k, mask) in masks.iter().enumerate() {
+        bits |= (parities >> mask & 1) << k;
+    }
+    bits
 }
 
 /// What a kind and a grade fix.
@@ -173,80 +149,63 @@ impl<const KIND: usize, const B: usize> Format<KIND, B> {
     /// Message bits of the levels in whole bytes, and those left over, which begin the next byte.
     const WHOLE: usize = Self::LEVELS / 8;
     const OVER: usize = Self::LEVELS % 8;
+    /// The scale is 2^K.
+    const K: u32 = (Self::A + B) as u32;
 
+    /// The codeword of the lowest bits, as many as the dimension.
     #[inline(always)]
-    fn codeword(bits: u32) -> u32 {
+    fn codeword(dimension: usize, bits: u32) -> u32 {
         match KIND {
-            3 => transform(&FORWARD_3, bits),
-            4 => transform(&FORWARD_4, bits),
-            _ => transform(&FORWARD_5, bits),
+            3 => sum_of_rows(&ROWS_3[..dimension], bits),
+            4 => sum_of_rows(&ROWS_4[..dimension], bits),
+            _ => sum_of_rows(&ROWS_5[..dimension], bits),
         }
     }
 
-    /// The bits of all masks: the message bits first, then those that a codeword has 0.
+    /// The message bits of a codeword; none where the word is not one.
     #[inline(always)]
-    fn mask_bits(word: u32) -> u32 {
-        match KIND {
-            3 => transform(&BACKWARD_3, word),
-            4 => transform(&BACKWARD_4, word),
-            _ => transform(&BACKWARD_5, word),
-        }
+    fn message_bits(dimension: usize, word: u32) -> Option<u32> {
+        let parities = parities(word);
+        let (taken, others) = match KIND {
+            3 => ORDER_3.split_at(dimension),
+            4 => ORDER_4.split_at(dimension),
+            _ => ORDER_5.split_at(dimension),
+        };
+        let others = others.iter().fold(0, |sum, mask| sum | 1 << mask);
+        (parities & others == 0).then(|| gathered(taken, parities))
     }
 
-    /// s1 to s8 of a block's 8·B message bits, one in each byte.
-    #[inline(always)]
-    fn unpack(bits: u64) -> u64 {
-        // One bit up, so that every number but s8 has B bits; s1 is then doubled.
-        let w = bits << 1;
-        let low = (1u64 << (4 * B)) - 1;
-        let w = (w & low) | (w >> (4 * B)) << 32;
-        let low = ((1u64 << (2 * B)) - 1) * 0x0000_0001_0000_0001;
-        let w = (w & low) | (w & !low) << (16 - 2 * B);
-        let low = ((1u64 << B) - 1) * 0x0001_0001_0001_0001;
-        let w = (w & low) | (w & !low) << (8 - B);
-        w - ((w & 0xFF) >> 1)
+    /// Where number i of a block begins in its message bits.
+    const fn place(i: usize) -> usize {
+        (B * i).saturating_sub(1)
     }
 
-    /// The 8·B message bits of s1 to s8.
+    /// s1 to s8 of a block's 8·B message bits.
     #[inline(always)]
-    fn pack(s: u64) -> u64 {
-        let w = s + (s & 0xFF);
-        let low = 0x00FF_00FF_00FF_00FF;
-        let w = (w & low) | (w & !low) >> (8 - B);
-        let low = 0x0000_FFFF_0000_FFFF;
-        let w = (w & low) | (w & !low) >> (16 - 2 * B);
-        let w = (w & 0xFFFF_FFFF) | (w >> 32) << (4 * B);
-        w >> 1
+    fn unpack(bits: u32) -> [i32; 8] {
+        from_fn(|i| {
+            let width = [B - 1, B, B, B, B, B, B, B + 1][i];
+            (bits >> Self::place(i)) as i32 & ((1 << width) - 1)
+        })
     }
 
-    /// s1 to s8 of the block whose coordinates modulo 2M are x.
+    /// The 8·B message bits to which a block reduces.
     #[inline(always)]
-    fn reduce(x: u64) -> u64 {
+    fn reduce(x: &[i32; 8]) -> u32 {
         // In units of 2^a, modulo 4h; h is half of 2^B.
-        let h = 1u64 << (B - 1);
-        let v = (x >> Self::A) & rep8(4 * h - 1);
+        let h = 1i32 << (B - 1);
         // The first row, h in every coordinate, as often as brings the first into [0, h).
-        let first = v & (3 * h);
-        let d = ((v | rep8(0x80)) - rep8(first)) & rep8(4 * h - 1);
+        let first = (x[0] >> Self::A) & -h;
         // Rows 2 to 7, each 2h also in the eighth: the parity of their number moves s8 by 2h.
-        let odd = (d & rep8(2 * h)).wrapping_mul(rep8(1));
-        (d & rep8(2 * h - 1)) | (odd & (2 * h) << 56)
-    }
-
-    /// The sent block of the class of x, coordinates in bytes from 0 to 2M − 1: as i16 lanes, and its energy, in the lowest 32 bits.
-    #[inline]
-    #[target_feature(enable = "sse2")]
-    fn shape(x: u64) -> (__m128i, __m128i) {
-        match Self::A + B {
-            2 => shape::<2>(x),
-            3 => shape::<3>(x),
-            4 => shape::<4>(x),
-            5 => shape::<5>(x),
-            _ => shape::<6>(x),
+        let (mut bits, mut odd) = (0, 0);
+        for i in 0..8 {
+            let d = (x[i] >> Self::A).wrapping_sub(first);
+            bits |= ((d & (2 * h - 1)) as u32) << Self::place(i);
+            odd ^= d;
         }
+        bits | ((odd & 2 * h) as u32) << Self::place(7)
     }
 
-    #[target_feature(enable = "sse2")]
     fn send(message: &[u8], frame: &mut [i32]) -> Result<u64, u8> {
         if message.len() != Self::BYTES {
             return Err(refusal::MESSAGE_LENGTH);
@@ -258,25 +217,21 @@ impl<const KIND: usize, const B: usize> Format<KIND, B> {
             return Err(refusal::SPARE_BITS);
         }
         let bits = load(&message[..Self::LEVELS.div_ceil(8)]);
-        let c0 = Self::codeword(bits as u32 & ((1 << Self::LEVEL_0) - 1));
-        let c1 = Self::codeword((bits >> Self::LEVEL_0) as u32 & ((1 << Self::LEVEL_1) - 1));
-        let mut energy = _mm_setzero_si128();
-        for (j, block) in frame.chunks_exact_mut(8).enumerate() {
+        let c0 = Self::codeword(Self::LEVEL_0, bits as u32);
+        let c1 = Self::codeword(Self::LEVEL_1, (bits >> Self::LEVEL_0) as u32);
+        let mut energy = 0;
+        for (j, block) in frame.as_chunks_mut::<8>().0.iter_mut().enumerate() {
             let start = Self::WHOLE + B * j;
             let bits = load(&message[start..start + B + (Self::OVER != 0) as usize]) >> Self::OVER;
-            let s = Self::unpack(bits & ((1 << (8 * B)) - 1));
-            let mut x = (s << Self::A) + SPREAD[(c0 >> (8 * j)) as usize & 255];
-            if Self::A == 2 {
-                x += SPREAD[(c1 >> (8 * j)) as usize & 255] << 1;
-            }
-            let (z, e) = Self::shape(x);
-            store_block(z, block);
-            energy = _mm_add_epi32(energy, e);
+            let s = Self::unpack(bits as u32);
+            let (w0, w1) = (c0 >> (8 * j), c1 >> (8 * j));
+            let x = from_fn(|i| (s[i] << Self::A) + 2 * (w1 >> i & 1) as i32 + (w0 >> i & 1) as i32);
+            *block = shape(Self::K, &x);
+            energy += block.iter().map(|z| z * z).sum::<i32>();
         }
-        Ok(_mm_cvtsi128_si32(energy) as u64)
+        Ok(energy as u64)
     }
 
-    #[target_feature(enable = "sse2")]
     fn read<const STRICT: bool>(frame: &[i32], message: &mut [u8]) -> Result<u64, u8> {
         if frame.len() != Self::N {
             return Err(refusal::FRAME_LENGTH);
@@ -284,56 +239,43 @@ impl<const KIND: usize, const B: usize> Format<KIND, B> {
         if message.len() != Self::BYTES {
             return Err(refusal::MESSAGE_LENGTH);
         }
-        let scale = 1i32 << (Self::A + B);
-        let mut over = _mm_setzero_si128();
-        let mut unlike = _mm_setzero_si128();
-        let mut squares = _mm_setzero_si128();
-        let (mut c0, mut c1) = (0u32, 0u32);
-        let mut packed = [0u64; 4];
-        for (j, block) in frame.chunks_exact(8).enumerate() {
-            let halves = load_block(block);
-            let low = _mm_set1_epi32(2 * scale - 1);
-            let small = halves.map(|half| _mm_and_si128(half, low));
-            let bytes = _mm_packs_epi32(small[0], small[1]);
-            let bytes = _mm_packus_epi16(bytes, bytes);
-            for half in halves {
-                over = _mm_or_si128(over, beyond(half));
-                squares = _mm_add_epi64(squares, square_sums(half));
+        let (mut over, mut unlike) = (false, false);
+        let mut energy = 0;
+        let (mut c0, mut c1) = (0, 0);
+        let mut packed = [0; 4];
+        for (j, block) in frame.as_chunks::<8>().0.iter().enumerate() {
+            let (mut w0, mut w1) = (0, 0);
+            for (i, &x) in block.iter().enumerate() {
+                over |= (x > FURTHEST) | (x < -FURTHEST);
+                let size = x.unsigned_abs() as u64;
+                energy += size * size;
+                w0 |= (x as u32 & 1) << i;
+                w1 |= (x as u32 >> 1 & 1) << i;
             }
-            let bits = |shifted| _mm_movemask_epi8(shifted) as u32 & 255;
-            c0 |= bits(_mm_slli_epi16::<7>(bytes)) << (8 * j);
-            if Self::A == 2 {
-                c1 |= bits(_mm_slli_epi16::<6>(bytes)) << (8 * j);
-            }
-            let x = _mm_cvtsi128_si64(bytes) as u64;
-            packed[j] = Self::pack(Self::reduce(x));
+            c0 |= w0 << (8 * j);
+            c1 |= w1 << (8 * j);
+            packed[j] = Self::reduce(block);
             if STRICT {
-                let (z, _) = Self::shape(x);
-                for (half, sent) in halves.into_iter().zip(widen(z)) {
-                    unlike = _mm_or_si128(unlike, _mm_xor_si128(half, sent));
-                }
+                unlike |= shape(Self::K, block) != *block;
             }
         }
-        if any(over) {
+        if over {
             return Err(refusal::OVER_RANGE);
         }
-        let level_0 = Self::mask_bits(c0) as u64;
-        if level_0 >> Self::LEVEL_0 != 0 {
-            return Err(refusal::BROKEN_LEVEL_0);
-        }
-        let level_1 = Self::mask_bits(c1) as u64;
-        if Self::A == 2 && level_1 >> Self::LEVEL_1 != 0 {
-            return Err(refusal::BROKEN_LEVEL_1);
-        }
-        if STRICT && any(unlike) {
+        let level_0 = Self::message_bits(Self::LEVEL_0, c0).ok_or(refusal::BROKEN_LEVEL_0)?;
+        let level_1 = match Self::A {
+            1 => 0,
+            _ => Self::message_bits(Self::LEVEL_1, c1).ok_or(refusal::BROKEN_LEVEL_1)?,
+        };
+        if unlike {
             return Err(refusal::UNSHAPED);
         }
         // Bits of the levels, then of each block; those that fill no byte go on to the next.
-        let bits = level_0 | level_1 << Self::LEVEL_0;
+        let bits = level_0 as u64 | (level_1 as u64) << Self::LEVEL_0;
         store(bits, &mut message[..Self::WHOLE]);
         let mut rest = bits >> (8 * Self::WHOLE);
-        for (j, block) in packed[..Self::BLOCKS].iter().enumerate() {
-            let bits = rest | block << Self::OVER;
+        for (j, &block) in packed[..Self::BLOCKS].iter().enumerate() {
+            let bits = rest | (block as u64) << Self::OVER;
             let start = Self::WHOLE + B * j;
             store(bits, &mut message[start..start + B]);
             rest = bits >> (8 * B);
@@ -341,8 +283,7 @@ impl<const KIND: usize, const B: usize> Format<KIND, B> {
         if Self::OVER != 0 {
             message[Self::BYTES - 1] = rest as u8;
         }
-        let energy = _mm_add_epi64(squares, _mm_unpackhi_epi64(squares, squares));
-        Ok(_mm_cvtsi128_si64(energy) as u64)
+        Ok(energy)
     }
 }
 
@@ -359,126 +300,47 @@ fn store(bits: u64, bytes: &mut [u8]) {
     }
 }
 
-#[inline]
-#[target_feature(enable = "sse2")]
-fn load_block(block: &[i32]) -> [__m128i; 2] {
-    assert!(block.len() == 8);
-    let start = block.as_ptr() as *const __m128i;
-    // SAFETY: the block has eight coordinates, twice what a load takes.
-    unsafe { [_mm_loadu_si128(start), _mm_loadu_si128(start.add(1))] }
+/// A figure of all eight coordinates, by halves: the compiler keeps the first step in lanes.
+#[inline(always)]
+fn fold(x: [i32; 8], f: impl Fn(i32, i32) -> i32) -> i32 {
+    let x: [i32; 4] = from_fn(|i| f(x[i], x[i + 4]));
+    f(f(x[0], x[2]), f(x[1], x[3]))
 }
 
-#[inline]
-#[target_feature(enable = "sse2")]
-fn store_block(z: __m128i, block: &mut [i32]) {
-    assert!(block.len() == 8);
-    let start = block.as_mut_ptr() as *mut __m128i;
-    let [low, high] = widen(z);
-    // SAFETY: the block has eight coordinates, twice what a store fills.
-    unsafe {
-        _mm_storeu_si128(start, low);
-        _mm_storeu_si128(start.add(1), high);
-    }
-}
-
-/// Eight i16 as eight i32.
-#[inline]
-#[target_feature(enable = "sse2")]
-fn widen(z: __m128i) -> [__m128i; 2] {
-    [_mm_srai_epi32::<16>(_mm_unpacklo_epi16(z, z)), _mm_srai_epi32::<16>(_mm_unpackhi_epi16(z, z))]
-}
-
-/// Whether any bit is set.
-#[inline]
-#[target_feature(enable = "sse2")]
-fn any(lanes: __m128i) -> bool {
-    _mm_movemask_epi8(_mm_cmpeq_epi8(lanes, _mm_setzero_si128())) != 0xFFFF
-}
-
-/// Marks the coordinates outside the open reading's ends.
-#[inline]
-#[target_feature(enable = "sse2")]
-fn beyond(x: __m128i) -> __m128i {
-    let above = _mm_cmpgt_epi32(x, _mm_set1_epi32(FURTHEST));
-    let below = _mm_cmplt_epi32(x, _mm_set1_epi32(-FURTHEST));
-    _mm_or_si128(above, below)
-}
-
-/// The squares of four coordinates, as two sums.
-#[inline]
-#[target_feature(enable = "sse2")]
-fn square_sums(x: __m128i) -> __m128i {
-    let sign = _mm_srai_epi32::<31>(x);
-    let size = _mm_sub_epi32(_mm_xor_si128(x, sign), sign);
-    let odd = _mm_srli_epi64::<32>(size);
-    _mm_add_epi64(_mm_mul_epu32(size, size), _mm_mul_epu32(odd, odd))
-}
-
-/// The sent block of the class of x at scale M = 2^K, and its energy in the lowest 32 bits; x has
-/// coordinates in bytes, from 0 to 2M − 1. (A class has such a member: 2M in one coordinate is a
-/// point of the lattice.)
-///
-/// Figures of the whole part stand in the low four lanes, those of the half part in the high four.
-#[inline]
-#[target_feature(enable = "sse2")]
-fn shape<const K: usize>(x: u64) -> (__m128i, __m128i) {
-    let scale = 1i16 << K;
-    let half = _mm_set1_epi16(scale / 2);
-    let low = _mm_set1_epi16(scale - 1);
-    let bytes = _mm_cvtsi64_si128(x as i64);
-    let raised = _mm_add_epi8(bytes, _mm_set1_epi8(scale as i8 / 2));
-    let wide = |bytes| _mm_unpacklo_epi8(bytes, _mm_setzero_si128());
-    // The whole part c and the half part d, rounded into [−H, H).
-    let c = _mm_sub_epi16(_mm_and_si128(wide(raised), low), half);
-    let d = _mm_sub_epi16(_mm_and_si128(wide(bytes), low), half);
-    // Whether the sum of u is even: bit K of the coordinates, added up.
-    let top = _mm_and_si128(_mm_unpacklo_epi64(raised, bytes), _mm_set1_epi8(scale as i8));
-    let sums = _mm_sad_epu8(top, _mm_setzero_si128());
-    let sums = _mm_shufflehi_epi16::<0>(_mm_shufflelo_epi16::<0>(sums));
-    let even = _mm_cmpeq_epi16(_mm_and_si128(sums, _mm_set1_epi16(scale)), _mm_setzero_si128());
-    // The largest key of each part.
-    let (key_c, key_d) = (keys(c), keys(d));
-    let most = _mm_max_epi16(_mm_unpacklo_epi64(key_c, key_d), _mm_unpackhi_epi64(key_c, key_d));
-    let most = _mm_max_epi16(most, _mm_shuffle_epi32::<0b10_11_00_01>(most));
-    let swapped = _mm_shufflehi_epi16::<0b10_11_00_01>(_mm_shufflelo_epi16::<0b10_11_00_01>(most));
-    let most = _mm_max_epi16(most, swapped);
-    // The energies, with the cost of the change that an odd sum asks for.
-    let (e_c, e_d) = (_mm_madd_epi16(c, c), _mm_madd_epi16(d, d));
-    let e = _mm_add_epi32(_mm_unpacklo_epi64(e_c, e_d), _mm_unpackhi_epi64(e_c, e_d));
-    let e = _mm_add_epi32(e, _mm_shuffle_epi32::<0b10_11_00_01>(e));
-    let largest = _mm_srli_epi16::<5>(_mm_add_epi16(most, _mm_set1_epi16(16)));
-    let saved = _mm_mullo_epi16(largest, _mm_set1_epi16(2 * scale));
-    let cost = _mm_andnot_si128(even, _mm_sub_epi16(_mm_set1_epi32(scale as i32 * scale as i32), saved));
-    let e = _mm_add_epi32(e, _mm_and_si128(cost, _mm_set1_epi32(0xFFFF)));
-    // No key is −1, so an even sum changes nothing.
-    let key = _mm_or_si128(most, even);
-    let z_c = changed::<K>(c, key_c, _mm_unpacklo_epi64(key, key));
-    let z_d = changed::<K>(d, key_d, _mm_unpackhi_epi64(key, key));
-    // Less energy first, then the smaller first coordinate.
-    let first = _mm_srai_epi32::<16>(_mm_slli_epi32::<16>(_mm_unpacklo_epi64(z_c, z_d)));
-    let rank = _mm_add_epi32(_mm_slli_epi32::<8>(e), first);
-    let take_d = _mm_cmpgt_epi32(rank, _mm_shuffle_epi32::<0b01_00_11_10>(rank));
-    let take_d = _mm_shuffle_epi32::<0>(take_d);
-    let z = _mm_or_si128(_mm_and_si128(take_d, z_d), _mm_andnot_si128(take_d, z_c));
-    (z, _mm_min_epi16(e, _mm_shuffle_epi32::<0b01_00_11_10>(e)))
-}
-
-/// The keys by which the coordinate to change is chosen: |32·c_i + 15 − 2i|.
-#[inline]
-#[target_feature(enable = "sse2")]
-fn keys(c: __m128i) -> __m128i {
-    let g = _mm_add_epi16(_mm_slli_epi16::<5>(c), _mm_set_epi16(1, 3, 5, 7, 9, 11, 13, 15));
-    _mm_max_epi16(g, _mm_sub_epi16(_mm_setzero_si128(), g))
-}
-
-/// c with the coordinate of this key moved by M, towards and past 0.
-#[inline]
-#[target_feature(enable = "sse2")]
-fn changed<const K: usize>(c: __m128i, keys: __m128i, key: __m128i) -> __m128i {
-    let scale = 1i16 << K;
-    let negative = _mm_srai_epi16::<15>(c);
-    let step = _mm_sub_epi16(_mm_and_si128(negative, _mm_set1_epi16(2 * scale)), _mm_set1_epi16(scale));
-    _mm_add_epi16(c, _mm_and_si128(step, _mm_cmpeq_epi16(keys, key)))
+/// The sent block of the class of x, at scale M = 2^k, k from 2 to 6; x is any eight numbers.
+#[inline(always)]
+pub fn shape(k: u32, x: &[i32; 8]) -> [i32; 8] {
+    let (scale, half) = (1i32 << k, 1i32 << (k - 1));
+    let raised = x.map(|x| x.wrapping_add(half));
+    let c = raised.map(|x| (x & (scale - 1)) - half);
+    let keys: [i32; 8] = from_fn(|i| (32 * c[i] + 15 - 2 * i as i32).abs());
+    let most = fold(keys, i32::max);
+    let least = fold(keys, i32::min);
+    let sizes = fold(c.map(i32::abs), |a, b| a + b);
+    // All ones where the sum of u is odd: bit k of the coordinates, added up.
+    let odd_c = -(fold(raised, |a, b| a ^ b) >> k & 1);
+    let odd_d = -(fold(*x, |a, b| a ^ b) >> k & 1);
+    // What V's energy is over W's, by M.
+    let cost_c = (scale - 2 * ((most + 16) >> 5)) & odd_c;
+    let cost_d = (2 * ((least + 16) >> 5)) & odd_d;
+    let more = 2 * scale - sizes + cost_d - cost_c;
+    // No key is 0, so an even sum changes nothing.
+    let (key_c, key_d) = (most & odd_c, least & odd_d);
+    let changed = (keys[0] == key_c) | (keys[0] == key_d);
+    let smaller_d = (c[0] >= 0) ^ changed;
+    // All ones to take V's.
+    let take_d = -((more < smaller_d as i32) as i32);
+    let key = key_c ^ (key_c ^ key_d) & take_d;
+    let shift = half & take_d;
+    from_fn(|i| {
+        let z = if c[i] < 0 { c[i] + shift } else { c[i] - shift };
+        let past = if z < 0 { z + scale } else { z - scale };
+        if keys[i] == key {
+            past
+        } else {
+            z
+        }
+    })
 }
 
 /// Calls the function of a kind and grade, or refuses them.
@@ -505,20 +367,17 @@ macro_rules! by_format {
 
 /// Sends: fills the frame and gives its energy, or refuses and leaves the frame as it is.
 pub fn send(kind: u8, grade: u8, message: &[u8], frame: &mut [i32]) -> Result<u64, u8> {
-    // SAFETY: every x86-64 processor has SSE2.
-    unsafe { by_format!(kind, grade, send(message, frame)) }
+    by_format!(kind, grade, send(message, frame))
 }
 
 /// Reads openly: fills the message and gives the frame's energy, or refuses and leaves the message.
 pub fn read_open(kind: u8, grade: u8, frame: &[i32], message: &mut [u8]) -> Result<u64, u8> {
-    // SAFETY: every x86-64 processor has SSE2.
-    unsafe { by_format!(kind, grade, read::<false>(frame, message)) }
+    by_format!(kind, grade, read::<false>(frame, message))
 }
 
 /// Reads strictly, as `read_open` but only the sent frame.
 pub fn read_strict(kind: u8, grade: u8, frame: &[i32], message: &mut [u8]) -> Result<u64, u8> {
-    // SAFETY: every x86-64 processor has SSE2.
-    unsafe { by_format!(kind, grade, read::<true>(frame, message)) }
+    by_format!(kind, grade, read::<true>(frame, message))
 }
 
 /// A count of frames and the sum of their powers.

@@ -1,6 +1,6 @@
 //! Measures the library beside the hand-tuned coder, and compares their answers.
 //!
-//!     bench                        one table of times per frame
+//!     bench                        the tables of times, per frame and per block
 //!     bench compare FRAMES [SEED]  compares all answers on fresh messages and frames
 
 mod compare;

@@ -1,5 +1,6 @@
-//! The table of times: library and hand-tuned coder on the same messages, in one run.
+//! The tables of times: library and hand-tuned coder on the same messages, in one run.
 
+use std::array::from_fn;
 use std::hint::black_box;
 use std::time::{Duration, Instant};
 
@@ -8,10 +9,10 @@ use bench::hand;
 use bench::random::Random;
 
 const FRAMES: usize = 1024;
-const TURNS: usize = 50;
-const TURN: Duration = Duration::from_millis(4);
+const TURNS: usize = 200;
+const TURN: Duration = Duration::from_millis(1);
 
-/// Nanoseconds for each frame, over at least one turn's time.
+/// Nanoseconds for each frame or block, over at least one turn's time.
 fn turn(pass: &mut dyn FnMut()) -> f64 {
     let (start, mut passes) = (Instant::now(), 0);
     while start.elapsed() < TURN {
@@ -22,59 +23,102 @@ fn turn(pass: &mut dyn FnMut()) -> f64 {
 }
 
 /// The least time of each, measured turn and turn about, after one turn that does not count.
-fn measure(library: &mut dyn FnMut(), hand: &mut dyn FnMut()) -> (f64, f64) {
-    turn(library);
-    let mut least = (f64::INFINITY, f64::INFINITY);
+fn measure<const N: usize>(mut passes: [&mut dyn FnMut(); N]) -> [f64; N] {
+    turn(passes[0]);
+    let mut least = [f64::INFINITY; N];
     for _ in 0..TURNS {
-        least.0 = least.0.min(turn(library));
-        least.1 = least.1.min(turn(hand));
+        for (least, pass) in least.iter_mut().zip(&mut passes) {
+            *least = least.min(turn(pass));
+        }
     }
     least
 }
 
-fn line(kind: u8, grade: u8, what: &str, (library, hand): (f64, f64)) {
-    println!("| {kind} | {grade} | {what} | {library:.1} | {hand:.1} | {:.2} |", library / hand);
+fn line(what: &str, library: f64, hand: f64) {
+    println!("| {what} | {library:.1} | {hand:.1} | {:.2} |", library / hand);
 }
 
-/// Measures a function that fills a buffer from each input, for the library and by hand.
-macro_rules! measured {
-    ($kind:expr, $grade:expr, $inputs:expr, $length:expr, $zero:expr, $function:ident) => {{
-        let (kind, grade) = (black_box($kind), black_box($grade));
-        let (mut one, mut other) = (vec![$zero; $length], vec![$zero; $length]);
-        measure(
-            &mut || {
-                for input in $inputs {
-                    let _ = black_box(link_rs::$function(kind, grade, black_box(input), black_box(&mut one)));
-                }
-            },
-            &mut || {
-                for input in $inputs {
-                    let _ = black_box(hand::$function(kind, grade, black_box(input), black_box(&mut other)));
-                }
-            },
-        )
+/// A pass over all inputs of a function that fills a buffer from each.
+macro_rules! pass {
+    ($function:path, $kind:expr, $grade:expr, $inputs:expr, $buffer:expr) => {{
+        let (inputs, mut buffer) = ($inputs, $buffer);
+        move || {
+            for input in inputs {
+                let _ =
+                    black_box($function(black_box($kind), black_box($grade), black_box(input), black_box(&mut buffer)));
+            }
+        }
     }};
 }
 
-pub fn print() {
+/// Sent frames of random messages, and their messages.
+fn sent(kind: u8, grade: u8, random: &mut Random) -> (Vec<Vec<u8>>, Vec<Vec<i32>>) {
+    let messages: Vec<Vec<u8>> = (0..FRAMES).map(|_| dense(kind, grade, random)).collect();
+    let frame = |message: &Vec<u8>| {
+        let mut frame = vec![0; lengths(kind, grade).0];
+        hand::send(kind, grade, message, &mut frame).expect("the message is good");
+        frame
+    };
+    let frames = messages.iter().map(frame).collect();
+    (messages, frames)
+}
+
+fn frames(random: &mut Random) {
     println!("| kind | grade | function | library, ns a frame | by hand, ns a frame | ratio |");
     println!("|---|---|---|---|---|---|");
-    let mut random = Random(1);
     for kind in 3..=5 {
         for grade in [1, 4] {
             let (length, bytes) = lengths(kind, grade);
-            let messages: Vec<Vec<u8>> = (0..FRAMES).map(|_| dense(kind, grade, &mut random)).collect();
-            let frames: Vec<Vec<i32>> = messages
-                .iter()
-                .map(|message| {
-                    let mut frame = vec![0; length];
-                    hand::send(kind, grade, message, &mut frame).expect("the message is good");
-                    frame
-                })
-                .collect();
-            line(kind, grade, "send", measured!(kind, grade, &messages, length, 0i32, send));
-            line(kind, grade, "read openly", measured!(kind, grade, &frames, bytes, 0u8, read_open));
-            line(kind, grade, "read strictly", measured!(kind, grade, &frames, bytes, 0u8, read_strict));
+            let (messages, frames) = sent(kind, grade, random);
+            let [library, hand] = measure([
+                &mut pass!(link_rs::send, kind, grade, &messages, vec![0; length]),
+                &mut pass!(hand::send, kind, grade, &messages, vec![0; length]),
+            ]);
+            line(&format!("{kind} | {grade} | send"), library, hand);
+            let [library, hand] = measure([
+                &mut pass!(link_rs::read_open, kind, grade, &frames, vec![0; bytes]),
+                &mut pass!(hand::read_open, kind, grade, &frames, vec![0; bytes]),
+            ]);
+            line(&format!("{kind} | {grade} | read openly"), library, hand);
+            let [library, hand] = measure([
+                &mut pass!(link_rs::read_strict, kind, grade, &frames, vec![0; bytes]),
+                &mut pass!(hand::read_strict, kind, grade, &frames, vec![0; bytes]),
+            ]);
+            line(&format!("{kind} | {grade} | read strictly"), library, hand);
         }
     }
+}
+
+fn blocks(random: &mut Random) {
+    println!("| shape a block alone | by hand, called alone, ns | library, ns a block | by hand, ns a block | ratio |");
+    println!("|---|---|---|---|---|");
+    for grade in [1, 4] {
+        let bytes = lengths(5, grade).1;
+        let (_, frames) = sent(5, grade, random);
+        let k = grade as u32 + 2;
+        let blocks: [[i32; 8]; FRAMES] = from_fn(|_| from_fn(|_| random.below(2 << k) as i32));
+        let [open, strict, hand_open, hand_strict, alone] = measure([
+            &mut pass!(link_rs::read_open, 5, grade, &frames, vec![0; bytes]),
+            &mut pass!(link_rs::read_strict, 5, grade, &frames, vec![0; bytes]),
+            &mut pass!(hand::read_open, 5, grade, &frames, vec![0; bytes]),
+            &mut pass!(hand::read_strict, 5, grade, &frames, vec![0; bytes]),
+            &mut || {
+                for block in &blocks {
+                    black_box(hand::shape(black_box(k), black_box(block)));
+                }
+            },
+        ]);
+        let row = format!("scale {} | {alone:.1}", 1 << k);
+        line(&row, (strict - open) / 4.0, (hand_strict - hand_open) / 4.0);
+    }
+    println!();
+    println!("The library exports no shaping of a block. The last three columns are a fourth of what the strict");
+    println!("reading of kind 5, four blocks, takes over the open one: shaping each block and comparing it.");
+}
+
+pub fn print() {
+    let mut random = Random(1);
+    frames(&mut random);
+    println!();
+    blocks(&mut random);
 }

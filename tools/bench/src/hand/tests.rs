@@ -5,28 +5,14 @@ use crate::random::Random;
 use second_coder::{class, frame, random, vectors};
 
 /// The sent block of x, by the hand-tuned coder.
-fn shaped(x: &[i64; 8], k: u32) -> ([i64; 8], u64) {
-    let bytes = x.iter().enumerate().fold(0, |sum, (i, &x)| sum | (x as u64) << (8 * i));
-    let mut block = [0; 8];
-    // SAFETY: every x86-64 processor has SSE2.
-    let energy = unsafe {
-        let (z, energy) = match k {
-            2 => shape::<2>(bytes),
-            3 => shape::<3>(bytes),
-            4 => shape::<4>(bytes),
-            5 => shape::<5>(bytes),
-            _ => shape::<6>(bytes),
-        };
-        store_block(z, &mut block);
-        _mm_cvtsi128_si32(energy)
-    };
-    (block.map(i64::from), energy as u64)
+fn shaped(x: &[i64; 8], k: u32) -> [i64; 8] {
+    shape(k, &x.map(|x| x as i32)).map(i64::from)
 }
 
 /// Compares one block; gives whether its class has several members of least energy.
 fn check(x: &[i64; 8], k: u32) -> bool {
     let all = class::least_members(x, 1 << k);
-    assert_eq!(shaped(x, k), (all[0], class::energy(&all[0])), "scale 2^{k}, block {x:?}");
+    assert_eq!(shaped(x, k), all[0], "scale 2^{k}, block {x:?}");
     all.len() > 1
 }
 
