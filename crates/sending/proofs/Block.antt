@@ -62,11 +62,6 @@ width-small b (suc (suc (suc (suc (suc (suc (suc (suc c)))))))) h k = absurd (om
 pub widths-total : (b : ℕ) → 1 ≤ b → total (widths b) ≡ 8 * b
 widths-total b h = omega arith
 
--- where number c stands, and that it fits
-module _ (b from c n : ℕ) (h₁ : 1 ≤ b) (h₄ : b ≤ 4) (hc : c < 8) (room : from + 8 * b ≤ n) where
-  pub place-fits : from + total (take c (widths b)) + getD (widths b) c 0 ≤ n
-  place-fits = omega (arith, total-suc (widths b) c hc, total-le (widths b) (suc c), widths-total b h₁)
-
 -- a number of at most five bits, 2^a times, for a up to 3
 pub scaled-small : (s a : ℕ) → s < 32 → a ≤ 3 → s * 2 ^ a ≤ 31 * 8
 scaled-small s a h k = mul-le-mul {n₂ = 31} (omega arith) (pow-mono {j = 3} k)

@@ -23,19 +23,25 @@ fn width(grade: usize, c: usize) -> usize
     grade
 }
 
-// The number of w bits, lowest first, from bit `from` on.
+// Byte j of the message, and 0 past its end.
+fn byte(message: &[u8], j: usize) -> u32
+    ensures value { λ r. ⌜ r ≡ getD (now (message .entry)) j 0 ⌝ }
+    ensures small { λ r. ⌜ r < 256 ⌝ }
+{
+    if j < message.len() {
+        return message[j] as u32;
+    }
+    0
+}
+
+// The number of w bits, lowest first, from bit `from` on: it stands in two bytes at most.
 fn number(message: &[u8], from: usize, w: usize) -> u32
-    requires { ⌜ (w ≤ 5) × (from + w ≤ 8 * length (now message)) × (from ≤ 1000) ⌝ }
+    requires { ⌜ (w ≤ 5) × (from ≤ 1000) ⌝ }
     ensures { λ r. ⌜ r ≡ numberAt (messageBit (now (message .entry))) from w ⌝ }
 {
-    let mut s: u32 = 0;
-    let mut i: usize = 0;
-    while i < w {
-        let b = reed_muller::bit(message, from + i) as u32;
-        s += b << i;
-        i += 1;
-    }
-    s
+    let j = from / 8;
+    let two = byte(message, j) + 256 * byte(message, j + 1);
+    (two >> (from % 8)) % (1u32 << w)
 }
 
 // A level under those that are stacked already: word + 2·sums at each position.

@@ -16,7 +16,7 @@ use Rattle.e8.specs.Rows.{ints}
 use Rattle.frames.specs.Message.{widths, number, numbers}
 use Rattle.frames.proofs.Numbers.{total}
 use Rattle.sending.proofs.Bits.{number-small}
-use Rattle.sending.proofs.Block.{numbers-at, total-suc, total-le, ints-more, ints-none, width-small, widths-total, place-fits, scaled-small}
+use Rattle.sending.proofs.Block.{numbers-at, total-suc, total-le, ints-more, ints-none, width-small, widths-total, scaled-small}
 use Rattle.sending.proofs.leader.block.Statement.{statement}
 use Rattle.sending.proofs.leader.block.Tie as tie
 
@@ -41,7 +41,6 @@ number-requires c κs =
     let s = a .before .before .before in
     let w = c .width .ensures in (
       omega (arith, w, width-small (s .args .grade) (a .loop .c) (s .pre .0 .1) (c .before .loop-test .taken)),
-      omega (arith, w, a .loop .inv .1 .0, place-fits (s .args .grade) (s .args .from) (a .loop .c) (8 * length (s .args .message .now)) (s .pre .0 .0) (s .pre .0 .1) (c .before .loop-test .taken) (s .pre .0 .4)),
       omega (arith, a .loop .inv .1 .0, s .pre .0 .3, s .pre .0 .1, total-le (widths (s .args .grade)) (a .loop .c), widths-total (s .args .grade) (s .pre .0 .0)),
     )
 

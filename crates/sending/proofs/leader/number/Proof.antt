@@ -1,89 +1,65 @@
--- `leader::number` meets its contract: the bits passed so far make their number. Assumes nothing.
-use Prim.Native.Nat.{ℕ, _≤_, _-_, _+_, _*_, _^_}
-use mathlib.Core.Path.{_≡_, ap, _∙_}
-use mathlib.Core.List.{List}
+-- `leader::number` meets its contract: two bytes, shifted and cut. Assumes nothing.
+use Prim.Native.Nat.{ℕ, _+_, _*_, _/_, _%_, _^_, _<_}
+use mathlib.Core.Path.{_≡_, sym, ap₂, _∙_, subst}
 use native.Mathlib.Omega.{arith}
-use Rattle.reed_muller.specs.Message.{messageBit}
-use Rattle.reed_muller.proofs.Parity.{message-small}
-use Rattle.frames.specs.Message.{number}
-use Rattle.sending.proofs.Bits.{number-none, number-more, weight-small, number-small}
+use lib.Pow.{pow-mono, pow-pos}
+use Rattle.sending.proofs.Bits.{number-of-bytes}
+use borrow.Author.Needs.{needs}
 use Rattle.sending.proofs.leader.number.Statement.{statement}
 use Rattle.sending.proofs.leader.number.Tie as tie
 
-abbrev Inv-loop : tie.InvT-loop
-Inv-loop message from w s₀ i₀ s i =
-    (i ≤ w) × (s ≡ number (messageBit message) from i)
+byte-requires : tie.Need-byte-requires
+byte-requires c κs = search needs
 
-abbrev μ-loop : tie.MeasureT-loop
-μ-loop message from w s₀ i₀ s i = w - i
+add-byte : tie.Need-add-byte
+add-byte c = search needs
 
-loop-holds : tie.Need-loop-holds Inv-loop μ-loop
-loop-holds c =
-    (omega arith, number-none (messageBit (c .before .args .message .now)) (c .before .args .from))
+byte-requires-2 : tie.Need-byte-requires-2
+byte-requires-2 c κs = search needs
 
-add-bit : tie.Need-add-bit Inv-loop μ-loop
-add-bit c = omega arith
+mul-two : tie.Need-mul-two
+mul-two c = omega (arith, c .byte2 .ensures .1)
 
-bit-requires : tie.Need-bit-requires Inv-loop μ-loop
-bit-requires c κs = omega arith
+add-two : tie.Need-add-two
+add-two c = omega (arith, c .byte2 .ensures .1, c .before .byte .ensures .1)
 
--- the bit read, and its weight
-abbrev msg : tie.After-bit Inv-loop μ-loop → List ℕ
-msg c = c .before .before .before .before .args .message .now
+cast-result : tie.Need-cast-result
+cast-result c = search needs
 
-abbrev from : tie.After-bit Inv-loop μ-loop → ℕ
-from c = c .before .before .before .before .args .from
+shr-result : tie.Need-shr-result
+shr-result c = search needs
 
-weight : (c : tie.After-bit Inv-loop μ-loop)
-    → (c .bit .result * 2 ^ c .before .before .loop .i ≡ messageBit (msg c) (from c + c .before .before .loop .i) * 2 ^ c .before .before .loop .i)
-    × (c .bit .result * 2 ^ c .before .before .loop .i ≤ 16)
-weight c =
-    let e = ap (λ (n : ℕ). n * 2 ^ c .before .before .loop .i) (c .bit .ensures) in
-    (e, omega (arith, e, weight-small (messageBit (msg c)) (from c) (message-small (msg c)) (c .before .before .loop .i) (omega arith)))
+cast-result-2 : tie.Need-cast-result-2
+cast-result-2 c = search needs
 
-cast-b : tie.Need-cast-b Inv-loop μ-loop
-cast-b c = omega (arith, message-small (msg c) (from c + c .before .before .loop .i), c .bit .ensures)
+shl-result : tie.Need-shl-result
+shl-result c = search needs
 
-cast-s : tie.Need-cast-s Inv-loop μ-loop
-cast-s c = omega arith
+rem-result : tie.Need-rem-result
+rem-result c =
+    let w = c .before .before .before .args .w in
+    omega (arith, pow-mono {i = w} {j = 5} (c .before .before .before .pre .0), pow-pos w)
 
-shl-s : tie.Need-shl-s Inv-loop μ-loop
-shl-s c = omega arith
-
-add-s : tie.Need-add-s Inv-loop μ-loop
-add-s c =
-    omega (arith, weight c, number-small (messageBit (msg c)) (from c) (message-small (msg c)) (c .before .before .loop .i) (omega arith))
-
-add-i : tie.Need-add-i Inv-loop μ-loop
-add-i c = omega arith
-
-loop-less : tie.Need-loop-less Inv-loop μ-loop
-loop-less c = omega arith
-
-loop-again : tie.Need-loop-again Inv-loop μ-loop
-loop-again c =
-    (omega arith, rw (number-more (messageBit (msg c)) (from c) (c .before .before .loop .i)) (omega (arith, weight c)))
-
-returns : tie.Need-returns Inv-loop μ-loop
+returns : tie.Need-returns
 returns c =
-    let l = c .before .loop in
-    let q : l .i ≡ c .before .before .before .args .w = omega arith in
-    l .inv .1 ∙ rw q
+    let s = c .before .before .before in
+    let m = s .args .message .now in
+    let p : 1 * 2 ^ s .args .w % 4294967296 ≡ 2 ^ s .args .w = omega (arith, pow-mono {i = s .args .w} {j = 5} (s .pre .0)) in
+    ap₂ (λ (x y : ℕ). x / 2 ^ (s .args .from % 8) % y) (ap₂ (λ (x y : ℕ). x + 256 * y) (c .before .byte .ensures .0) (c .byte2 .ensures .0)) p
+    ∙ sym (number-of-bytes m (s .args .from) (s .args .w) (omega (arith, s .pre .0)) (subst (λ (x : ℕ). x < 256) (c .before .byte .ensures .0) (c .before .byte .ensures .1)))
 
 pub number-spec : {M : Type 1} → statement M
 number-spec =
     tie.close
     (tie.spec
-    Inv-loop
-    μ-loop
-    loop-holds
-    add-bit
-    bit-requires
-    cast-b
-    cast-s
-    shl-s
-    add-s
-    add-i
-    loop-less
-    loop-again
+    byte-requires
+    add-byte
+    byte-requires-2
+    mul-two
+    add-two
+    cast-result
+    shr-result
+    cast-result-2
+    shl-result
+    rem-result
     returns)
