@@ -2,15 +2,6 @@
 use libc::STDERR_FILENO;
 use libc::STDIN_FILENO;
 use libc::STDOUT_FILENO;
-ghost use mathlib.Core.Path.{_≡_};
-ghost use lib.ListN.{length};
-
-// Room for the longest sheet, and a byte more, by which a longer one is seen.
-fn room() -> [u8; 32769]
-    ensures { λ r. ⌜ 32769 ≡ length r ⌝ }
-{
-    [0; 32769]
-}
 
 // Whether standard input is at its end. It is not where it cannot be read.
 fn at_end() -> bool {
@@ -19,7 +10,8 @@ fn at_end() -> bool {
 }
 
 fn main() {
-    let mut input = room();
+    // Room for the longest sheet, and a byte more, by which a longer one is seen.
+    let mut input = [0u8; 32769];
     let n = io::read_full(STDIN_FILENO, &mut input);
     if n < 32769 {
         if !at_end() {

@@ -19,9 +19,6 @@ abbrev μ-loop : tie.MeasureT-loop
 same-room : (c : tie.After-line Inv-loop μ-loop) → length (c .line .last .1 .1 .0) ≡ 512
 same-room c = omega (arith, c .line .kept .1 .1 .0, c .before .before .before .before .loop .inv)
 
-room-requires : tie.Need-room-requires Inv-loop μ-loop
-room-requires c κs = search needs
-
 slice-aggregate-read-full : tie.Need-slice-aggregate-read-full Inv-loop μ-loop
 slice-aggregate-read-full c = search needs
 
@@ -103,7 +100,6 @@ main-spec =
     (tie.spec
     Inv-loop
     μ-loop
-    room-requires
     slice-aggregate-read-full
     read-full-requires
     at-end-requires
