@@ -1,0 +1,49 @@
+-- The listing of a sheet, as bytes (document 01, "The sheet program"). Assumes nothing.
+use Prim.Native.Nat.{ℕ, zero, suc}
+use mathlib.Core.Bool.{Bool, cond}
+use mathlib.Core.List.{List, [], _++_}
+use lib.Dec.{eqb, ltb}
+use lib.ListN.{length}
+use Rattle.e8.specs.Energy.{energy}
+use Rattle.frames.specs.Frame.{sentFrame}
+use Rattle.text.specs.Line.{headerText, lineOf, refusedText}
+use Rattle.listing.specs.Record.{kindAt, gradeAt, messageAt, endAt, recordNumber}
+
+-- the line of a frame sent for a message
+unfoldable pub sentLine : ℕ → ℕ → List ℕ → List ℕ
+unfolding lineOf sentFrame
+sentLine k b bytes = lineOf k b (energy (sentFrame k b bytes)) (sentFrame k b bytes)
+
+-- the line of the record at place p
+unfoldable pub lineAt : List ℕ → ℕ → List ℕ
+unfolding recordNumber sentLine refusedText
+lineAt s p = cond (eqb (recordNumber s p) 0) (sentLine (kindAt s p) (gradeAt s p) (messageAt s p)) (refusedText (recordNumber s p))
+
+-- the place from which the listing goes on: after the record, or at the sheet's end, since a refused record ends the listing
+unfoldable pub nextAt : List ℕ → ℕ → ℕ
+unfolding recordNumber
+nextAt s p = cond (eqb (recordNumber s p) 0) (endAt s p) (length s)
+
+-- the lines of the records from place p on, of which there are at most f
+unfoldable pub linesFrom : ℕ → List ℕ → ℕ → List ℕ
+unfolding lineAt nextAt
+linesFrom zero s p = []
+linesFrom (suc f) s p = cond (ltb p (length s)) (lineAt s p ++ linesFrom f s (nextAt s p)) []
+
+-- a long sheet
+abbrev pub long : List ℕ → Bool
+long s = ltb 32768 (length s)
+
+-- THE LISTING: the header, and a line for each record; a long sheet has the header and `refused 12` only. No sheet has more
+-- records than bytes
+unfoldable pub listingOf : List ℕ → List ℕ
+unfolding linesFrom headerText refusedText
+listingOf s = headerText ++ cond (long s) (refusedText 12) (linesFrom (length s) s 0)
+
+-- what the listing begins with, and the place from which it goes on
+unfoldable pub beginning : List ℕ → List ℕ
+unfolding headerText refusedText
+beginning s = headerText ++ cond (long s) (refusedText 12) []
+
+unfoldable pub startOf : List ℕ → ℕ
+startOf s = cond (long s) (length s) 0
