@@ -1,5 +1,5 @@
-// Holds sending and the two readings to the vectors of a coder that was written apart (tools/second-coder: data/vectors.bin
-// is a copy of its out/vectors.bin), and to the further cases of document 01. Each vector is sent, read back openly and
+// Holds sending and the two readings to the vectors of a coder that was written apart (tools/second-coder, which
+// writes data/vectors.bin), and to the further cases of document 01. Each vector is sent, read back openly and
 // strictly, and read again with a lattice point added and with a coordinate moved out of the coding set. It prints how many
 // passed each check, after a line for each that did not.
 mod cases;

@@ -1,17 +1,21 @@
-//! The second coder's modes: `vectors`, `listing`, `compare PROGRAM COUNT SEED`.
+//! The second coder's modes: `vectors`, `listing`, `sheets PROGRAM`, `compare PROGRAM COUNT SEED`.
 
 use std::io::{Read, Write};
-use std::path::Path;
+use std::path::{Path, PathBuf};
 use std::process::{Command, ExitCode, Stdio};
 
 use second_coder::{random::Random, sheet, vectors};
 
-/// Writes the vectors and the sheets to out/, and prints how many have ties.
+/// Where the vectors and the sheets stand: the first beside the program that holds the library to them.
+fn data(name: &str) -> PathBuf {
+    let folder = if name == "vectors.bin" { "../../crates/vectors/data" } else { "out" };
+    Path::new(env!("CARGO_MANIFEST_DIR")).join(folder).join(name)
+}
+
+/// Writes the vectors and the sheets, and prints how many have ties.
 fn write_vectors() -> std::io::Result<()> {
-    let out = Path::new(env!("CARGO_MANIFEST_DIR")).join("out");
-    std::fs::create_dir_all(&out)?;
     let (file, counts) = vectors::vectors();
-    std::fs::write(out.join("vectors.bin"), &file)?;
+    std::fs::write(data("vectors.bin"), &file)?;
     println!("| kind | grade | vectors | with ties | most frames of least energy |");
     println!("|---|---|---|---|---|");
     for count in &counts {
@@ -21,7 +25,7 @@ fn write_vectors() -> std::io::Result<()> {
     let tied: usize = counts.iter().map(|count| count.tied).sum();
     println!("\nvectors.bin: {vectors} vectors, {tied} with ties, {} bytes", file.len());
     let sheets = vectors::sheet_file();
-    std::fs::write(out.join("sheets.bin"), &sheets)?;
+    std::fs::write(data("sheets.bin"), &sheets)?;
     println!("sheets.bin: {} sheets, {} bytes", vectors::sheets().len(), sheets.len());
     Ok(())
 }
@@ -38,29 +42,51 @@ fn run(program: &str, sheet: &[u8]) -> std::io::Result<(Vec<u8>, bool)> {
     Ok((output.stdout, output.status.success()))
 }
 
-/// Runs the program on fresh sheets and compares; gives the number of differences.
-fn compare(program: &str, count: u64, seed: u64) -> std::io::Result<u64> {
-    let mut random = Random::new(seed);
-    let (mut different, mut failed) = (0, 0);
-    for number in 0..count {
-        let sheet = vectors::random_sheet(&mut random);
+/// Runs the program on sheets and compares with their listings; gives the number of differences.
+fn judge(program: &str, sheets: impl Iterator<Item = (Vec<u8>, String)>) -> std::io::Result<u64> {
+    let (mut count, mut different, mut failed) = (0, 0, 0);
+    for (sheet, expected) in sheets {
         let (text, success) = run(program, &sheet)?;
         failed += !success as u64;
-        let expected = sheet::listing(&sheet);
         if text != expected.as_bytes() {
             different += 1;
             let text = String::from_utf8_lossy(&text);
             let line = expected.lines().zip(text.lines()).take_while(|(a, b)| a == b).count();
-            println!("sheet {number} ({} bytes) differs at line {}", sheet.len(), line + 1);
+            println!("sheet {count} ({} bytes) differs at line {}", sheet.len(), line + 1);
             println!("  expected {:?}", expected.lines().nth(line));
             println!("  written  {:?}", text.lines().nth(line));
             if sheet.len() <= 200 {
                 println!("  sheet {}", sheet.iter().map(|b| format!("{b:02X} ")).collect::<String>());
             }
         }
+        count += 1;
     }
     println!("{count} sheets, {different} different; exit status not 0: {failed}");
     Ok(different)
+}
+
+/// Fresh sheets, with what this coder lists for them.
+fn compare(program: &str, count: u64, seed: u64) -> std::io::Result<u64> {
+    let mut random = Random::new(seed);
+    judge(program, (0..count).map(|_| {
+        let sheet = vectors::random_sheet(&mut random);
+        let listing = sheet::listing(&sheet);
+        (sheet, listing)
+    }))
+}
+
+/// The sheets of sheets.bin, with the listings that stand there.
+fn stored(program: &str) -> std::io::Result<u64> {
+    let file = std::fs::read(data("sheets.bin"))?;
+    let mut rest = &file[..];
+    let mut piece = || {
+        let (length, after) = rest.split_first_chunk::<4>()?;
+        let (piece, after) = after.split_at(u32::from_le_bytes(*length) as usize);
+        rest = after;
+        Some(piece.to_vec())
+    };
+    let sheets = std::iter::from_fn(|| Some((piece()?, String::from_utf8_lossy(&piece()?).into_owned())));
+    judge(program, sheets)
 }
 
 fn main() -> ExitCode {
@@ -79,7 +105,8 @@ fn main() -> ExitCode {
             (Ok(count), Ok(seed)) => compare(program, count, seed),
             _ => Err(std::io::Error::other("COUNT and SEED are numbers")),
         },
-        _ => Err(std::io::Error::other("usage: second-coder vectors | listing | compare PROGRAM COUNT SEED")),
+        ["sheets", program] => stored(program),
+        _ => Err(std::io::Error::other("usage: second-coder vectors | listing | sheets PROGRAM | compare PROGRAM COUNT SEED")),
     };
     match result {
         Ok(0) => ExitCode::SUCCESS,

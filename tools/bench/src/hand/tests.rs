@@ -225,7 +225,7 @@ fn accounts() {
 /// The vectors that the second coder wrote, by the format of its README.
 #[test]
 fn written_vectors() {
-    let path = concat!(env!("CARGO_MANIFEST_DIR"), "/../second-coder/out/vectors.bin");
+    let path = concat!(env!("CARGO_MANIFEST_DIR"), "/../../crates/vectors/data/vectors.bin");
     let file = std::fs::read(path).expect("the second coder's vectors are there");
     let (mut rest, mut count) = (&file[..], 0);
     while let [kind, grade, bytes, after @ ..] = rest {
