@@ -1,0 +1,44 @@
+-- Document 01's example sheet, and its listing computed whole from the definitions. Assumes nothing.
+use Prim.Native.Nat.{ℕ}
+use mathlib.Core.Path.{_≡_, refl}
+use mathlib.Core.List.{List, [], _∷_, _++_}
+use lib.Count.{ones}
+use Rattle.reed_muller.specs.Level.{sumTo, table, ofWeight, masks, order, dimension, codeword}
+use Rattle.reed_muller.specs.Message.{messageBit}
+use Rattle.e8.specs.Energy.{sq, energy}
+use Rattle.e8.specs.Order.{before}
+use Rattle.e8.specs.Least.{cent, better, best, leastBlock, leastFrame}
+use Rattle.frames.specs.Kind.{kinds, isKind, degrees, levels, levelBits, messageBits, messageBytes}
+use Rattle.frames.specs.Message.{number, numbers, blockNumbers, stacked, coordinate, leader}
+use Rattle.frames.specs.Frame.{half, sentFrame}
+use Rattle.frames.specs.Sending.{anySet, spareSet, isGrade, sendRefusal}
+use Rattle.text.specs.Text.{bytes, digitsOf, decimalOf, signedOf}
+use Rattle.text.specs.Line.{headerText, coordinatesOf, lineOf, refusedText}
+use Rattle.listing.specs.Record.{marked, recordRefusal, recordNumber}
+use Rattle.listing.specs.Listing.{sentLine, lineAt, nextAt, linesFrom, listingOf}
+
+-- 4C 43 03 01 00 08 4C 43 03 01 02 00 4C 43 03 05
+pub sheet : List ℕ
+sheet = 76 ∷ 67 ∷ 3 ∷ 1 ∷ 0 ∷ 8 ∷ 76 ∷ 67 ∷ 3 ∷ 1 ∷ 2 ∷ 0 ∷ 76 ∷ 67 ∷ 3 ∷ 5 ∷ []
+
+pub example : listingOf sheet ≡ bytes "kind grade energy frame\n3 1 16 -4 0 0 0 0 0 0 0\n3 1 4 0 1 0 1 0 1 0 1\nrefused 2\n"
+unfolding sheet listingOf linesFrom lineAt nextAt sentLine recordNumber recordRefusal marked sendRefusal isGrade isKind kinds spareSet anySet messageBytes messageBits levelBits headerText lineOf refusedText coordinatesOf signedOf decimalOf digitsOf bytes sentFrame half leastFrame leastBlock best better cent before energy sq leader coordinate stacked blockNumbers numbers number degrees levels sumTo codeword order dimension masks ofWeight table messageBit ones
+example = refl
+
+-- no input: the header only
+pub empty : listingOf [] ≡ headerText
+unfolding listingOf linesFrom headerText bytes
+empty = refl
+
+-- a lone 4C lacks the mark; a record of a wrong kind that is cut short is refused for its kind
+pub lone : recordNumber (76 ∷ []) 0 ≡ 10
+unfolding recordNumber recordRefusal marked
+lone = refl
+
+pub kind-first : recordNumber (76 ∷ 67 ∷ 6 ∷ []) 0 ≡ 1
+unfolding recordNumber recordRefusal marked isKind kinds
+kind-first = refl
+
+pub cut-short : recordNumber (76 ∷ 67 ∷ 3 ∷ []) 0 ≡ 3
+unfolding recordNumber recordRefusal marked isKind kinds
+cut-short = refl
