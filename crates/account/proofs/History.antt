@@ -15,7 +15,7 @@ use Rattle.kind_table.proofs.Each.{size}
 use Rattle.sending.proofs.Answers.{accepted}
 use Rattle.power.specs.declared.Account.{Account}
 use Rattle.power.specs.Power.{begun, full, grown}
-use Rattle.power.specs.History.{grownBy, powersIn, Counted, AllCounted}
+use Rattle.power.specs.History.{grownBy, powersIn, Countable, AllCountable}
 use Rattle.power.proofs.History.{history as grown-exactly}
 use Rattle.account.specs.Counted.{countedRefusal, countedAccount}
 use Rattle.account.specs.History.{Call, answer, after, accountAfter, entryOf, sentBy}
@@ -35,7 +35,7 @@ module _ (a : Account) (c : Call) where
   unfolding countedRefusal
   accepted-call e = passed _ (full a) e
 
-  counts : answer a c ≡ 0 → Counted 5 (entryOf c)
+  counts : answer a c ≡ 0 → Countable 5 (entryOf c)
   counts e =
       let p = accepted (c .kind) (c .grade) (c .message) (c .n) (accepted-call e .0) in
       let s = sent-energy (c .kind) (c .grade) (c .message) (p .kind) (p .grade) in
@@ -63,7 +63,7 @@ module _ (a : Account) (c : Call) where
 -- the account is grown by the frames sent and by nothing else; at most 1,000,000 are
 record Grown (a : Account) (cs : List Call) : Type 0 where
   is : accountAfter a cs ≡ grownBy a (sentBy a cs)
-  counted : AllCounted 5 (sentBy a cs)
+  counted : AllCountable 5 (sentBy a cs)
   most : a .count ≤ 1000000 → a .count + length (sentBy a cs) ≤ 1000000
 
 grows : (a : Account) (cs : List Call) → Grown a cs

@@ -1,7 +1,7 @@
 -- Document 01's example sheet, and its listing computed whole from the definitions. Assumes nothing.
 use Prim.Native.Nat.{ℕ}
 use mathlib.Core.Path.{_≡_, refl}
-use mathlib.Core.List.{List, [], _∷_, _++_}
+use mathlib.Core.List.{List, [], _∷_}
 use lib.Count.{ones}
 use Rattle.reed_muller.specs.Level.{sumTo, table, ofWeight, masks, order, dimension, codeword}
 use Rattle.reed_muller.specs.Message.{messageBit}

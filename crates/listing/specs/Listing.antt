@@ -2,7 +2,7 @@
 use Prim.Native.Nat.{ℕ, zero, suc}
 use mathlib.Core.Bool.{Bool, cond}
 use mathlib.Core.List.{List, [], _++_}
-use lib.Dec.{eqb, ltb}
+use lib.Dec.{eqb, leb, ltb}
 use lib.ListN.{length}
 use Rattle.e8.specs.Energy.{energy}
 use Rattle.frames.specs.Frame.{sentFrame}
@@ -47,3 +47,22 @@ beginning s = headerText ++ cond (long s) (refusedText 12) []
 
 unfoldable pub startOf : List ℕ → ℕ
 startOf s = cond (long s) (length s) 0
+
+-- ---- what is put into a lent line of `room` bytes, which has to be 512 at least: less is lent, or the place is past the sheet's end, and
+-- nothing is put and the listing ends
+
+unfoldable pub lineInto : ℕ → List ℕ → ℕ → List ℕ
+unfolding lineAt
+lineInto room s p = cond (ltb room 512) [] (cond (leb (length s) p) [] (lineAt s p))
+
+unfoldable pub nextInto : ℕ → List ℕ → ℕ → ℕ
+unfolding nextAt
+nextInto room s p = cond (ltb room 512) (length s) (cond (leb (length s) p) (length s) (nextAt s p))
+
+unfoldable pub beginningInto : ℕ → List ℕ → List ℕ
+unfolding beginning
+beginningInto room s = cond (ltb room 512) [] (beginning s)
+
+unfoldable pub startInto : ℕ → List ℕ → ℕ
+unfolding startOf
+startInto room s = cond (ltb room 512) (length s) (startOf s)

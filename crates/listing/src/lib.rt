@@ -8,7 +8,7 @@ ghost use Rattle.frames.specs.Sending.{isGrade, sendRefusal};
 ghost use Rattle.text.specs.Text.{Put};
 ghost use Rattle.text.specs.Line.{refusedText};
 ghost use Rattle.listing.specs.Record.{marked as isMarked, recordRefusal};
-ghost use Rattle.listing.specs.Listing.{sentLine, lineAt, nextAt, beginning, startOf};
+ghost use Rattle.listing.specs.Listing.{sentLine, lineAt, nextAt, beginning, startOf, lineInto, nextInto, beginningInto, startInto};
 
 // What was put at the start of the lent line: its length, and the place of the sheet from which the listing goes on. At the
 // sheet's end the listing ends.
@@ -48,7 +48,7 @@ fn is_grade(grade: u8) -> bool
 }
 
 // The number of the first test that the record at place p does not pass, 0 for a whole record.
-pub fn test_record(sheet: &[u8], p: usize) -> u8
+fn test_record(sheet: &[u8], p: usize) -> u8
     requires { ⌜ p < length (now sheet) ⌝ }
     ensures { λ r. ⌜ r ≡ recordRefusal (now (sheet .entry)) p ⌝ }
 {
@@ -99,8 +99,8 @@ fn put_message(kind: u8, grade: u8, message: &[u8], out: &mut [u8]) -> Answer
     }
 }
 
-// The line of the record at place p.
-pub fn line(sheet: &[u8], p: usize, out: &mut [u8]) -> Written
+// The line of the record at place p of the sheet, where there is room for it.
+fn record_line(sheet: &[u8], p: usize, out: &mut [u8]) -> Written
     requires { ⌜ (p < length (now sheet)) × (512 ≤ length (now out)) ⌝ }
     ensures line { λ r. ⌜ Put (now (out .entry)) 0 (lineAt (now (sheet .entry)) p) (r .length) (now (out .exit)) × (r .length ≤ 512) ⌝ }
     ensures next { λ r. ⌜ (r .next ≡ nextAt (now (sheet .entry)) p) × (p < r .next) × (r .next ≤ length (now (sheet .entry))) ⌝ }
@@ -129,8 +129,8 @@ pub fn line(sheet: &[u8], p: usize, out: &mut [u8]) -> Written
     }
 }
 
-// What the listing begins with: the header, and for a long sheet its refusal.
-pub fn begin(sheet: &[u8], out: &mut [u8]) -> Written
+// The header, and for a long sheet its refusal, where there is room for them.
+fn header(sheet: &[u8], out: &mut [u8]) -> Written
     requires { ⌜ 512 ≤ length (now out) ⌝ }
     ensures line { λ r. ⌜ Put (now (out .entry)) 0 (beginning (now (sheet .entry))) (r .length) (now (out .exit)) × (r .length ≤ 512) ⌝ }
     ensures next { λ r. ⌜ r .next ≡ startOf (now (sheet .entry)) ⌝ }
@@ -143,4 +143,38 @@ pub fn begin(sheet: &[u8], out: &mut [u8]) -> Written
         };
     }
     Written { length: a, next: 0 }
+}
+
+// The line of the record at place p. Nothing is put past the end of the sheet, or where less than 512 bytes are lent.
+pub fn line(sheet: &[u8], p: usize, out: &mut [u8]) -> Written
+    ensures line { λ r. ⌜ Put (now (out .entry)) 0 (lineInto (length (now (out .entry))) (now (sheet .entry)) p) (r .length) (now (out .exit)) × (r .length ≤ length (now (out .entry))) ⌝ }
+    ensures next { λ r. ⌜ (r .next ≡ nextInto (length (now (out .entry))) (now (sheet .entry)) p) × (p < length (now (sheet .entry)) → p < r .next) ⌝ }
+{
+    if out.len() < 512 {
+        return Written {
+            length: 0,
+            next: sheet.len(),
+        };
+    }
+    if sheet.len() <= p {
+        return Written {
+            length: 0,
+            next: sheet.len(),
+        };
+    }
+    record_line(sheet, p, out)
+}
+
+// What the listing begins with. Nothing is put where less than 512 bytes are lent.
+pub fn begin(sheet: &[u8], out: &mut [u8]) -> Written
+    ensures line { λ r. ⌜ Put (now (out .entry)) 0 (beginningInto (length (now (out .entry))) (now (sheet .entry))) (r .length) (now (out .exit)) × (r .length ≤ length (now (out .entry))) ⌝ }
+    ensures next { λ r. ⌜ r .next ≡ startInto (length (now (out .entry))) (now (sheet .entry)) ⌝ }
+{
+    if out.len() < 512 {
+        return Written {
+            length: 0,
+            next: sheet.len(),
+        };
+    }
+    header(sheet, out)
 }

@@ -11,11 +11,11 @@ use lib.Ieee.{Float, add, binary64}
 use lib.Ieee.Exact.{HasValue}
 use Rattle.power.specs.declared.Account.{Account}
 use Rattle.power.specs.Power.{Measured, powerOf, begun, grown}
-use Rattle.power.specs.History.{Entry, grownBy, powersIn, Counted, AllCounted}
+use Rattle.power.specs.History.{Entry, grownBy, powersIn, Countable, AllCountable}
 use Rattle.power.proofs.Exact.{power-exact, add-parts, smaller-parts, parts-exact}
 
 -- the parts of a frame's length: 2 ^ m / n of them make 1 / n
-scale : (m : ℕ) (e : Entry) → Counted m e → 2 ^ m / e .n * e .n ≡ 2 ^ m
+scale : (m : ℕ) (e : Entry) → Countable m e → 2 ^ m / e .n * e .n ≡ 2 ^ m
 scale m e f =
     let k : m ≡ m - f .exponent + f .exponent = split (f .exponent) (f .short) in
     let q : 2 ^ m ≡ 2 ^ (m - f .exponent) * 2 ^ f .exponent = ap (λ (j : ℕ). 2 ^ j) k ∙ pow-add 2 (m - f .exponent) (f .exponent) in
@@ -25,7 +25,7 @@ scale m e f =
     split i h = omega arith
 
 -- a counted frame has a power, in parts of 1 / 2 ^ m
-pub counted-measured : (m : ℕ) (e : Entry) → m < 53 → Counted m e → Measured (e .energy) (e .n)
+pub counted-measured : (m : ℕ) (e : Entry) → m < 53 → Countable m e → Measured (e .energy) (e .n)
 counted-measured m e h f = record {
   small = let p = mul-le-mul-left (e .energy) (pow-pos m) in omega (arith, mul-one (e .energy), f .small);
   exponent = f .exponent;
@@ -33,7 +33,7 @@ counted-measured m e h f = record {
   is = f .is;
 }
 
-part-small : (m : ℕ) (e : Entry) → Counted m e → e .energy * (2 ^ m / e .n) ≤ 2 ^ 33
+part-small : (m : ℕ) (e : Entry) → Countable m e → e .energy * (2 ^ m / e .n) ≤ 2 ^ 33
 part-small m e f =
     let q = 2 ^ m / e .n in
     let n : 1 ≤ e .n = rw (f .is) (pow-pos (f .exponent)) in
@@ -41,7 +41,7 @@ part-small m e f =
     omega (arith, mul-le-mul-left (e .energy) l, f .small)
 
 module _ (m : ℕ) (h : m < 53) where
-  step : (x : Float) (t : ℕ) (e : Entry) → Counted m e → HasValue x false t (2 ^ m) → t + e .energy * (2 ^ m / e .n) < 2 ^ 53
+  step : (x : Float) (t : ℕ) (e : Entry) → Countable m e → HasValue x false t (2 ^ m) → t + e .energy * (2 ^ m / e .n) < 2 ^ 53
       → HasValue (add binary64 x (powerOf (e .energy) (e .n))) false (t + e .energy * (2 ^ m / e .n)) (2 ^ m)
   step x t e f v l =
       let p = smaller-parts (powerOf (e .energy) (e .n)) (e .energy) (e .n) (2 ^ m / e .n) (power-exact (e .energy) (e .n) (counted-measured m e h f)) in
@@ -50,7 +50,7 @@ module _ (m : ℕ) (h : m < 53) where
       (parts-exact (t + e .energy * (2 ^ m / e .n)) m (omega arith) l)
 
   -- from an account whose sum is exact, by frames that keep it below 2 ^ 53 parts
-  pub grows : (es : List Entry) (a : Account) (t : ℕ) → AllCounted m es → HasValue (a .sum) false t (2 ^ m) → t + powersIn (2 ^ m) es < 2 ^ 53
+  pub grows : (es : List Entry) (a : Account) (t : ℕ) → AllCountable m es → HasValue (a .sum) false t (2 ^ m) → t + powersIn (2 ^ m) es < 2 ^ 53
       → (grownBy a es .count ≡ a .count + length es) × HasValue (grownBy a es .sum) false (t + powersIn (2 ^ m) es) (2 ^ m)
   unfolding grownBy powersIn
   grows [] a t f v l = (omega arith, rw add-zero v)
@@ -59,13 +59,13 @@ module _ (m : ℕ) (h : m < 53) where
       let r = grows es (grown a (e .energy) (e .n)) (t + part) (f .1) (step (a .sum) t e (f .0) v (omega arith)) (omega arith) in
       (omega (arith, r .0), rw add-assoc at (r .1))
 
-  total-small : (es : List Entry) → AllCounted m es → powersIn (2 ^ m) es ≤ length es * 2 ^ 33
+  total-small : (es : List Entry) → AllCountable m es → powersIn (2 ^ m) es ≤ length es * 2 ^ 33
   unfolding powersIn
   total-small [] f = omega arith
   total-small (e ∷ es) f = omega (arith, total-small es (f .1), part-small m e (f .0))
 
 -- an account grown from the beginning by at most 1,000,000 frames: their number, and the sum of their powers, exactly
-pub history : (m : ℕ) (es : List Entry) → m < 53 → length es ≤ 1000000 → AllCounted m es
+pub history : (m : ℕ) (es : List Entry) → m < 53 → length es ≤ 1000000 → AllCountable m es
     → (grownBy begun es .count ≡ length es) × HasValue (grownBy begun es .sum) false (powersIn (2 ^ m) es) (2 ^ m)
 history m es h k f =
     let l : powersIn (2 ^ m) es < 2 ^ 53 = omega (arith, total-small m h es f) in

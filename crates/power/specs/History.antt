@@ -1,4 +1,4 @@
--- Accounts grown by a history of frames, for the claim that their sum is exact. Clients cite Entry, grownBy, powersIn and AllCounted.
+-- Accounts grown by a history of frames, for the claim that their sum is exact. Clients cite Entry, grownBy, powersIn and AllCountable.
 -- Assumes nothing.
 use Prim.Native.Nat.{ℕ, _+_, _*_, _/_, _^_, _≤_}
 use mathlib.Core.Path.{_≡_}
@@ -22,13 +22,13 @@ powersIn u [] = 0
 powersIn u (e ∷ es) = e .energy * (u / e .n) + powersIn u es
 
 -- a frame whose length is a power of two up to 2 ^ m, and whose energy is at most 2 ^ 33 in parts of 1 / 2 ^ m
-pub record Counted (m : ℕ) (e : Entry) : Type 0 where
+pub record Countable (m : ℕ) (e : Entry) : Type 0 where
   pub exponent : ℕ
   pub short : exponent ≤ m
   pub is : e .n ≡ 2 ^ exponent
   pub small : e .energy * 2 ^ m ≤ 2 ^ 33
 
 -- each frame of a history is one like that
-abbrev pub AllCounted : ℕ → List Entry → Type 0
-AllCounted m [] = Unit {0}
-AllCounted m (e ∷ es) = Counted m e × AllCounted m es
+abbrev pub AllCountable : ℕ → List Entry → Type 0
+AllCountable m [] = Unit {0}
+AllCountable m (e ∷ es) = Countable m e × AllCountable m es

@@ -1,53 +1,39 @@
--- `begin` meets its contract. Assumes nothing.
+-- `begin` meets its contract: where there is room, the beginning of the listing. Assumes nothing.
 use Prim.Native.Nat.{ℕ}
-use native.Mathlib.Omega.{arith}
-use mathlib.Core.Path.{subst}
+use mathlib.Core.Path.{_∙_, subst}
 use mathlib.Core.List.{List}
+use native.Mathlib.Omega.{arith}
+use lib.ListN.{length}
+use borrow.Author.Needs.{needs}
 use Rattle.text.specs.Text.{Put}
-use Rattle.text.specs.Line.{headerText}
-use Rattle.text.proofs.Buffer.{Within, within-none, within-more, put-more}
-use Rattle.listing.proofs.Tests.{begins, begins-long, header-length}
+use Rattle.text.proofs.Buffer.{put-none}
+use Rattle.listing.proofs.Room.{no-beginning, a-beginning}
 use borrow.Author.Needs.{needs}
 use Rattle.listing.proofs.begin.Statement.{statement}
 use Rattle.listing.proofs.begin.Tie as tie
 
--- the header is put
-header : (c : tie.After-put-header) → Within (c .before .before .before .before .args .out .now) 0 24 headerText (c .put-header .result) (c .put-header .last .0)
-header c =
-    let s = c .before .before .before .before in
-    within-more 24 (within-none (s .args .out .now) 0) (c .put-header .ensures) (omega (arith, header-length)) (omega (arith, s .pre))
+returns : tie.Need-returns
+returns c =
+    let s = c .before .before .before .args in
+    let o = s .out .now in
+    let r = no-beginning (length o) (s .sheet .now) (c .if1 .taken) in
+    ((subst (λ (x : List ℕ). Put o 0 x 0 o) (r .0) (put-none o 0), omega arith), r .1)
 
-put-header-requires : tie.Need-put-header-requires
-put-header-requires c κs = search needs
-
-put-refused-requires : tie.Need-put-refused-requires
-put-refused-requires c κs =
-    let h = c .before .before .before .before in let s = h .before .before .before .before in omega (arith, header h .most, header h .same, s .pre)
+header-requires : tie.Need-header-requires
+header-requires c κs = search needs
 
 same-length : tie.Need-same-length
 same-length c = search needs
 
-returns : tie.Need-returns
-returns c =
-    let h = c .before .before .before .before .before .before .before in
-    let s = h .before .before .before .before in
-    let b = begins-long (s .args .sheet .now) (c .before .before .before .before .if1 .taken) in
-    let e = c .before .before .put-refused .ensures in
-    let w = header h in
-    ((subst (λ (t : List ℕ). Put (s .args .out .now) 0 t (c .before .before .put-refused .result) (c .before .before .put-refused .last .0)) (b .0) (put-more (w .put) (e .0) (omega (arith, w .most, s .pre))), omega (arith, w .most, e .1)), b .1)
-
-same-length-2 : tie.Need-same-length-2
-same-length-2 c = search needs
-
 returns-2 : tie.Need-returns-2
 returns-2 c =
-    let h = c .before .before .before in
-    let s = h .before .before .before .before in
-    let b = begins (s .args .sheet .now) (c .if1 .left) in
-    let w = header h in
-    ((subst (λ (t : List ℕ). Put (s .args .out .now) 0 t (h .put-header .result) (h .put-header .last .0)) (b .0) (w .put), omega (arith, w .most)), b .1)
+    let l = c .before .before in
+    let d = l .before .before in
+    let s = d .before .before .before .args in
+    let o = s .out .now in
+    let r = a-beginning (length o) (s .sheet .now) (d .if1 .left) in
+    let e = l .header .ensures in
+    ((subst (λ (x : List ℕ). Put o 0 x (l .header .result .length) (l .header .last .1 .0)) (r .0) (e .0 .0), omega (arith, e .0 .1, d .if1 .left)), e .1 ∙ r .1)
 
 pub begin-spec : {M : Type 1} → statement M
-begin-spec =
-    tie.close
-    (tie.spec put-header-requires put-refused-requires same-length returns same-length-2 returns-2)
+begin-spec = tie.close (tie.spec returns header-requires same-length returns-2)

@@ -72,7 +72,7 @@ slice-aggregate-line-2 : tie.Need-slice-aggregate-line-2 Inv-loop μ-loop
 slice-aggregate-line-2 c = sym (c .before .before .before .loop .inv)
 
 line-requires : tie.Need-line-requires Inv-loop μ-loop
-line-requires c κs = (omega (arith, c .before .before .loop-test .taken, c .before .before .before .before .before .before .before .before .before .before .before .before .read-full .ensures .1), omega (arith, c .before .before .before .loop .inv))
+line-requires c κs = search needs
 
 array-share-prefix-out-2 : tie.Need-array-share-prefix-out-2 Inv-loop μ-loop
 array-share-prefix-out-2 c = omega (arith, same-room (c .before), c .before .line .ensures .0 .1)
@@ -86,7 +86,11 @@ write-all-requires-3 : tie.Need-write-all-requires-3 Inv-loop μ-loop
 write-all-requires-3 c κs = search needs
 
 loop-less : tie.Need-loop-less Inv-loop μ-loop
-loop-less c = let l = c .before .before .before in omega (arith, l .line .ensures .1 .1, l .before .before .before .loop-test .taken)
+loop-less c =
+    let l = c .before .before .before in
+    let t = l .before .before .before in
+    let r = t .before .before .before .before .before .before .before .before .before .before in
+    omega (arith, l .line .ensures .1 .1 (omega (arith, t .loop-test .taken, r .read-full .ensures .1)), t .loop-test .taken)
 
 loop-again : tie.Need-loop-again Inv-loop μ-loop
 loop-again c = same-room (c .before .before .before)
