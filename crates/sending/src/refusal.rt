@@ -7,7 +7,7 @@ ghost use Rattle.reed_muller.specs.Message.{messageBit};
 ghost use Rattle.frames.specs.Sending.{anySet, spareSet, sendRefusal};
 ghost use Rattle.frames.specs.Kind.{isKind, messageBytes};
 
-// Whether one of the bits from `from` up to `end` is set.
+// Whether one of the `count` bits from bit `from` on is set.
 fn any_set(message: &[u8], from: usize, count: usize) -> bool
     requires { ⌜ (from + count ≤ 8 * length (now message)) × (from + count ≤ 1000) ⌝ }
     ensures { λ r. ⌜ r ≡ anySet (messageBit (now (message .entry))) from count ⌝ }
