@@ -1,9 +1,10 @@
-// The table of kinds, as functions: what a row of it says. A further kind is a case more in each.
+// The table of kinds, as functions: what a row of it says, and the widths of a block's numbers. A further kind is a case more in each.
 ghost use mathlib.Core.Path.{_≡_};
 ghost use mathlib.Core.Bool.{true};
 ghost use Prim.Native.Nat.{_<_, _≤_, _^_};
 ghost use lib.ListN.{getD};
 ghost use Rattle.frames.specs.Kind.{isKind, degrees, levels as levelsOf, levelBits, messageBits, messageBytes};
+ghost use Rattle.frames.specs.Message.{widths};
 
 // Whether there is such a kind.
 pub fn is_kind(kind: u8) -> bool
@@ -76,4 +77,18 @@ pub fn message_bytes(kind: u8, grade: usize) -> usize
     ensures { λ r. ⌜ r ≡ messageBytes kind grade ⌝ }
 {
     (message_bits(kind, grade) + 7) / 8
+}
+
+// The width in bits of number i of a block, s1 to s8, by the grade: one less for the first, one more for the last.
+pub fn width(grade: usize, i: usize) -> usize
+    requires { ⌜ (1 ≤ grade) × (grade ≤ 4) × (i < 8) ⌝ }
+    ensures { λ r. ⌜ r ≡ getD (widths grade) i 0 ⌝ }
+{
+    if i == 0 {
+        return grade - 1;
+    }
+    if i == 7 {
+        return grade + 1;
+    }
+    grade
 }

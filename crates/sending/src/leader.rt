@@ -9,20 +9,6 @@ ghost use Rattle.e8.specs.Rows.{ints};
 ghost use Rattle.frames.specs.Kind.{isKind, degrees, levelBits, messageBits};
 ghost use Rattle.frames.specs.Message.{widths, number as numberAt, numbers, stacked};
 
-// The width of number c of a block, in bits.
-fn width(grade: usize, c: usize) -> usize
-    requires { ⌜ (1 ≤ grade) × (grade ≤ 4) × (c < 8) ⌝ }
-    ensures { λ r. ⌜ r ≡ getD (widths grade) c 0 ⌝ }
-{
-    if c == 0 {
-        return grade - 1;
-    }
-    if c == 7 {
-        return grade + 1;
-    }
-    grade
-}
-
 // Byte j of the message, and 0 past its end.
 fn byte(message: &[u8], j: usize) -> u32
     ensures value { λ r. ⌜ r ≡ getD (now (message .entry)) j 0 ⌝ }
@@ -97,7 +83,7 @@ pub fn block(message: &[u8], from: usize, grade: usize, a: u32, sums: &[u8]) -> 
     let mut at = from;
     let mut c: usize = 0;
     while c < 8 {
-        let w = width(grade, c);
+        let w = kind_table::width(grade, c);
         let s = number(message, at, w) << a;
         x[c] = (s + sums[c] as u32) as i32;
         at += w;

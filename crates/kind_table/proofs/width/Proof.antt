@@ -1,12 +1,12 @@
--- `leader::width` meets its contract. Assumes nothing.
+-- `width` meets its contract. Assumes nothing.
 use Prim.Native.Nat.{ℕ, zero, suc, _<_, _-_}
 use mathlib.Core.Path.{_≡_, refl, sym, ap}
 use native.Mathlib.Omega.{arith}
 use lib.ListN.{getD}
 use Rattle.frames.specs.Message.{widths}
 use borrow.Author.Needs.{needs}
-use Rattle.sending.proofs.leader.width.Statement.{statement}
-use Rattle.sending.proofs.leader.width.Tie as tie
+use Rattle.kind_table.proofs.width.Statement.{statement}
+use Rattle.kind_table.proofs.width.Tie as tie
 
 -- the numbers between the first and the last have b bits
 middle : (b i : ℕ) → i < 8 → (i ≡ 0 → ⊥) → (i ≡ 7 → ⊥) → b ≡ getD (widths b) i 0
@@ -34,7 +34,7 @@ returns-2 c = ap (λ (i : ℕ). getD (widths (c .before .before .args .grade)) i
 
 returns-3 : tie.Need-returns-3
 returns-3 c =
-    middle (c .before .before .args .grade) (c .before .before .args .c) (c .before .before .pre .2) (c .before .if1 .left) (c .if2 .left)
+    middle (c .before .before .args .grade) (c .before .before .args .i) (c .before .before .pre .2) (c .before .if1 .left) (c .if2 .left)
 
 pub width-spec : {M : Type 1} → statement M
 width-spec = tie.close (tie.spec sub-result returns add-result returns-2 returns-3)
