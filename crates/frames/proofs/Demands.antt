@@ -25,6 +25,7 @@ use Rattle.frames.proofs.Class.{Shape, scale-is, class-codes}
 use Rattle.frames.proofs.One.{leader-length, leader-at, open-message, open-class, one-message}
 use Rattle.frames.proofs.Rows.{shape, distances, grade-low}
 use Rattle.frames.proofs.Distance.{distance-sum, Apart, somewhere}
+use Rattle.frames.proofs.Reached.{Reached, reached}
 
 -- the one message whose sent frame differs from f by a point of the shaping lattice
 pub record OneMessage (k b : ℕ) (f : List ℤ) : Type 0 where
@@ -174,3 +175,7 @@ module _ (k b : ℕ) (kind : isKind k ≡ true) (grade : isGrade b ≡ true) whe
   -- and so the frames sent for two different messages of one kind and grade are as far apart
   pub sent-apart : (x y : List ℕ) → Message k b x → Message k b y → (x ≡ y → ⊥) → leastDistance k ≤ distance (sentFrame k b x) (sentFrame k b y)
   sent-apart x y mx my ne = set-apart (sentFrame k b x) (sentFrame k b y) (sent-in-set x) (sent-in-set y) (λ e. ne (messages-differ x y mx my e))
+
+  -- "and at each grade two messages are sent at exactly that"
+  pub exactly-apart : Reached k b
+  exactly-apart = reached k b kind grade

@@ -6,9 +6,9 @@ pub mod Class
 pub mod One
 pub mod Rows
 pub mod Distance
+pub mod Reached
 pub mod Demands
 pub mod Bounds
-pub mod Reached
 pub mod Exam
 pub mod Refusals
 pub mod Reading
