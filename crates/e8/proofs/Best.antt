@@ -1,17 +1,16 @@
 -- the least member of a class D_p(xs), for lists of any length
-use mathlib.Core.Path.{_≡_, refl, sym, _∙_, ap, subst}
+use mathlib.Core.Path.{_≡_, refl, sym, ap, subst}
 use mathlib.Core.Logic.{_⊎_, inl, inr}
-use mathlib.Core.Bool.{Bool, true, false, not, true≢false, cond}
+use mathlib.Core.Bool.{Bool, true, false, not, true≢false}
 use mathlib.Core.List.{List, [], _∷_}
-use Prim.Native.Nat.{ℕ, zero, suc, _+_, _*_, _-_, _<_, _≤_}
+use Prim.Native.Nat.{ℕ, zero, suc, _+_, _*_, _-_, _<_}
 use native.Mathlib.Nat.{eq-of-mul-eq-mul-left}
 use native.Mathlib.Omega.{arith}
-use lib.Dec.{T}
 use lib.ListN.{length, getD}
 use lib.IntN.{ℤ, pos, _+ℤ_, _-ℤ_, _*ℤ_}
-use lib.Signed.{_<ℤ_, shrZ, ltZ, ltZ-yes, ltZ-no}
-use Rattle.integers.proofs.Zed.{`_, #_, _⊕_, _⊖_, _⊗_, up, down, eq!, eq?, le?, lt?, le-ud, lt-ud}
-use Rattle.integers.proofs.Floor.{modZ-lt, div-mod, rem-is}
+use lib.Signed.{_<ℤ_, shrZ}
+use Rattle.integers.proofs.Zed.{`_, #_, _⊕_, _⊖_, _⊗_, up, down, eq!, eq?, le-ud, lt-ud}
+use Rattle.integers.proofs.Floor.{modZ-lt, div-mod}
 use Rattle.integers.specs.Integer.{modZ}
 use Rattle.e8.specs.Energy.{energy}
 use Rattle.e8.specs.Order.{Reads}
@@ -30,11 +29,11 @@ pub record In (M : ℕ) (p : Bool) (xs zs : List ℤ) : Type 0 where
 
 -- ---- one coordinate more
 
-abbrev off : ℕ → Bool → ℤ → ℤ
+abbrev pub off : ℕ → Bool → ℤ → ℤ
 off M false x = x
 off M true x = x -ℤ pos M
 
-abbrev rest : Bool → Bool → Bool
+abbrev pub rest : Bool → Bool → Bool
 rest false p = p
 rest true p = not p
 
@@ -43,7 +42,7 @@ carry false p = (0, omega arith)
 carry true false = (1, omega arith)
 carry true true = (0, omega arith)
 
-off-is : (M : ℕ) (q : Bool) (x : ℤ) → off M q x ≡ x -ℤ pos M *ℤ pos (bit q)
+pub off-is : (M : ℕ) (q : Bool) (x : ℤ) → off M q x ≡ x -ℤ pos M *ℤ pos (bit q)
 off-is M false x = eq! (` x) (` x ⊖ # M ⊗ # 0) (omega arith)
 off-is M true x = eq! (` x ⊖ # M) (` x ⊖ # M ⊗ # 1) (omega arith)
 
@@ -57,7 +56,7 @@ record Parts (M : ℕ) (p : Bool) (x : ℤ) (xs zs : List ℤ) : Type 0 where
   head : z₀ ≡ off M q x -ℤ pos M *ℤ (pos 2 *ℤ s)
   tail : In M (rest q p) xs z₁
 
-bool-of : (n : ℕ) → n < 2 → (q : Bool) × (bit q ≡ n)
+pub bool-of : (n : ℕ) → n < 2 → (q : Bool) × (bit q ≡ n)
 bool-of zero h = (false, refl)
 bool-of (suc zero) h = (true, refl)
 bool-of (suc (suc n)) h = absurd (omega arith)
@@ -124,7 +123,7 @@ best-in M p x (y ∷ ys) h = better-is (In M p (x ∷ y ∷ ys)) (cent M x ∷ b
     (cent-off M p false x (y ∷ ys) (best M p (y ∷ ys)) h (best-in M p y ys h))
     (cent-off M p true x (y ∷ ys) (best M (not p) (y ∷ ys)) h (best-in M (not p) y ys h))
 
-cons-mono : (a b : ℤ) (av bv : List ℤ) → First a b → av ≼ bv → (a ∷ av) ≼ (b ∷ bv)
+pub cons-mono : (a b : ℤ) (av bv : List ℤ) → First a b → av ≼ bv → (a ∷ av) ≼ (b ∷ bv)
 unfolding energy
 cons-mono a b av bv (inl h) (inl k) = inl (omega arith)
 cons-mono a b av bv (inl h) (inr k) = inl (omega arith)
@@ -193,46 +192,6 @@ best-range M false (x ∷ []) h = (cent-range M x h, tt)
 best-range M true (x ∷ []) h = (cent-range M (x -ℤ pos M) h, tt)
 best-range M p (x ∷ y ∷ ys) h = better-is (All (Range M)) (cent M x ∷ best M p (y ∷ ys)) (cent M (x -ℤ pos M) ∷ best M (not p) (y ∷ ys))
     (cent-range M x h, best-range M p (y ∷ ys) h) (cent-range M (x -ℤ pos M) h, best-range M (not p) (y ∷ ys) h)
-
--- ---- the two candidates for the first coordinate differ, so that they decide a tie
-
-pub cents-differ : (M : ℕ) (x : ℤ) → 0 < M → cent M x ≡ cent M (x -ℤ pos M) → ⊥
-cents-differ M x h e =
-    let t = turns M x in
-    let u = turns M (x -ℤ pos M) in
-    let f : M * (2 * up t + 2 * down u) ≡ M * (2 * down t + 2 * up u + 1) =
-    omega (arith, eq? (` x ⊖ # M ⊗ (# 2 ⊗ ` t)) (` x ⊖ # M ⊖ # M ⊗ (# 2 ⊗ ` u)) (sym (cent-is M x h) ∙ e ∙ cent-is M (x -ℤ pos M) h)) in
-    let g : 2 * up t + 2 * down u ≡ 2 * down t + 2 * up u + 1 = eq-of-mul-eq-mul-left M h (2 * up t + 2 * down u) (2 * down t + 2 * up u + 1) f in
-    omega arith
-
--- M up or down from the first candidate is the second
-pub cent-across : (M : ℕ) (x : ℤ) → 0 < M → cent M (x -ℤ pos M) ≡ cond (ltZ (cent M x) (pos 0)) (cent M x +ℤ pos M) (cent M x -ℤ pos M)
-unfolding cent
-cent-across M x h = go (ltZ (pos n -ℤ pos M) (pos 0)) refl
-  where
-    n : ℕ
-    n = modZ (x +ℤ pos M) (2 * M)
-
-    q : ℤ
-    q = shrZ (x +ℤ pos M) (2 * M)
-
-    lt : n < 2 * M
-    lt = modZ-lt (x +ℤ pos M) (2 * M) (omega arith)
-
-    d : up x + M + 2 * M * down q ≡ 2 * M * up q + n + down x
-    d = omega (arith, eq? (` x ⊕ # M) (# (2 * M) ⊗ ` q ⊕ # n) (div-mod (x +ℤ pos M) (2 * M) (omega arith)))
-
-    go : (t : Bool) → ltZ (pos n -ℤ pos M) (pos 0) ≡ t → pos (modZ (x -ℤ pos M +ℤ pos M) (2 * M)) -ℤ pos M ≡ cond t (pos n -ℤ pos M +ℤ pos M) (pos n -ℤ pos M -ℤ pos M)
-    go true e =
-        let l : n < M = omega (arith, lt? (# n ⊖ # M) (# 0) (ltZ-yes (subst T (sym e) tt))) in
-        let r : modZ (x -ℤ pos M +ℤ pos M) (2 * M) ≡ n + M =
-        rem-is (x -ℤ pos M +ℤ pos M) (2 * M) (q -ℤ pos 1) (n + M) (omega arith) (eq! (` x ⊖ # M ⊕ # M) (# (2 * M) ⊗ (` q ⊖ # 1) ⊕ # (n + M)) (omega (arith, d))) in
-        ap (λ (m : ℕ). pos m -ℤ pos M) r ∙ eq! (# (n + M) ⊖ # M) (# n ⊖ # M ⊕ # M) (omega arith)
-    go false e =
-        let l : M ≤ n = omega (arith, le? (# 0) (# n ⊖ # M) (ltZ-no {a = pos n -ℤ pos M} {b = pos 0} (subst (λ t. T (not t)) (sym e) tt))) in
-        let r : modZ (x -ℤ pos M +ℤ pos M) (2 * M) ≡ n - M =
-        rem-is (x -ℤ pos M +ℤ pos M) (2 * M) q (n - M) (omega (arith, lt)) (eq! (` x ⊖ # M ⊕ # M) (# (2 * M) ⊗ ` q ⊕ # (n - M)) (omega (arith, d))) in
-        ap (λ (m : ℕ). pos m -ℤ pos M) r ∙ eq! (# (n - M) ⊖ # M) (# n ⊖ # M ⊖ # M) (omega arith)
 
 -- the first coordinate of the best differs from x by a multiple of M
 pub best-head : (M : ℕ) (p : Bool) (x : ℤ) (xs : List ℤ) → 0 < M → (u : ℤ) × (getD (best M p (x ∷ xs)) 0 (pos 0) ≡ x -ℤ pos M *ℤ u)

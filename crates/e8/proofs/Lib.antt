@@ -2,6 +2,7 @@ pub mod Example
 pub mod Order
 pub mod Cent
 pub mod Best
+pub mod Rounding
 pub mod Points
 pub mod Group
 pub mod Block

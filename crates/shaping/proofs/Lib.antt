@@ -1,6 +1,6 @@
 pub mod Size
 pub mod Filled
-pub mod Walking
+pub mod Passing
 pub mod Rest
 pub mod Reading
 pub mod Reducing

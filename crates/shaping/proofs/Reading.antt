@@ -2,16 +2,15 @@
 use mathlib.Core.Path.{_≡_, refl, sym, _∙_, ap, ap₂, subst}
 use Prim.Native.Nat.{ℕ, _+_, _^_, _≤_}
 use native.Mathlib.Omega.{arith}
-use lib.IntN.{ℤ, pos, _+ℤ_, _-ℤ_, natAbs}
+use lib.IntN.{ℤ, pos, _+ℤ_, natAbs}
 use mir.Syntax.{w32}
 use mir.Val.{SFits, toZ, ofZ}
 use Rattle.integers.proofs.Zed.{tz, sfits-to}
 use Rattle.e8.specs.Least.{cent}
-use Rattle.e8.proofs.Best.{cent-across}
-use Rattle.shaping.specs.Walk.{Scale, across}
+use Rattle.shaping.specs.Rounded.{Scale}
 use Rattle.shaping.proofs.Size.{fits}
 use Rattle.shaping.proofs.Rest.{power-fits, double}
-use Rattle.shaping.proofs.Walking.{scale-pos, cent-abs}
+use Rattle.shaping.proofs.Passing.{scale-pos, cent-abs}
 
 -- a signed number as a local holds it, and as it is read
 abbrev pub read : ℤ → ℤ
@@ -26,9 +25,6 @@ module _ (k : ℕ) (m x : ℤ) (s : Scale k m) (size : natAbs x ≤ 2 ^ 24 + 2 ^
 
   pub coordinate : read x ≡ x
   coordinate = tz refl (fits x (omega (arith, size)))
-
-  pub scale-size : natAbs (read m) ≤ 2 ^ 7
-  scale-size = subst (λ (y : ℤ). natAbs y ≤ 2 ^ 7) (sym scale-read) (scale-pos k (s .small) .1)
 
   pub in-range : natAbs (read x) ≤ 2 ^ 25
   in-range = subst (λ (y : ℤ). natAbs y ≤ 2 ^ 25) (sym coordinate) (omega (arith, size))
@@ -45,10 +41,6 @@ centred k r y x h e f = tz (e ∙ ap (cent (2 ^ k)) f) (cent-fits k x h)
 
 pub small-as : (k : ℕ) (z x : ℤ) → k ≤ 7 → z ≡ cent (2 ^ k) x → natAbs z ≤ 2 ^ 7
 small-as k z x h e = subst (λ (y : ℤ). natAbs y ≤ 2 ^ 7) (sym e) (cent-small k x h)
-
--- the second candidate, from the first
-pub crossed : (k : ℕ) (r a b x : ℤ) → k ≤ 7 → r ≡ across a b → a ≡ pos (2 ^ k) → b ≡ cent (2 ^ k) x → read r ≡ cent (2 ^ k) (x -ℤ pos (2 ^ k))
-crossed k r a b x h e ea eb = tz (e ∙ ap₂ across ea eb ∙ sym (cent-across (2 ^ k) x (scale-pos k h .0))) (cent-fits k (x -ℤ pos (2 ^ k)) h)
 
 -- 2^k in a local, and twice it
 module _ (k : ℕ) (p : ℤ) (low : k ≤ 6) (e : p ≡ pos (2 ^ k)) where

@@ -15,7 +15,7 @@ use Rattle.e8.specs.Least.{lowered}
 use Rattle.e8.specs.Rows.{ints, remainders, reduced}
 use Rattle.shaping.proofs.Size.{abs! }
 use Rattle.shaping.proofs.Filled.{Filled, filled-next, filled-all}
-use Rattle.shaping.proofs.Walking.{drop-last}
+use Rattle.shaping.proofs.Passing.{drop-last}
 
 -- what is written in the end
 abbrev pub result : ℕ → List ℤ → List ℤ

@@ -81,24 +81,11 @@ fn remainder(k: u32, m: i32, z: i32) -> i32
 
 // ---- the least member of a class
 
-ghost use mathlib.Core.Bool.{true, false, cond};
-ghost use mathlib.Core.List.{List, [], _∷_};
-ghost use lib.IntN.{ℤ, _-ℤ_};
+ghost use mathlib.Core.Bool.{false, cond};
+ghost use lib.Dec.{ltb};
 ghost use Rattle.e8.specs.Energy.{sq};
 ghost use Rattle.e8.specs.Least.{cent as centred, best, lowered as less, leastBlock};
-ghost use Rattle.shaping.specs.Walk.{Scale, across, choice, sooner, chosen, Keeps, Low};
-
-// The best choices for the coordinates passed, when the sum is to be even or odd, and their energy.
-struct Suffix {
-    energy: u32,
-    choices: u32,
-}
-
-// Both.
-struct State {
-    even: Suffix,
-    odd: Suffix,
-}
+ghost use Rattle.shaping.specs.Rounded.{Scale, across, sooner, rankOf, placeOf};
 
 // A candidate for the least member, and its energy.
 struct Candidate {
@@ -114,7 +101,7 @@ fn cent(k: u32, m: i32, x: i32) -> i32
     remainder(k + 1, m + m, x + m) - m
 }
 
-// From the first candidate for a coordinate to the second: M up where it is negative, and down where it is not.
+// From a coordinate to the other side of 0: m up where it is negative, and down where it is not.
 fn other(m: i32, c: i32) -> i32
     requires { ⌜ (natAbs m ≤ 2 ^ 7) × (natAbs c ≤ 2 ^ 7) ⌝ }
     ensures { λ r. ⌜ r ≡ across m c ⌝ }
@@ -122,17 +109,8 @@ fn other(m: i32, c: i32) -> i32
     if c < 0 { c + m } else { c - m }
 }
 
-// One of the two candidates for a coordinate.
-fn either(k: u32, m: i32, x: i32, second: u32) -> i32
-    requires { ⌜ Scale k m × (natAbs x ≤ 2 ^ 24 + 2 ^ 7) ⌝ }
-    ensures { λ r. ⌜ r ≡ choice (2 ^ k) second x ⌝ }
-{
-    let c = cent(k, m, x);
-    if second == 0 { c } else { other(m, c) }
-}
-
 fn square(z: i32) -> u32
-    requires { ⌜ natAbs z ≤ 2 ^ 7 ⌝ }
+    requires { ⌜ natAbs z ≤ 2 ^ 8 ⌝ }
     ensures { λ r. ⌜ r ≡ sq z ⌝ }
 {
     (z * z) as u32
@@ -145,116 +123,63 @@ fn first(e: u32, c: i32, f: u32, d: i32) -> bool
     if c < d { e <= f } else { e < f }
 }
 
-// The better of c before the one, and of d before the other.
-fn extend(c: i32, d: i32, one: Suffix, other: Suffix) -> Suffix
-    requires { ⌜ (natAbs c ≤ 2 ^ 7) × (natAbs d ≤ 2 ^ 7) ⌝ }
-    requires { ⌜ (one .energy ≤ 2 ^ 17) × (one .choices ≤ 2 ^ 7) ⌝ }
-    requires { ⌜ (other .energy ≤ 2 ^ 17) × (other .choices ≤ 2 ^ 7) ⌝ }
-    ensures energy { λ r. ⌜ r .energy ≡ cond (sooner (sq c + one .energy) c (sq d + other .energy) d) (sq c + one .energy) (sq d + other .energy) ⌝ }
-    ensures choices { λ r. ⌜ r .choices ≡ cond (sooner (sq c + one .energy) c (sq d + other .energy) d) (2 * one .choices) (2 * other .choices + 1) ⌝ }
+// The rank of a coordinate as the one to change: the larger first, of equals those that are not negative from the first on, then the negative ones from the last on.
+fn rank(c: i32, i: usize) -> u32
+    requires { ⌜ (natAbs c ≤ 2 ^ 7) × (i < 8) ⌝ }
+    ensures { λ r. ⌜ r ≡ rankOf c i ⌝ }
 {
-    let e = square(c) + one.energy;
-    let f = square(d) + other.energy;
-    if first(e, c, f, d) {
-        Suffix {
-            energy: e,
-            choices: 2 * one.choices,
-        }
+    let j = i as i32;
+    if c < 0 {
+        (j - 16 * c) as u32
     } else {
-        Suffix {
-            energy: f,
-            choices: 2 * other.choices + 1,
-        }
+        (16 * c + (15 - j)) as u32
     }
 }
 
-// The walk at the last coordinate.
-fn begin(k: u32, m: i32, v: i32) -> State
-    requires { ⌜ Scale k m × (natAbs v ≤ 2 ^ 24 + 2 ^ 7) ⌝ }
-    ensures { λ r. ⌜ Keeps (2 ^ k) (v ∷ []) (r .even .energy) (r .odd .energy) (r .even .choices) (r .odd .choices) ⌝ }
+fn larger(a: u32, b: u32) -> u32
+    ensures { λ r. ⌜ r ≡ cond (ltb a b) b a ⌝ }
 {
-    let c = cent(k, m, v);
-    let d = other(m, c);
-    let e = square(c);
-    let f = square(d);
-    let even = Suffix {
-        energy: e,
-        choices: 0,
-    };
-    let odd = Suffix {
-        energy: f,
-        choices: 1,
-    };
-    State {
-        even: even,
-        odd: odd,
-    }
+    if a < b { b } else { a }
 }
 
-// The walk from coordinates xs, whatever they are, to one more before them.
-fn step(k: u32, m: i32, v: i32, w: State) -> State
-    requires { ⌜ Scale k m × (natAbs v ≤ 2 ^ 24 + 2 ^ 7) ⌝ }
-    requires { ⌜ Low (w .even .energy) (w .odd .energy) (w .even .choices) (w .odd .choices) ⌝ }
-    ensures { λ r. ⌜ ((xs : List ℤ) → 0 < length xs → Keeps (2 ^ k) xs (w .even .energy) (w .odd .energy) (w .even .choices) (w .odd .choices) → Keeps (2 ^ k) (v ∷ xs) (r .even .energy) (r .odd .energy) (r .even .choices) (r .odd .choices)) ⌝ }
+// The place that a rank names.
+fn place(n: u32) -> usize
+    ensures { λ r. ⌜ r ≡ placeOf n ⌝ }
 {
-    let c = cent(k, m, v);
-    let d = other(m, c);
-    let one = w.even;
-    let two = w.odd;
-    let even = extend(c, d, one, two);
-    let odd = extend(c, d, two, one);
-    State {
-        even: even,
-        odd: odd,
-    }
+    let t = n % 16;
+    if t < 8 { t as usize } else { (15 - t) as usize }
 }
 
-// The walk over all eight coordinates, from the last to the first.
-fn walk(k: u32, m: i32, x: [i32; 8]) -> State
-    requires { ⌜ Scale k m × Within (2 ^ 24 + 2 ^ 7) x ⌝ }
-    ensures { λ r. ⌜ Keeps (2 ^ k) x (r .even .energy) (r .odd .energy) (r .even .choices) (r .odd .choices) ⌝ }
+// The best block by whole vectors, for h = 2^k and M = 2h: every coordinate rounded, and where the sum is odd the first in rank changed by M.
+fn best_of(k: u32, h: i32, x: [i32; 8]) -> Candidate
+    requires { ⌜ (k ≤ 6) × Scale k h × Within (2 ^ 24 + 2 ^ 7) x ⌝ }
+    ensures block { λ r. ⌜ r .block ≡ best (2 * 2 ^ k) false x ⌝ }
+    ensures energy { λ r. ⌜ r .energy ≡ squares (best (2 * 2 ^ k) false x) ⌝ }
 {
-    let v = x[7];
-    let mut w = begin(k, m, v);
-    let mut i: usize = 7;
+    let mut r = x;
+    let mut sum: i32 = 0;
+    let mut energy: u32 = 0;
+    let mut top: u32 = 0;
+    let mut i: usize = 8;
     while i > 0 {
         i -= 1;
-        let u = x[i];
-        w = step(k, m, u, w);
-    }
-    w
-}
-
-// The block that the choices name.
-fn write(k: u32, m: i32, x: [i32; 8], choices: u32) -> [i32; 8]
-    requires { ⌜ Scale k m × Within (2 ^ 24 + 2 ^ 7) x ⌝ }
-    ensures { λ r. ⌜ r ≡ chosen (2 ^ k) choices x ⌝ }
-{
-    let mut r = [0i32; 8];
-    let mut n = choices;
-    let mut i: usize = 0;
-    while i < 8 {
         let v = x[i];
-        let z = either(k, m, v, n % 2);
-        r[i] = z;
-        n = n / 2;
-        i += 1;
+        let c = cent(k, h, v);
+        r[i] = c;
+        sum = sum + (v - c);
+        energy += square(c);
+        let t = rank(c, i);
+        top = larger(top, t);
     }
-    r
-}
-
-// The best block by whole vectors.
-fn best_of(k: u32, m: i32, x: [i32; 8]) -> Candidate
-    requires { ⌜ Scale k m × Within (2 ^ 24 + 2 ^ 7) x ⌝ }
-    ensures block { λ r. ⌜ r .block ≡ best (2 ^ k) false x ⌝ }
-    ensures energy { λ r. ⌜ r .energy ≡ squares (best (2 ^ k) false x) ⌝ }
-{
-    let w = walk(k, m, x);
-    let kept = w.even;
-    let block = write(k, m, x, kept.choices);
+    let m = h + h;
+    let odd = remainder(k + 2, m + m, sum);
+    let j = place(top);
+    let c = r[j];
+    let d = other(odd, c);
+    r[j] = d;
     Candidate {
-        block: block,
-        energy: kept.energy,
+        block: r,
+        energy: energy + square(d) - square(c),
     }
 }
 
@@ -279,11 +204,9 @@ pub fn least(k: u32, x: [i32; 8]) -> [i32; 8]
     ensures { λ r. ⌜ r ≡ leastBlock (2 ^ k) x ⌝ }
 {
     let h = power(k);
-    let m = h + h;
-    let n = k + 1;
     let y = lowered(h, x);
-    let whole = best_of(n, m, x);
-    let half = best_of(n, m, y);
+    let whole = best_of(k, h, x);
+    let half = best_of(k, h, y);
     let a = whole.block;
     let b = half.block;
     let c = a[0];
@@ -297,6 +220,7 @@ pub fn least(k: u32, x: [i32; 8]) -> [i32; 8]
 
 // ---- the reduction to a message
 
+ghost use mathlib.Core.List.{_∷_};
 ghost use lib.ListN.{drop, getD};
 ghost use Rattle.e8.specs.Rows.{ints, remainders, reduced};
 

@@ -11,7 +11,7 @@ use Rattle.integers.proofs.Zed.{`_, #_, _⊕_, tz, sfits-to, abs-ud}
 use Rattle.e8.specs.Least.{cent}
 use Rattle.shaping.proofs.Size.{fits, abs! }
 use Rattle.shaping.proofs.Rest.{power-fits, double}
-use Rattle.shaping.proofs.Walking.{scale-pos, cent-abs}
+use Rattle.shaping.proofs.Passing.{scale-pos, cent-abs}
 use Rattle.shaping.proofs.cent.Statement.{statement}
 use Rattle.shaping.proofs.cent.Tie as tie
 

@@ -10,8 +10,8 @@ use Rattle.e8.specs.Energy.{Within}
 use Rattle.e8.specs.Least.{lowered}
 use Rattle.e8.proofs.Within.{within-to}
 use Rattle.shaping.proofs.Size.{lowered-within}
-use Rattle.shaping.proofs.Reading.{read, power-read, power-size, twice-fits, twice-scale}
-use Rattle.shaping.proofs.Walking.{least-from}
+use Rattle.shaping.proofs.Reading.{read, power-read, power-size}
+use Rattle.shaping.proofs.Passing.{least-from}
 use Rattle.shaping.proofs.least.Statement.{statement}
 use Rattle.shaping.proofs.least.Tie as tie
 
@@ -21,22 +21,16 @@ eight s = search needs
 power-requires : tie.Need-power-requires
 power-requires c κs = search needs
 
-add-m : tie.Need-add-m
-add-m c = twice-fits (c .before .args .k) (c .power .result) (c .before .pre .0) (c .power .ensures)
-
-add-n : tie.Need-add-n
-add-n c = search needs
-
 lowered-requires : tie.Need-lowered-requires
 lowered-requires c κs = (omega (arith, power-size (c .before .args .k) (c .power .result) (c .before .pre .0) (c .power .ensures)), c .before .pre .1)
 
 best-of-requires : tie.Need-best-of-requires
-best-of-requires c κs = let p = c .before in (twice-scale (p .before .args .k) (p .power .result) (p .before .pre .0) (p .power .ensures), within-to (2 ^ 24) (2 ^ 24 + 2 ^ 7) (p .before .args .x) (omega arith) (p .before .pre .1))
+best-of-requires c κs = let p = c .before in (p .before .pre .0, record { small = omega (arith, p .before .pre .0); is = power-read (p .before .args .k) (p .power .result) (p .before .pre .0) (p .power .ensures) }, within-to (2 ^ 24) (2 ^ 24 + 2 ^ 7) (p .before .args .x) (omega arith) (p .before .pre .1))
 
 best-of-requires-2 : tie.Need-best-of-requires-2
 best-of-requires-2 c κs =
     let p = c .before .before in
-    (twice-scale (p .before .args .k) (p .power .result) (p .before .pre .0) (p .power .ensures), subst (Within (2 ^ 24 + 2 ^ 7)) (sym (c .before .lowered .ensures)) (lowered-within (read (p .power .result)) (p .before .args .x) (2 ^ 24) (2 ^ 7) (power-size (p .before .args .k) (p .power .result) (p .before .pre .0) (p .power .ensures)) (p .before .pre .1)))
+    (p .before .pre .0, record { small = omega (arith, p .before .pre .0); is = power-read (p .before .args .k) (p .power .result) (p .before .pre .0) (p .power .ensures) }, subst (Within (2 ^ 24 + 2 ^ 7)) (sym (c .before .lowered .ensures)) (lowered-within (read (p .power .result)) (p .before .args .x) (2 ^ 24) (2 ^ 7) (power-size (p .before .args .k) (p .power .result) (p .before .pre .0) (p .power .ensures)) (p .before .pre .1)))
 
 array-copy-out-c : tie.Need-array-copy-out-c
 array-copy-out-c c = search needs
@@ -74,8 +68,6 @@ least-spec =
     tie.close
     (tie.spec
     power-requires
-    add-m
-    add-n
     lowered-requires
     best-of-requires
     best-of-requires-2

@@ -14,9 +14,9 @@ use Rattle.shaping.proofs.square.Statement.{statement}
 use Rattle.shaping.proofs.square.Tie as tie
 
 module _ (c : tie.Start) where
-  small : sq (c .args .z) ≤ 2 ^ 14
+  small : sq (c .args .z) ≤ 2 ^ 16
   unfolding sq
-  small = sq-le (natAbs (c .args .z)) (2 ^ 7) (c .pre)
+  small = sq-le (natAbs (c .args .z)) (2 ^ 8) (c .pre)
 
   product : toZ w32 (ofZ w32 (c .args .z)) *ℤ toZ w32 (ofZ w32 (c .args .z)) ≡ pos (sq (c .args .z))
   product = ap (λ (y : ℤ). y *ℤ y) (tz refl (c .fits .z)) ∙ product-sq (c .args .z)

@@ -1,0 +1,116 @@
+-- `rank` meets its contract
+use mathlib.Core.Path.{_≡_, refl, sym, _∙_, ap, ap₂, subst}
+use mathlib.Core.Bool.{Bool, true, false, true≢false, cond}
+use Prim.Native.Nat.{ℕ, suc, _+_, _*_, _-_, _^_, _<_, _≤_}
+use native.Mathlib.Omega.{arith}
+use lib.Dec.{T}
+use lib.IntN.{ℤ, pos, negsuc, _+ℤ_, _-ℤ_, _*ℤ_, natAbs}
+use lib.Signed.{nonNeg, ltZ}
+use mir.Syntax.{w32}
+use mir.Val.{SFits, Fits, toZ}
+use mir.Facts.{toZ-pos}
+use borrow.Author.Needs.{needs}
+use borrow.Author.Tests.{ltb-true}
+use Rattle.integers.proofs.Zed.{`_, #_, _⊕_, _⊖_, _⊗_, eq!, tz, sfits-to, abs-ud}
+use Rattle.shaping.specs.Rounded.{rankOf}
+use Rattle.shaping.proofs.Size.{fits, abs! }
+use Rattle.shaping.proofs.Reading.{read}
+use Rattle.shaping.proofs.rank.Statement.{statement}
+use Rattle.shaping.proofs.rank.Tie as tie
+
+low-is : (c : ℤ) (i : ℕ) → ltZ c (pos 0) ≡ true → pos i -ℤ pos 16 *ℤ c ≡ pos (rankOf c i)
+low-is (pos a) i l = absurd (omega (arith, ltb-true a 0 l))
+low-is (negsuc a) i l = eq! (# i ⊖ # 16 ⊗ ` (negsuc a)) (# (16 * suc a + i)) (omega arith)
+
+high-is : (c : ℤ) (i : ℕ) → i < 8 → ltZ c (pos 0) ≡ false → pos 16 *ℤ c +ℤ (pos 15 -ℤ pos i) ≡ pos (rankOf c i)
+high-is (pos a) i h l = eq! (# 16 ⊗ # a ⊕ (# 15 ⊖ # i)) (# (16 * a + (15 - i))) (omega arith) ∙ ap (λ t. pos (16 * a + cond t i (15 - i))) (sym l)
+high-is (negsuc a) i h l = absurd (true≢false l)
+
+rank-low : (c : ℤ) (i : ℕ) → natAbs c ≤ 2 ^ 7 → i < 8 → rankOf c i ≤ 2 ^ 12
+rank-low c i h k = go (ltZ c (pos 0))
+  where
+    go : (t : Bool) → 16 * natAbs c + cond t i (15 - i) ≤ 2 ^ 12
+    go true = omega arith
+    go false = omega arith
+
+module _ (s : tie.Start) where
+  number : read (s .args .c) ≡ s .args .c
+  number = tz refl (s .fits .c)
+
+  index : toZ w32 (s .args .i) ≡ pos (s .args .i)
+  index = toZ-pos w32 (omega (arith, s .pre .1))
+
+  sixteen-fits : SFits w32 (pos 16 *ℤ s .args .c)
+  sixteen-fits = fits (pos 16 *ℤ s .args .c) (abs! (# 16 ⊗ ` (s .args .c)) (2 ^ 30) (omega (arith, abs-ud (s .args .c), s .pre .0)) (omega (arith, abs-ud (s .args .c), s .pre .0)))
+
+  sixteen : read (pos 16 *ℤ read (s .args .c)) ≡ pos 16 *ℤ s .args .c
+  sixteen = tz (ap (λ (z : ℤ). pos 16 *ℤ z) number) sixteen-fits
+
+  behind-fits : SFits w32 (pos 15 -ℤ pos (s .args .i))
+  behind-fits = fits (pos 15 -ℤ pos (s .args .i)) (abs! (# 15 ⊖ # (s .args .i)) (2 ^ 30) (omega arith) (omega (arith, s .pre .1)))
+
+  behind : read (pos 15 -ℤ toZ w32 (s .args .i)) ≡ pos 15 -ℤ pos (s .args .i)
+  behind = tz (ap (λ (z : ℤ). pos 15 -ℤ z) index) behind-fits
+
+  abbrev n : ℕ
+  n = rankOf (s .args .c) (s .args .i)
+
+  n-low : n ≤ 2 ^ 12
+  n-low = rank-low (s .args .c) (s .args .i) (s .pre .0) (s .pre .1)
+
+  n-fits : SFits w32 (pos n)
+  n-fits = fits (pos n) (omega (arith, n-low))
+
+  low : ltZ (read (s .args .c)) (pos 0) ≡ true → toZ w32 (s .args .i) -ℤ read (pos 16 *ℤ read (s .args .c)) ≡ pos n
+  low l = ap₂ _-ℤ_ index sixteen ∙ low-is (s .args .c) (s .args .i) (rw number at l)
+
+  high : ltZ (read (s .args .c)) (pos 0) ≡ false → read (pos 16 *ℤ read (s .args .c)) +ℤ read (pos 15 -ℤ toZ w32 (s .args .i)) ≡ pos n
+  high l = ap₂ _+ℤ_ sixteen behind ∙ high-is (s .args .c) (s .args .i) (s .pre .1) (rw number at l)
+
+  whole : (z : ℤ) → z ≡ pos n → T (nonNeg (read z)) × Fits w32 (natAbs (read z))
+  whole z e = subst (λ (y : ℤ). T (nonNeg y) × Fits w32 (natAbs y)) (sym (tz e n-fits)) (tt, record { fits = omega (arith, n-low) })
+
+cast-j : tie.Need-cast-j
+cast-j c = search needs
+
+mul-result : tie.Need-mul-result
+mul-result c = sfits-to (ap (λ (z : ℤ). pos 16 *ℤ z) (number (c .before))) (sixteen-fits (c .before))
+
+sub-result : tie.Need-sub-result
+sub-result c = sfits-to (low (c .before) (c .if1 .taken)) (n-fits (c .before))
+
+cast-result : tie.Need-cast-result
+cast-result c = whole (c .before) _ (low (c .before) (c .if1 .taken))
+
+mul-result-2 : tie.Need-mul-result-2
+mul-result-2 c = sfits-to (ap (λ (z : ℤ). pos 16 *ℤ z) (number (c .before))) (sixteen-fits (c .before))
+
+sub-result-2 : tie.Need-sub-result-2
+sub-result-2 c = sfits-to (ap (λ (z : ℤ). pos 15 -ℤ z) (index (c .before))) (behind-fits (c .before))
+
+add-result : tie.Need-add-result
+add-result c = sfits-to (high (c .before) (c .if1 .left)) (n-fits (c .before))
+
+cast-result-2 : tie.Need-cast-result-2
+cast-result-2 c = whole (c .before) _ (high (c .before) (c .if1 .left))
+
+returns : tie.Need-returns
+returns c = ap natAbs (tz (low (c .before) (c .if1 .taken)) (n-fits (c .before)))
+
+returns-2 : tie.Need-returns-2
+returns-2 c = ap natAbs (tz (high (c .before) (c .if1 .left)) (n-fits (c .before)))
+
+pub rank-spec : {M : Type 1} → statement M
+rank-spec =
+    tie.close
+    (tie.spec
+    cast-j
+    mul-result
+    sub-result
+    cast-result
+    mul-result-2
+    sub-result-2
+    add-result
+    cast-result-2
+    returns
+    returns-2)
