@@ -6,12 +6,13 @@ use mathlib.Core.List.{List, _++_}
 use native.Mathlib.Nat.{mul-le-mul-left}
 use native.Mathlib.Omega.{arith}
 use lib.IntN.{ℤ}
-use lib.ListN.{length, take, getD}
+use lib.ListN.{length, take, getD, length-take, length-drop}
 use lib.Seq.{take-all}
 use Rattle.reed_muller.specs.Level.{table, dimension, order, backwards}
 use Rattle.reed_muller.specs.Message.{messageBit, bytesOf, withBits}
 use Rattle.reed_muller.proofs.Table.{table-ext}
 use Rattle.reed_muller.proofs.Parity.{backwards-small}
+use Rattle.reed_muller.proofs.Digits.{digit, digit-small}
 use Rattle.e8.specs.Lattice.{part}
 use Rattle.e8.specs.Rows.{reduced}
 use Rattle.frames.specs.Kind.{isKind, degrees, levels, blocks, dimensions, levelBits, messageBits, messageBytes}
@@ -23,7 +24,8 @@ use Rattle.frames.proofs.Rows.{shape}
 use Rattle.reading.specs.Written.{Written}
 use Rattle.reading.proofs.Words.{word-backwards}
 use Rattle.reading.proofs.Writing.{zeros, written-table, written-next, written-whole}
-use Rattle.reading.proofs.Rows.{levels-count, levels-more, dimensions-more, dimensions-le, blocks-more, blocks-count}
+use Rattle.reading.proofs.Rows.{all-count, total-widths, reduced-count, levels-count, levels-more, dimensions-more, dimensions-le, blocks-more, blocks-count}
+use Rattle.reading.proofs.Packed.{row-of-digits}
 
 -- ---- levels
 
@@ -64,6 +66,20 @@ unfolding levels
 levels-all k i f a b h w = subst (λ (rs : List ℕ). Written 0 (levelMessages k 0 rs f) a b) (take-all i (degrees k) h) w
 
 -- ---- blocks
+
+-- the bits of a block's numbers, put as one packed number
+pub block-written : (b j bits from : ℕ) (v : List ℤ) (out after : List ℕ) → 1 ≤ b → 8 * j + 8 ≤ length v
+    → ((t : ℕ) → t < 8 * b → digit bits t ≡ getD (allDigits (widths b) (reduced (2 ^ (b - 1)) (part j v))) t 0)
+    → after ≡ bytesOf (length out) (withBits from (8 * b) (digit bits) (messageBit out)) → Written from (allDigits (widths b) (reduced (2 ^ (b - 1)) (part j v))) out after
+block-written b j bits from v out after grade room h e =
+    subst (λ (row : List ℕ). Written from row out after) (row-of-digits (8 * b) bits (allDigits (widths b) ss) (all-count (widths b) ss (omega (arith, eight)) ∙ total-widths b grade) h)
+    (subst (Written from (table (8 * b) (digit bits)) out) (sym e) (written-table from (8 * b) (digit bits) (digit-small bits) out))
+  where
+    ss : List ℕ
+    ss = reduced (2 ^ (b - 1)) (part j v)
+
+    eight : length ss ≡ 8
+    eight = reduced-count (2 ^ (b - 1)) (part j v) ∙ simp (length-take, length-drop) (omega arith)
 
 module _ (k b j : ℕ) (kind : isKind k ≡ true) (grade : 1 ≤ b) (h : j < blocks k) where
   pub block-room : levelBits k + 8 * b * j + 8 * b ≤ messageBits k b

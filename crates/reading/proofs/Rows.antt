@@ -9,9 +9,8 @@ use lib.Pow.{pow-pos}
 use lib.IntN.{ℤ, pos, negsuc, _+ℤ_, _*ℤ_, natAbs}
 use lib.ListN.{length, take, drop, getD, length-append, length-take, length-drop}
 use lib.Signed.{shrZ}
-use Rattle.integers.proofs.Floor.{modZ-lt}
-use Rattle.reed_muller.specs.Level.{table, dimension, order, backwards}
-use Rattle.reed_muller.proofs.Table.{length-table, table-ext}
+use Rattle.reed_muller.specs.Level.{dimension, order, backwards}
+use Rattle.reed_muller.proofs.Table.{length-table}
 use Rattle.e8.specs.Energy.{Within}
 use Rattle.e8.specs.Lattice.{part}
 use Rattle.e8.specs.Least.{lowered}
@@ -19,10 +18,9 @@ use Rattle.e8.specs.Rows.{remainders, reduced}
 use Rattle.shaping.proofs.Size.{lowered-length}
 use Rattle.frames.specs.Kind.{dimensions}
 use Rattle.frames.specs.Message.{widths}
-use Rattle.frames.specs.Frame.{weightBit, levelWord}
+use Rattle.frames.specs.Frame.{levelWord}
 use Rattle.frames.specs.Reading.{levelMessage, levelMessages, quotients, digits, allDigits, blockMessages}
 use Rattle.frames.proofs.Numbers.{total}
-use Rattle.frames.proofs.Frame.{weight-bit}
 
 -- ---- widths
 
@@ -40,15 +38,7 @@ middle b (suc (suc (suc (suc (suc (suc (suc (suc i)))))))) h l r = absurd (omega
 
 -- ---- numbers
 
-pub weight-bit-small : (i : ℕ) (z : ℤ) → weightBit i z < 2
-weight-bit-small i z = rw (weight-bit i z) (modZ-lt (shrZ z (2 ^ i)) 2 (omega arith))
-
--- the bits of a natural number
-pub digits-bits : (w n : ℕ) → table w (λ t. weightBit t (pos n)) ≡ digits w n
-unfolding digits
-digits-bits w n = table-ext w (λ t l. weight-bit t (pos n))
-
-digits-count : (w n : ℕ) → length (digits w n) ≡ w
+pub digits-count : (w n : ℕ) → length (digits w n) ≡ w
 unfolding digits
 digits-count w n = length-table (λ t. n / 2 ^ t % 2) w
 
@@ -59,34 +49,6 @@ unfolding allDigits
 all-count [] ss h = refl
 all-count (w ∷ ws) [] h = absurd (omega arith)
 all-count (w ∷ ws) (s ∷ ss) h = length-append (digits w s) (allDigits ws ss) ∙ ap₂ _+_ (digits-count w s) (all-count ws ss (omega arith))
-
-all-next : (ws ss : List ℕ) (i : ℕ) → i < length ws → i < length ss
-    → allDigits (take (suc i) ws) (take (suc i) ss) ≡ allDigits (take i ws) (take i ss) ++ digits (getD ws i 0) (getD ss i 0)
-unfolding allDigits
-all-next [] ss i h l = absurd (omega arith)
-all-next (w ∷ ws) [] i h l = absurd (omega arith)
-all-next (w ∷ ws) (s ∷ ss) zero h l = append-nil (digits w s)
-all-next (w ∷ ws) (s ∷ ss) (suc i) h l =
-    ap (λ (d : List ℕ). digits w s ++ d) (all-next ws ss i (omega arith) (omega arith))
-    ∙ sym (append-assoc (digits w s) (allDigits (take i ws) (take i ss)) (digits (getD ws i 0) (getD ss i 0)))
-
--- one number more
-pub all-more : (ws ss : List ℕ) (i : ℕ) → i < length ws → i < length ss
-    → allDigits (take (i + 1) ws) (take (i + 1) ss) ≡ allDigits (take i ws) (take i ss) ++ digits (getD ws i 0) (getD ss i 0)
-all-more ws ss i h l = rw (add-one i) (all-next ws ss i h l)
-
-total-next : (ws : List ℕ) (i : ℕ) → i < length ws → total (take (suc i) ws) ≡ total (take i ws) + getD ws i 0
-total-next [] i h = absurd (omega arith)
-total-next (w ∷ ws) zero h = omega arith
-total-next (w ∷ ws) (suc i) h = omega (arith, total-next ws i (omega arith))
-
-pub total-more : (ws : List ℕ) (i : ℕ) → i < length ws → total (take (i + 1) ws) ≡ total (take i ws) + getD ws i 0
-total-more ws i h = rw (add-one i) (total-next ws i h)
-
-pub total-le : (ws : List ℕ) (i : ℕ) → total (take i ws) ≤ total ws
-total-le ws zero = omega arith
-total-le [] (suc i) = omega arith
-total-le (w ∷ ws) (suc i) = omega (arith, total-le ws i)
 
 -- ---- levels in a row
 

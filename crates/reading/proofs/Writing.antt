@@ -1,21 +1,19 @@
 -- Rows of bits written one behind the other. Assumes nothing.
 use Prim.Native.Nat.{ℕ, _+_, _*_, _-_, _/_, _%_, _^_, _<_}
 use mathlib.Core.Path.{_≡_, refl, sym, ap, _∙_, subst}
-use mathlib.Core.Bool.{Bool, true, false}
-use mathlib.Core.List.{List, [], _∷_, _++_}
-use native.Mathlib.Decide.{decLt, ℕ-discrete}
+use mathlib.Core.List.{List, [], _++_}
+use native.Mathlib.Decide.{decLt}
 use native.Mathlib.Nat.{zero-div}
-use native.Mathlib.Numerals.{add-one}
 use native.Mathlib.Omega.{arith}
-use lib.Dec.{eqb, lit<}
+use lib.Dec.{lit<}
 use lib.ListN.{length, getD, length-append, List·getD-append, List·getD-eq-default}
 use lib.Seq.{getD-append-add}
-use borrow.Author.Tests.{eq-eqb, ne-eqb}
-use Rattle.reed_muller.specs.Level.{pick, table}
-use Rattle.reed_muller.specs.Message.{messageBit, byteOf, bytesOf, withBit, withBits}
+use Rattle.reed_muller.specs.Level.{table}
+use Rattle.reed_muller.specs.Message.{messageBit, byteOf, bytesOf, withBits}
 use Rattle.reed_muller.proofs.Table.{length-table, table-at}
 use Rattle.reed_muller.proofs.Parity.{message-small}
 use Rattle.reed_muller.proofs.Message.{length-bytes, bits-of-bytes, bytes-ext, bytes-of-bits, byte-lt, with-in, with-before, with-past, with-small, with-none}
+use Rattle.reed_muller.proofs.Bytewise.{with-ext}
 use Rattle.frames.proofs.One.{table-below}
 use Rattle.reading.specs.Written.{Bytes, Written}
 
@@ -27,21 +25,11 @@ made-bytes n bit h = table-below 256 (byteOf bit) n (lit< tt) (λ j. byte-lt bit
 
 -- ---- a row of bits of a table
 
-module _ (from n : ℕ) (new old : ℕ → ℕ) where
-  -- only the first n bits of the new ones count
-  row-of-table : (i : ℕ) → withBits from n new old i ≡ withBits from (length (table n new)) (λ t. getD (table n new) t 0) old i
-  row-of-table i = go (decLt i from) (decLt i (from + n)) ∙ ap (λ (m : ℕ). withBits from m (λ t. getD (table n new) t 0) old i) (sym (length-table new n))
-    where
-      row : ℕ → ℕ
-      row t = getD (table n new) t 0
-
-      go : Dec (i < from) → Dec (i < from + n) → withBits from n new old i ≡ withBits from n row old i
-      go (yes l) d = with-before from n new old i l ∙ sym (with-before from n row old i l)
-      go (no k) (yes l) =
-          let e : i ≡ from + (i - from) = omega arith in
-          ap (withBits from n new old) e ∙ with-in from n new old (i - from) (omega arith)
-          ∙ sym (ap (withBits from n row old) e ∙ with-in from n row old (i - from) (omega arith) ∙ table-at new n (i - from) (omega arith))
-      go (no k) (no h) = with-past from n new old i (omega arith) ∙ sym (with-past from n row old i (omega arith))
+-- only the first n bits of the new ones count
+row-of-table : (from n : ℕ) (new old : ℕ → ℕ) (i : ℕ) → withBits from n new old i ≡ withBits from (length (table n new)) (λ t. getD (table n new) t 0) old i
+row-of-table from n new old i =
+    with-ext from n new (λ t. getD (table n new) t 0) old (λ t h. sym (table-at new n t h)) i
+    ∙ ap (λ (m : ℕ). withBits from m (λ t. getD (table n new) t 0) old i) (sym (length-table new n))
 
 -- bytes made with a table of bits put into them
 pub written-table : (from n : ℕ) (new : ℕ → ℕ) → ((t : ℕ) → new t < 2) → (before : List ℕ)
@@ -57,38 +45,6 @@ written-table from n new small before = record {
 
     bit-small : (i : ℕ) → bit i < 2
     bit-small = with-small from n new (messageBit before) small (message-small before)
-
--- one bit
-pub written-bit : (from b : ℕ) → b < 2 → (before : List ℕ) → Written from (b ∷ []) before (withBit from b before)
-unfolding withBit
-written-bit from b small before = record {
-  long = length-bytes (length before) bit;
-  each = λ h. made-bytes (length before) bit bit-small;
-  bits = λ i l. bits-of-bytes (length before) bit (λ j h. bit-small j) i l ∙ at i (ℕ-discrete i from);
-}
-  where
-    bit : ℕ → ℕ
-    bit i = pick (eqb i from) b (messageBit before i)
-
-    pick-small : (t : Bool) (x y : ℕ) → x < 2 → y < 2 → pick t x y < 2
-    pick-small true x y hx hy = hx
-    pick-small false x y hx hy = hy
-
-    bit-small : (i : ℕ) → bit i < 2
-    bit-small i = pick-small (eqb i from) b (messageBit before i) small (message-small before i)
-
-    row : ℕ → ℕ
-    row t = getD (b ∷ []) t 0
-
-    at : (i : ℕ) → Dec (i ≡ from) → bit i ≡ withBits from 1 row (messageBit before) i
-    at i (yes e) =
-        let e₀ : i ≡ from + 0 = omega arith in
-        rw (eq-eqb i from e) (sym (ap (withBits from 1 row (messageBit before)) e₀ ∙ with-in from 1 row (messageBit before) 0 (omega arith)))
-    at i (no k) = rw (ne-eqb i from k) (sym (other (decLt i from)))
-      where
-        other : Dec (i < from) → withBits from 1 row (messageBit before) i ≡ messageBit before i
-        other (yes l) = with-before from 1 row (messageBit before) i l
-        other (no h) = with-past from 1 row (messageBit before) i (omega arith)
 
 -- ---- rows one behind the other
 
@@ -146,14 +102,6 @@ module _ (from : ℕ) (R S a b c : List ℕ) (first : Written from R a b) (secon
 -- a row that ends where the next one begins
 pub written-next : (from at : ℕ) (R S a b c : List ℕ) → at ≡ from + length R → Written from R a b → Written at S b c → Written from (R ++ S) a c
 written-next from at R S a b c e first second = written-append from R S a b c first (subst (λ (n : ℕ). Written n S b c) e second)
-
--- one bit more of a table
-pub written-more : (from t : ℕ) (new : ℕ → ℕ) (a b c : List ℕ) (x : ℕ) → x < 2 → x ≡ new t → Written from (table t new) a b → c ≡ withBit (from + t) x b → Written from (table (t + 1) new) a c
-unfolding table
-written-more from t new a b c x small is first e =
-    rw (add-one t, sym is)
-    (written-next from (from + t) (table t new) (x ∷ []) a b c (ap (λ (n : ℕ). from + n) (sym (length-table new t))) first
-    (subst (Written (from + t) (x ∷ []) b) (sym e) (written-bit (from + t) x small b)))
 
 -- ---- into bytes that are 0
 

@@ -1,18 +1,19 @@
 // The message of a frame of the coding set: the lent bytes cleared, then the bits of the levels and those of the blocks, one behind the other.
 use super::level::level_word;
-use super::level::weight_bit;
 ghost use mathlib.Core.Path.{_≡_};
 ghost use mathlib.Core.Bool.{true};
 ghost use mathlib.Core.List.{List};
-ghost use Prim.Native.Nat.{ℕ, _+_, _-_, _*_, _/_, _^_, _<_, _≤_};
+ghost use Prim.Native.Nat.{ℕ, _+_, _-_, _*_, _/_, _%_, _^_, _<_, _≤_};
+ghost use lib.Dec.{T};
+ghost use lib.IntN.{pos};
 ghost use lib.ListN.{length, getD};
+ghost use lib.Signed.{nonNeg};
 ghost use Rattle.reed_muller.specs.Level.{table};
 ghost use Rattle.e8.specs.Energy.{Within};
 ghost use Rattle.e8.specs.Lattice.{part};
 ghost use Rattle.e8.specs.Rows.{ints, reduced};
 ghost use Rattle.frames.specs.Kind.{isKind, degrees, levels, blocks, levelBits, messageBits, messageBytes};
 ghost use Rattle.frames.specs.Message.{widths};
-ghost use Rattle.frames.specs.Frame.{weightBit};
 ghost use Rattle.frames.specs.Sending.{isGrade};
 ghost use Rattle.frames.specs.Reading.{levelMessages, quotients, allDigits, blockMessages, openMessage, inRange};
 ghost use Rattle.reading.specs.Written.{Written};
@@ -45,18 +46,6 @@ pub fn write_levels(kind: u8, frame: &[i32], out: &mut [u8])
     }
 }
 
-// The first w bits of a number, lowest first, from bit `from` on.
-pub fn write_number(s: i32, w: usize, out: &mut [u8], from: usize)
-    requires { ⌜ (w ≤ 32) × (from ≤ 1000) × (from + w ≤ 8 * length (now out)) ⌝ }
-    ensures { λ _. ⌜ Written from (table w (λ t. weightBit t s)) (now (out .entry)) (now (out .exit)) ⌝ }
-{
-    let mut t: usize = 0;
-    while t < w {
-        reed_muller::put_bit(out, from + t, weight_bit(s, t));
-        t += 1;
-    }
-}
-
 // The width of number i of a block: b - 1 bits for s1, b + 1 for s8, b for the others.
 pub fn width(grade: usize, i: usize) -> usize
     requires { ⌜ (1 ≤ grade) × (grade ≤ 4) × (i < 8) ⌝ }
@@ -71,20 +60,20 @@ pub fn width(grade: usize, i: usize) -> usize
     grade
 }
 
-// A block's numbers s1 to s8, from bit `from` on.
-pub fn write_numbers(s: [i32; 8], grade: usize, out: &mut [u8], from: usize)
-    requires { ⌜ (1 ≤ grade) × (grade ≤ 4) × (from ≤ 500) × (from + 8 * grade ≤ 8 * length (now out)) ⌝ }
-    ensures { λ _. ⌜ ((ss : List ℕ) → s ≡ ints ss → Written from (allDigits (widths grade) ss) (now (out .entry)) (now (out .exit))) ⌝ }
+// A block's numbers s1 to s8 as one number of 8b bits, those of s1 lowest.
+pub fn packed(s: [i32; 8], grade: usize) -> u64
+    requires { ⌜ (1 ≤ grade) × (grade ≤ 4) × ((i : ℕ) → T (nonNeg (getD s i (pos 0)))) ⌝ }
+    ensures { λ r. ⌜ ((ss : List ℕ) → s ≡ ints ss → (t : ℕ) → t < 8 * grade → r / 2 ^ t % 2 ≡ getD (allDigits (widths grade) ss) t 0) ⌝ }
 {
-    let mut at = from;
-    let mut i: usize = 0;
-    while i < 8 {
+    let mut bits: u64 = 0;
+    let mut i: usize = 8;
+    while 0 < i {
+        i -= 1;
         let w = width(grade, i);
         let z = s[i];
-        write_number(z, w, out, at);
-        at += w;
-        i += 1;
+        bits = (bits << w) ^ ((z as u64) % (1u64 << w));
     }
+    bits
 }
 
 // A block's coordinates without their level bits, divided by 2^a.
@@ -124,7 +113,7 @@ pub fn write_blocks(kind: u8, grade: usize, frame: &[i32], out: &mut [u8])
     let mut j: usize = 0;
     while j < n {
         let s = block_numbers(a, grade, frame, j);
-        write_numbers(s, grade, out, from);
+        reed_muller::put_bits(packed(s, grade), 8 * grade, out, from);
         from += 8 * grade;
         j += 1;
     }

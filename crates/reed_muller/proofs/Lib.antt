@@ -13,3 +13,4 @@ pub mod Digits
 pub mod Stages
 pub mod Held
 pub mod Examples
+pub mod Bytewise

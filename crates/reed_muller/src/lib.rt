@@ -3,9 +3,9 @@
 // The work is done on a whole word at once, held in a number: bit p is the value at p.
 ghost use mathlib.Core.Path.{_≡_};
 ghost use Prim.Native.Nat.{ℕ, _+_, _*_, _/_, _%_, _^_, _<_, _≤_};
-ghost use lib.Dec.{leb, ltb};
+ghost use lib.Dec.{eqb, leb, ltb};
 ghost use lib.ListN.{length, getD};
-ghost use Rattle.reed_muller.specs.Level.{given, weight, table, order, place, dimension, codeword, backwards, belongs, Tabled};
+ghost use Rattle.reed_muller.specs.Level.{pick, given, weight, table, order, place, dimension, codeword, backwards, belongs, Tabled};
 ghost use Rattle.reed_muller.specs.Message.{messageBit, bytesOf, withBit, withBits};
 
 // The masks of each length by number of set bits, then by value.
@@ -191,6 +191,32 @@ pub fn put_bit(out: &mut [u8], k: usize, b: u8)
     let x = out[j];
     let old = (x >> s) % 2;
     out[j] = x - (old << s) + (b << s);
+}
+
+// The byte x with the bits of v where m has a bit set.
+fn blended(x: u8, v: u8, m: u8) -> u8
+    ensures { λ y. ⌜ ((p : ℕ) → y / 2 ^ p % 2 ≡ pick (eqb (m / 2 ^ p % 2) 1) (v / 2 ^ p % 2) (x / 2 ^ p % 2)) ⌝ }
+{
+    x ^ ((x ^ v) & m)
+}
+
+// Puts the first bits of a number into `out` from bit `from` on, byte by byte, and leaves every other bit as it was.
+pub fn put_bits(bits: u64, count: usize, out: &mut [u8], from: usize)
+    requires { ⌜ (count ≤ 56) × (from ≤ 1000) × (from + count ≤ 8 * length (now out)) ⌝ }
+    ensures { λ _. ⌜ now (out .exit) ≡ bytesOf (length (now (out .entry))) (withBits from count (λ k. bits / 2 ^ k % 2) (messageBit (now (out .entry)))) ⌝ }
+{
+    let first = from / 8;
+    let s = from % 8;
+    let v = bits << s;
+    let m = ((1u64 << count) - 1) << s;
+    let mut i: usize = 0;
+    while 8 * i < s + count {
+        let t = 8 * i;
+        let j = first + i;
+        let x = out[j];
+        out[j] = blended(x, ((v >> t) % 256) as u8, ((m >> t) % 256) as u8);
+        i += 1;
+    }
 }
 
 // The value at p of the codeword of RM(r,m) of the message bits from bit `from` on.
@@ -396,9 +422,5 @@ pub fn read_level(word: &[u8], m: usize, r: usize, out: &mut [u8], from: usize)
 {
     let count = dimension_of(m, r);
     let bits = message_of(word, m, r);
-    let mut k: usize = 0;
-    while k < count {
-        put_bit(out, from + k, ((bits >> k) % 2) as u8);
-        k += 1;
-    }
+    put_bits(bits, count, out, from);
 }

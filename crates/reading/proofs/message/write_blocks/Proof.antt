@@ -1,21 +1,25 @@
 -- `write_blocks`: the blocks below j are written. Assumes nothing.
 use Prim.Native.Nat.{ℕ, _+_, _*_, _-_, _^_, _≤_, _<_}
-use mathlib.Core.Path.{_≡_, ap, subst, _∙_}
+use mathlib.Core.Path.{_≡_, sym, ap, subst, _∙_}
 use mathlib.Core.List.{List}
 use native.Mathlib.Omega.{arith}
-use lib.IntN.{ℤ}
+use lib.Dec.{T}
+use lib.IntN.{ℤ, pos}
+use lib.ListN.{getD}
+use lib.Signed.{nonNeg}
 use borrow.Author.Needs.{needs}
 use Rattle.e8.specs.Lattice.{part}
 use Rattle.e8.specs.Rows.{ints, reduced}
 use Rattle.frames.specs.Kind.{levels, blocks, levelBits, messageBits}
 use Rattle.frames.specs.Message.{widths}
 use Rattle.frames.specs.Reading.{quotients, allDigits, blockMessages}
+use Rattle.frames.proofs.Frame.{ints-at, quotients-length}
 use Rattle.frames.proofs.Rows.{shape}
 use Rattle.frames.proofs.Bounds.{few-levels}
 use Rattle.kind_table.proofs.Each.{size, message-small}
 use Rattle.reading.specs.Written.{Written}
 use Rattle.reading.proofs.Writing.{written-none}
-use Rattle.reading.proofs.Pieces.{block-room, block-more}
+use Rattle.reading.proofs.Pieces.{block-written, block-room, block-more}
 use Rattle.reading.proofs.message.write_blocks.Statement.{statement}
 use Rattle.reading.proofs.message.write_blocks.Tie as tie
 
@@ -51,14 +55,24 @@ module _ (c : tie.In-loop Inv-loop μ-loop) where
   few : messageBits k b ≤ 160
   few = message-small k b (s .pre .0) (s .pre .2)
 
+-- the numbers of a block
+numbers : (c : tie.After-block-numbers Inv-loop μ-loop) → let t = c .before in
+    c .block-numbers .result ≡ ints (reduced (2 ^ (b t - 1)) (part (j t) (quotients (levels (k t)) (f t))))
+numbers c =
+    let t = c .before in
+    c .block-numbers .ensures ∙ ap (λ (a : ℕ). ints (reduced (2 ^ (b t - 1)) (part (j t) (quotients a (f t))))) (t .before .before .before .levels .ensures)
+
 -- the block written
-written : (c : tie.After-write-numbers Inv-loop μ-loop) → let t = c .before .before .before in
-    Written (t .before .loop .from) (allDigits (widths (b t)) (reduced (2 ^ (b t - 1)) (part (j t) (quotients (levels (k t)) (f t))))) (t .before .loop .out) (c .write-numbers .last .1 .1 .0)
+written : (c : tie.After-put-bits Inv-loop μ-loop) → let t = c .before .before .before .before in
+    Written (t .before .loop .from) (allDigits (widths (b t)) (reduced (2 ^ (b t - 1)) (part (j t) (quotients (levels (k t)) (f t))))) (t .before .loop .out) (c .put-bits .last .1 .1 .0)
 written c =
-    let n = c .before .before in
+    let p = c .before .before in
+    let n = p .before in
     let t = n .before in
-    c .write-numbers .ensures (reduced (2 ^ (b t - 1)) (part (j t) (quotients (levels (k t)) (f t))))
-    (n .block-numbers .ensures ∙ ap (λ (a : ℕ). ints (reduced (2 ^ (b t - 1)) (part (j t) (quotients a (f t))))) (t .before .before .before .levels .ensures))
+    let v : List ℤ = quotients (levels (k t)) (f t) in
+    block-written (b t) (j t) (p .packed .result) (t .before .loop .from) v (t .before .loop .out) (c .put-bits .last .1 .1 .0) (s t .pre .1)
+    (omega (arith, inside t, quotients-length (levels (k t)) (f t), s t .pre .3, shape (k t) (s t .pre .0) .whole))
+    (p .packed .ensures (reduced (2 ^ (b t - 1)) (part (j t) v)) (numbers n)) (c .put-bits .ensures)
 
 levels-requires : tie.Need-levels-requires Inv-loop μ-loop
 levels-requires c κs = search needs
@@ -80,17 +94,26 @@ block-numbers-requires c κs = (
   s c .pre .4,
 )
 
-write-numbers-requires : tie.Need-write-numbers-requires Inv-loop μ-loop
-write-numbers-requires c κs =
-    let t = c .before .before in
+packed-requires : tie.Need-packed-requires Inv-loop μ-loop
+packed-requires c κs =
+    let t = c .before in
+    let ss : List ℕ = reduced (2 ^ (b t - 1)) (part (j t) (quotients (levels (k t)) (f t))) in
+    (s t .pre .1, s t .pre .2, λ i. subst (λ (z : ℤ). T (nonNeg z)) (sym (ap (λ (x : List ℤ). getD x i (pos 0)) (numbers c) ∙ ints-at ss i)) tt)
+
+mul-put-bits : tie.Need-mul-put-bits Inv-loop μ-loop
+mul-put-bits c = let t = c .before .before in record { fits = omega (arith, s t .pre .2) }
+
+put-bits-requires : tie.Need-put-bits-requires Inv-loop μ-loop
+put-bits-requires c κs =
+    let t = c .before .before .before in
     let l = t .before .loop in
-    (s t .pre .1, s t .pre .2, omega (arith, room t, few t), omega (arith, room t, l .inv .2 .long, s t .pre .5))
+    (omega (arith, s t .pre .2), omega (arith, room t, few t), omega (arith, room t, l .inv .2 .long, s t .pre .5))
 
 mul-from : tie.Need-mul-from Inv-loop μ-loop
-mul-from c = let t = c .before .before .before .before .before in record { fits = omega (arith, s t .pre .2) }
+mul-from c = let t = c .before .before .before .before .before .before in record { fits = omega (arith, s t .pre .2) }
 
 add-from : tie.Need-add-from Inv-loop μ-loop
-add-from c = let t = c .before .before .before .before .before in record { fits = omega (arith, room t, few t) }
+add-from c = let t = c .before .before .before .before .before .before in record { fits = omega (arith, room t, few t) }
 
 add-j : tie.Need-add-j Inv-loop μ-loop
 add-j c = search needs
@@ -101,11 +124,11 @@ loop-less c = search needs
 loop-again : tie.Need-loop-again Inv-loop μ-loop
 loop-again c =
     let w = c .before .before in
-    let t = w .before .before .before in
+    let t = w .before .before .before .before in
     let l = t .before .loop in (
       omega arith,
       omega (arith, l .inv .1),
-      block-more (k t) (b t) (j t) (s t .pre .0) (s t .pre .1) (inside t) (f t) (l .from) (s t .args .out .now) (l .out) (w .write-numbers .last .1 .1 .0) (s t .pre .3) (l .inv .1) (l .inv .2) (written w),
+      block-more (k t) (b t) (j t) (s t .pre .0) (s t .pre .1) (inside t) (f t) (l .from) (s t .args .out .now) (l .out) (w .put-bits .last .1 .1 .0) (s t .pre .3) (l .inv .1) (l .inv .2) (written w),
     )
 
 same-length : tie.Need-same-length Inv-loop μ-loop
@@ -128,7 +151,9 @@ write-blocks-spec =
     level-bits-requires
     loop-holds
     block-numbers-requires
-    write-numbers-requires
+    packed-requires
+    mul-put-bits
+    put-bits-requires
     mul-from
     add-from
     add-j
