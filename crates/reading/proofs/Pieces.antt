@@ -29,18 +29,17 @@ use Rattle.reading.proofs.Packed.{row-of-digits}
 
 -- ---- levels
 
--- what the way back writes of a word that agrees with level i is the level's message
-pub level-written : (m n i : ℕ) (f : List ℤ) (word : List ℕ) → n ≡ 2 ^ m → take n word ≡ table n (levelWord i f) → (r from : ℕ) (out : List ℕ)
-    → Written from (levelMessage m r (levelWord i f)) out
-    (bytesOf (length out) (withBits from (dimension r m) (λ t. backwards m (λ p. getD word p 0) (getD (order m) t 0)) (messageBit out)))
+-- what the way back writes of a number that holds level i is the level's message
+pub level-written : (m n i : ℕ) (f : List ℤ) (word : ℕ) → n ≡ 2 ^ m → ((p : ℕ) → p < n → digit word p ≡ levelWord i f p) → (r from : ℕ) (out : List ℕ)
+    → Written from (levelMessage m r (levelWord i f)) out (bytesOf (length out) (withBits from (dimension r m) (λ t. backwards m (digit word) (getD (order m) t 0)) (messageBit out)))
 unfolding levelMessage
 level-written m n i f word long is r from out =
     subst (λ (row : List ℕ). Written from row out (bytesOf (length out) (withBits from (dimension r m) new (messageBit out))))
     (table-ext (dimension r m) (λ t h. word-backwards m n i f word long is (getD (order m) t 0)))
-    (written-table from (dimension r m) new (λ t. backwards-small m (λ p. getD word p 0) (getD (order m) t 0)) out)
+    (written-table from (dimension r m) new (λ t. backwards-small m (digit word) (getD (order m) t 0)) out)
   where
     new : ℕ → ℕ
-    new t = backwards m (λ p. getD word p 0) (getD (order m) t 0)
+    new t = backwards m (digit word) (getD (order m) t 0)
 
 module _ (k i : ℕ) (h : i < levels k) where
   -- where the next level begins

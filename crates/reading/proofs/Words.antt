@@ -1,34 +1,40 @@
 -- Level words as the code holds them, and the test of the levels one after the other. Assumes nothing.
 use Prim.Native.Nat.{ℕ, zero, suc, _+_, _%_, _^_, _≤_, _<_}
-use mathlib.Core.Path.{_≡_, refl, sym, ap, _∙_}
+use mathlib.Core.Path.{_≡_, refl, ap, _∙_}
 use mathlib.Core.Bool.{true, false}
 use mathlib.Core.List.{List, [], _∷_}
 use native.Mathlib.Numerals.{add-one}
 use native.Mathlib.Omega.{arith}
-use lib.ListN.{length, take, drop, getD, drop-of-length-le}
-use lib.Seq.{drop-cons, getD-take}
+use lib.ListN.{length, drop, getD, drop-of-length-le}
+use lib.Seq.{drop-cons}
 use lib.IntN.{ℤ}
-use Rattle.reed_muller.specs.Level.{table, belongs, backwards}
-use Rattle.reed_muller.proofs.Table.{table-at}
+use lib.Signed.{shrZ}
+use Rattle.integers.proofs.Floor.{modZ-lt}
+use Rattle.reed_muller.specs.Level.{belongs, backwards}
+use Rattle.reed_muller.proofs.Digits.{digit}
 use Rattle.reed_muller.proofs.Transform.{backwards-cong}
 use Rattle.reed_muller.proofs.Belongs.{belongs-cong}
 use Rattle.frames.specs.Kind.{isKind, degrees, levels}
-use Rattle.frames.specs.Frame.{levelWord}
+use Rattle.frames.specs.Frame.{weightBit, levelWord}
 use Rattle.frames.specs.Sending.{unless}
 use Rattle.frames.specs.Reading.{brokenNumber, broken}
+use Rattle.frames.proofs.Frame.{weight-bit}
 use Rattle.frames.proofs.Levels.{Fit}
 use Rattle.frames.proofs.Rows.{shape}
 
--- a word that agrees with level i of a frame at its first places
-module _ (m n i : ℕ) (f : List ℤ) (word : List ℕ) (long : n ≡ 2 ^ m) (is : take n word ≡ table n (levelWord i f)) where
-  place : (p : ℕ) → p < 2 ^ m → getD word p 0 ≡ levelWord i f p
-  place p h = sym (getD-take n word p 0 (omega arith)) ∙ ap (λ (w : List ℕ). getD w p 0) is ∙ table-at (levelWord i f) n p (omega arith)
+-- a number that holds level i of a frame
+module _ (m n i : ℕ) (f : List ℤ) (word : ℕ) (long : n ≡ 2 ^ m) (is : (p : ℕ) → p < n → digit word p ≡ levelWord i f p) where
+  place : (p : ℕ) → p < 2 ^ m → digit word p % 2 ≡ levelWord i f p % 2
+  place p h = ap (λ (x : ℕ). x % 2) (is p (omega arith))
 
-  pub word-belongs : (r : ℕ) → belongs r m (λ p. getD word p 0) ≡ belongs r m (levelWord i f)
-  word-belongs r = belongs-cong r m (λ p. getD word p 0) (levelWord i f) (λ p h. ap (λ (x : ℕ). x % 2) (place p h))
+  pub word-belongs : (r : ℕ) → belongs r m (digit word) ≡ belongs r m (levelWord i f)
+  word-belongs r = belongs-cong r m (digit word) (levelWord i f) place
 
-  pub word-backwards : (S : ℕ) → backwards m (λ p. getD word p 0) S ≡ backwards m (levelWord i f) S
-  word-backwards S = backwards-cong m (λ p. getD word p 0) (levelWord i f) (λ p h. ap (λ (x : ℕ). x % 2) (place p h)) S
+  pub word-backwards : (S : ℕ) → backwards m (digit word) S ≡ backwards m (levelWord i f) S
+  word-backwards S = backwards-cong m (digit word) (levelWord i f) place S
+
+pub weight-bit-small : (i : ℕ) (z : ℤ) → weightBit i z < 2
+weight-bit-small i z = rw (weight-bit i z) (modZ-lt (shrZ z (2 ^ i)) 2 (omega arith))
 
 -- the degrees of a kind are at most the kind
 fit-at : (m : ℕ) (rs : List ℕ) → Fit m rs → (j : ℕ) → j < length rs → getD rs j 0 ≤ m

@@ -40,7 +40,7 @@ pub fn write_levels(kind: u8, frame: &[i32], out: &mut [u8])
     while i < count {
         let word = level_word(frame, i);
         let degree = kind_table::degree(kind, i);
-        reed_muller::read_level(&word, kind as usize, degree, out, from);
+        reed_muller::read_held(word, kind as usize, degree, out, from);
         from += reed_muller::dimension_of(kind as usize, degree);
         i += 1;
     }

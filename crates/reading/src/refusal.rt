@@ -35,7 +35,7 @@ pub fn broken_level(kind: u8, frame: &[i32]) -> u8
     while i < count {
         let word = level_word(frame, i);
         let degree = kind_table::degree(kind, i);
-        if !reed_muller::is_codeword(&word, kind as usize, degree) {
+        if !reed_muller::holds_codeword(word, kind as usize, degree) {
             return 7 + (i as u8);
         }
         i += 1;

@@ -326,14 +326,6 @@ fn codeword_of(message: &[u8], from: usize, m: usize, r: usize) -> u64
     codeword_by(message, from, m, r, &ORDER_32)
 }
 
-// The bits of all masks, held in a number.
-fn bits_of_masks(word: &[u8], m: usize) -> u64
-    requires { ⌜ Tabled m × (2 ^ m ≤ length (now word)) ⌝ }
-    ensures { λ b. ⌜ ((S : ℕ) → S < 2 ^ m → b / 2 ^ S % 2 ≡ backwards m (λ p. getD (now (word .entry)) p 0) S) ⌝ }
-{
-    transformed(parities(word, m))
-}
-
 // The first eight values of a word held in a number.
 fn put_eight(w: u64, out: &mut [u8])
     requires { ⌜ length (now out) ≡ 8 ⌝ }
@@ -369,13 +361,21 @@ fn heavy(r: usize) -> u64
     HEAVY[r]
 }
 
-// Whether a word belongs to RM(r,m): the bit is 0 for every mask with more than r bits set.
+// Whether a word held in a number belongs to RM(r,m): the bit is 0 for every mask with more than r bits set.
+pub fn holds_codeword(w: u64, m: usize, r: usize) -> bool
+    requires { ⌜ Tabled m × (r ≤ m) ⌝ }
+    ensures { λ b. ⌜ b ≡ belongs r m (λ p. w / 2 ^ p % 2) ⌝ }
+{
+    let bits = transformed(w) & heavy(r);
+    bits << (64 - positions(m)) == 0
+}
+
+// Whether a word belongs to RM(r,m).
 pub fn is_codeword(word: &[u8], m: usize, r: usize) -> bool
     requires { ⌜ Tabled m × (r ≤ m) × (2 ^ m ≤ length (now word)) ⌝ }
     ensures { λ b. ⌜ b ≡ belongs r m (λ p. getD (now (word .entry)) p 0) ⌝ }
 {
-    let bits = bits_of_masks(word, m) & heavy(r);
-    bits << (64 - positions(m)) == 0
+    holds_codeword(parities(word, m), m, r)
 }
 
 // The bits of the masks of RM(r,m) in their order, held in a number.
@@ -392,35 +392,45 @@ fn in_order(bits: u64, m: usize, r: usize, masks: &[u8]) -> u64
     b
 }
 
-// A level's message bits, held in a number.
-fn message_by(word: &[u8], m: usize, r: usize, masks: &[u8]) -> u64
-    requires { ⌜ Tabled m × (r ≤ m) × (2 ^ m ≤ length (now word)) × (now masks ≡ order m) ⌝ }
-    ensures { λ b. ⌜ ((k : ℕ) → k < dimension r m → b / 2 ^ k % 2 ≡ backwards m (λ p. getD (now (word .entry)) p 0) (getD (order m) k 0)) ⌝ }
+// The message bits of a word held in a number, themselves held in a number.
+fn message_by(w: u64, m: usize, r: usize, masks: &[u8]) -> u64
+    requires { ⌜ Tabled m × (r ≤ m) × (now masks ≡ order m) ⌝ }
+    ensures { λ b. ⌜ ((k : ℕ) → k < dimension r m → b / 2 ^ k % 2 ≡ backwards m (λ p. w / 2 ^ p % 2) (getD (order m) k 0)) ⌝ }
 {
-    in_order(bits_of_masks(word, m), m, r, masks)
+    in_order(transformed(w), m, r, masks)
 }
 
 // The same, by the table of masks of its length.
-fn message_of(word: &[u8], m: usize, r: usize) -> u64
-    requires { ⌜ Tabled m × (r ≤ m) × (2 ^ m ≤ length (now word)) ⌝ }
-    ensures { λ b. ⌜ ((k : ℕ) → k < dimension r m → b / 2 ^ k % 2 ≡ backwards m (λ p. getD (now (word .entry)) p 0) (getD (order m) k 0)) ⌝ }
+fn message_of(w: u64, m: usize, r: usize) -> u64
+    requires { ⌜ Tabled m × (r ≤ m) ⌝ }
+    ensures { λ b. ⌜ ((k : ℕ) → k < dimension r m → b / 2 ^ k % 2 ≡ backwards m (λ p. w / 2 ^ p % 2) (getD (order m) k 0)) ⌝ }
 {
     if m == 3 {
-        return message_by(word, m, r, &ORDER_8);
+        return message_by(w, m, r, &ORDER_8);
     }
     if m == 4 {
-        return message_by(word, m, r, &ORDER_16);
+        return message_by(w, m, r, &ORDER_16);
     }
-    message_by(word, m, r, &ORDER_32)
+    message_by(w, m, r, &ORDER_32)
 }
 
-// Writes a level's message bits into `out` from bit `from` on, and leaves every other bit as it was.
+// Writes the message bits of a level held in a number into `out` from bit `from` on, and leaves every other bit as it was.
+pub fn read_held(w: u64, m: usize, r: usize, out: &mut [u8], from: usize)
+    requires { ⌜ Tabled m × (r ≤ m) × (from ≤ 1000) × (from + dimension r m ≤ 8 * length (now out)) ⌝ }
+    ensures { λ _. ⌜ now (out .exit) ≡ bytesOf (length (now (out .entry)))
+        (withBits from (dimension r m) (λ k. backwards m (λ p. w / 2 ^ p % 2) (getD (order m) k 0)) (messageBit (now (out .entry)))) ⌝ }
+{
+    let count = dimension_of(m, r);
+    let bits = message_of(w, m, r);
+    put_bits(bits, count, out, from);
+}
+
+// The same of a level's word.
 pub fn read_level(word: &[u8], m: usize, r: usize, out: &mut [u8], from: usize)
     requires { ⌜ Tabled m × (r ≤ m) × (2 ^ m ≤ length (now word)) × (from ≤ 1000) × (from + dimension r m ≤ 8 * length (now out)) ⌝ }
     ensures { λ _. ⌜ now (out .exit) ≡ bytesOf (length (now (out .entry)))
         (withBits from (dimension r m) (λ k. backwards m (λ p. getD (now (word .entry)) p 0) (getD (order m) k 0)) (messageBit (now (out .entry)))) ⌝ }
 {
-    let count = dimension_of(m, r);
-    let bits = message_of(word, m, r);
-    put_bits(bits, count, out, from);
+    let w = parities(word, m);
+    read_held(w, m, r, out, from);
 }

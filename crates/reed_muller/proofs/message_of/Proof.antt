@@ -9,7 +9,7 @@ slice-aggregate-message-by c = search needs
 
 message-by-requires : tie.Need-message-by-requires
 message-by-requires c κs =
-    let start = c .before .before .before in (start .pre .0, start .pre .1, start .pre .2, order-entry (c .before .if1 .taken) right-8)
+    let start = c .before .before in (start .pre .0, start .pre .1, order-entry (c .before .if1 .taken) right-8)
 
 returns : tie.Need-returns
 returns c = search needs
@@ -19,7 +19,7 @@ slice-aggregate-message-by-2 c = search needs
 
 message-by-requires-2 : tie.Need-message-by-requires-2
 message-by-requires-2 c κs =
-    let start = c .before .before .before .before in (start .pre .0, start .pre .1, start .pre .2, order-entry (c .before .if2 .taken) right-16)
+    let start = c .before .before .before in (start .pre .0, start .pre .1, order-entry (c .before .if2 .taken) right-16)
 
 returns-2 : tie.Need-returns-2
 returns-2 c = search needs
@@ -29,8 +29,8 @@ slice-aggregate-message-by-3 c = search needs
 
 message-by-requires-3 : tie.Need-message-by-requires-3
 message-by-requires-3 c κs =
-    let start = c .before .before .before .before in
-    (start .pre .0, start .pre .1, start .pre .2, order-entry (last (start .pre .0) (c .before .before .if1 .left) (c .before .if2 .left)) right-32)
+    let start = c .before .before .before in
+    (start .pre .0, start .pre .1, order-entry (last (start .pre .0) (c .before .before .if1 .left) (c .before .if2 .left)) right-32)
 
 returns-3 : tie.Need-returns-3
 returns-3 c = search needs

@@ -1,49 +1,37 @@
--- `read_level`: the level's bits, put in a row. Assumes nothing.
-use Prim.Native.Nat.{ℕ, _+_, _*_, _≤_}
-use mathlib.Core.Path.{_≡_, ap, _∙_}
-use native.Mathlib.Omega.{arith}
-use lib.ListN.{length, getD}
-use lib.Pow.{pow-mono}
+-- `read_level`: the message bits of the word's parities. Assumes nothing.
+use Prim.Native.Nat.{ℕ, _%_}
+use mathlib.Core.Path.{ap, _∙_}
+use native.Mathlib.Nat.{mod-mod}
 use borrow.Author.Needs.{needs}
-use Rattle.reed_muller.specs.Level.{dimension}
-use Rattle.reed_muller.specs.Message.{messageBit, bytesOf, withBits}
+use lib.ListN.{length, getD}
+use Rattle.reed_muller.specs.Level.{dimension, order}
+use Rattle.reed_muller.specs.Message.{messageBit}
 use Rattle.reed_muller.proofs.Codeword.{readBits}
+use Rattle.reed_muller.proofs.Transform.{backwards-cong}
 use Rattle.reed_muller.proofs.Message.{bytes-ext}
 use Rattle.reed_muller.proofs.Digits.{digit}
 use Rattle.reed_muller.proofs.Bytewise.{with-ext}
-use Rattle.reed_muller.proofs.Order.{dimension-small}
 use Rattle.reed_muller.proofs.read_level.Statement.{statement}
 use Rattle.reed_muller.proofs.read_level.Tie as tie
 
-dimension-of-requires : tie.Need-dimension-of-requires
-dimension-of-requires c κs = omega arith
+parities-requires : tie.Need-parities-requires
+parities-requires c κs = search needs
 
-message-of-requires : tie.Need-message-of-requires
-message-of-requires c κs = omega arith
-
-put-bits-requires : tie.Need-put-bits-requires
-put-bits-requires c κs =
-    let count = c .before .before .dimension-of in
-    let start = c .before .before .before .before .before in
-    let e : count .result ≡ dimension (start .args .r) (start .args .m) = count .ensures in
-    let few : count .result ≤ 56 = omega (arith, e, pow-mono {i = start .args .m} {j = 5} (start .pre .0 .1), dimension-small (start .args .r) (start .args .m) (start .pre .1)) in
-    let room : start .args .from + count .result ≤ 8 * length (start .args .out .now) = omega (arith, e, start .pre .4) in
-    (few, start .pre .3, room)
+read-held-requires : tie.Need-read-held-requires
+read-held-requires c κs = let start = c .before .before .before .before in (start .pre .0, start .pre .1, start .pre .3, start .pre .4)
 
 same-length : tie.Need-same-length
 same-length c = search needs
 
 returns : tie.Need-returns
 returns c =
-    let put = c .before .before .put-bits in
-    let level = c .before .before .before .before in
-    let args = level .before .before .before .before .args in
+    let w = c .before .before .before .before .parities in
+    let args = c .before .before .before .before .before .before .before .args in
     let out = args .out .now in
-    let count = level .before .dimension-of in
-    let new : ℕ → ℕ = readBits (args .m) (λ p. getD (args .word .now) p 0) in
-    put .ensures
-    ∙ ap (λ (n : ℕ). bytesOf (length out) (withBits (args .from) n (digit (level .message-of .result)) (messageBit out))) (count .ensures)
-    ∙ bytes-ext (length out) _ _ (λ i l. with-ext (args .from) (dimension (args .r) (args .m)) (digit (level .message-of .result)) new (messageBit out) (level .message-of .ensures) i)
+    let value : ℕ → ℕ = λ p. getD (args .word .now) p 0 in
+    c .before .before .read-held .ensures
+    ∙ bytes-ext (length out) _ _ (λ i l. with-ext (args .from) (dimension (args .r) (args .m)) (readBits (args .m) (digit (w .result))) (readBits (args .m) value) (messageBit out)
+    (λ k h. backwards-cong (args .m) (digit (w .result)) value (λ p u. ap (λ (x : ℕ). x % 2) (w .ensures p u) ∙ mod-mod (value p) 2) (getD (order (args .m)) k 0)) i)
 
 pub read-level-spec : {M : Type 1} → statement M
-read-level-spec = tie.close (tie.spec dimension-of-requires message-of-requires put-bits-requires same-length returns)
+read-level-spec = tie.close (tie.spec parities-requires read-held-requires same-length returns)

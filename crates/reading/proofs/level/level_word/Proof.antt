@@ -1,60 +1,95 @@
--- `level_word`: the loop has filled the word below p. Assumes nothing.
-use Prim.Native.Nat.{ℕ, _-_, _≤_}
-use mathlib.Core.Path.{_≡_, refl, ap, subst, _∙_}
+-- `level_word`: the number has the bits of the coordinates from p on. Assumes nothing.
+use Prim.Native.Nat.{ℕ, _+_, _*_, _-_, _^_, _≤_, _<_}
+use mathlib.Core.Path.{_≡_, refl, sym, ap, subst, _∙_}
 use native.Mathlib.Omega.{arith}
-use lib.ListN.{length, take, length-set}
+use lib.IntN.{pos}
+use lib.ListN.{length, getD}
+use lib.Pow.{pow-pos, pow-mono}
 use borrow.Author.Needs.{needs}
 use Rattle.integers.proofs.Zed.{tz}
-use Rattle.reed_muller.specs.Level.{table}
-use Rattle.reed_muller.proofs.Table.{table-none, table-more}
+use Rattle.reed_muller.proofs.Digits.{digit, digits-more, digits-fit}
 use Rattle.frames.specs.Frame.{weightBit, levelWord}
+use Rattle.reading.proofs.Words.{weight-bit-small}
 use Rattle.reading.proofs.level.level_word.Statement.{statement}
 use Rattle.reading.proofs.level.level_word.Tie as tie
 
 abbrev Inv-loop : tie.InvT-loop
-Inv-loop frame i word₀ p₀ word p = (p ≤ length frame) × (length word ≡ 64) × (take p word ≡ table p (levelWord i frame))
+Inv-loop frame i word₀ p₀ word p =
+    (p ≤ length frame) × (word < 2 ^ (length frame - p)) × ((q : ℕ) → p + q < length frame → digit word q ≡ levelWord i frame (p + q))
 
 abbrev μ-loop : tie.MeasureT-loop
-μ-loop frame i word₀ p₀ word p = length frame - p
+μ-loop frame i word₀ p₀ word p = p
+
+-- a turn of the loop
+module _ (c : tie.In-loop Inv-loop μ-loop) where
+  -- the number has room for one bit more
+  half : c .before .loop .word < 2 ^ 63
+  half =
+      let l = c .before .loop in
+      let n = length (c .before .before .args .frame .now) in
+      omega (arith, l .inv .1, pow-mono {i = n - l .p} {j = 63} (omega (arith, c .before .before .pre .0)))
+
+-- the bit read
+module _ (c : tie.After-weight-bit Inv-loop μ-loop) where
+  abbrev s : tie.Start Inv-loop μ-loop
+  s = c .before .before .before .before
+
+  abbrev f : ℕ → ℕ
+  f = levelWord (s .args .i) (s .args .frame .now)
+
+  abbrev at : ℕ
+  at = c .before .before .before .loop .p - 1
+
+  is : c .weight-bit .result ≡ f at
+  is = c .weight-bit .ensures ∙ ap (weightBit (s .args .i)) (tz refl (record { sfits = c .before .z .given }))
+
+  small : f at < 2
+  small = weight-bit-small (s .args .i) (getD (s .args .frame .now) at (pos 0))
 
 loop-holds : tie.Need-loop-holds Inv-loop μ-loop
-loop-holds c = (search needs, refl, table-none _)
+loop-holds c = (omega arith, pow-pos _, λ q l. absurd (omega (arith, l)))
+
+sub-p : tie.Need-sub-p Inv-loop μ-loop
+sub-p c = search needs
 
 mul-z : tie.Need-mul-z Inv-loop μ-loop
 mul-z c = search needs
 
 shared-slice-copy-out-z : tie.Need-shared-slice-copy-out-z Inv-loop μ-loop
-shared-slice-copy-out-z c = search needs
+shared-slice-copy-out-z c = omega arith
+
+mul-word : tie.Need-mul-word Inv-loop μ-loop
+mul-word c = record { fits = omega (arith, half (c .before)) }
 
 weight-bit-requires : tie.Need-weight-bit-requires Inv-loop μ-loop
 weight-bit-requires c κs = search needs
 
-array-write-word : tie.Need-array-write-word Inv-loop μ-loop
-array-write-word c = omega (arith, c .before .before .before .before .pre .0)
+cast-word : tie.Need-cast-word Inv-loop μ-loop
+cast-word c = record { fits = omega (arith, is c, small c) }
 
-add-p : tie.Need-add-p Inv-loop μ-loop
-add-p c = search needs
+add-word : tie.Need-add-word Inv-loop μ-loop
+add-word c = record { fits = omega (arith, is c, small c, half (c .before .before)) }
 
 loop-less : tie.Need-loop-less Inv-loop μ-loop
-loop-less c = search needs
+loop-less c = omega arith
 
 loop-again : tie.Need-loop-again Inv-loop μ-loop
 loop-again c =
-    let l = c .before .before .before in
-    let s = l .before in
-    let f = s .args .frame .now in (
+    let l = c .before .before .before .loop in
+    let n = length (s c .args .frame .now) in
+    let more : 2 * l .word + f c (l .p - 1) ≡ 2 * l .word + c .weight-bit .result = ap (λ (x : ℕ). 2 * l .word + x) (sym (is c)) in (
       omega arith,
-      length-set (l .loop .word) (l .loop .p) (c .weight-bit .result) ∙ l .loop .inv .1,
-      table-more (levelWord (s .args .i) f) (l .loop .word) (l .loop .p) (c .weight-bit .result) (omega (arith, s .pre .0))
-          (c .weight-bit .ensures ∙ ap (weightBit (s .args .i)) (tz refl (record { sfits = c .before .z .given }))) (l .loop .inv .2),
+      subst (λ (w : ℕ). w < 2 ^ (n - (l .p - 1))) more (digits-fit (f c) n (l .p) (l .word) (omega arith) (small c) (l .inv .0) (l .inv .1)),
+      subst (λ (w : ℕ). (q : ℕ) → l .p - 1 + q < n → digit w q ≡ f c (l .p - 1 + q)) more (digits-more (f c) n (l .p) (l .word) (omega arith) (small c) (l .inv .2)),
     )
 
 returns : tie.Need-returns Inv-loop μ-loop
 returns c =
     let l = c .before .loop in
-    let s = c .before .before in
-    let e : l .p ≡ length (s .args .frame .now) = omega arith in
-    subst (λ (n : ℕ). take n (l .word) ≡ table n (levelWord (s .args .i) (s .args .frame .now))) e (l .inv .2)
+    let args = c .before .before .args in
+    λ q h.
+    let z : l .p + q ≡ q = omega arith in
+    l .inv .2 q (omega (arith, h)) ∙ ap (levelWord (args .i) (args .frame .now)) z
 
 pub level-word-spec : {M : Type 1} → statement M
 level-word-spec =
@@ -63,11 +98,13 @@ level-word-spec =
     Inv-loop
     μ-loop
     loop-holds
+    sub-p
     mul-z
     shared-slice-copy-out-z
+    mul-word
     weight-bit-requires
-    array-write-word
-    add-p
+    cast-word
+    add-word
     loop-less
     loop-again
     returns)

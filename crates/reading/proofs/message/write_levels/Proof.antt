@@ -52,14 +52,14 @@ degree-low : (c : tie.After-degree Inv-loop μ-loop) → c .degree .result ≤ k
 degree-low c = let t = c .before .before in omega (arith, c .degree .ensures, degree-fits (k t) (s t .pre .0) (i t) (inside t))
 
 -- the level written
-written : (c : tie.After-read-level Inv-loop μ-loop) → let t = c .before .before .before .before .before in
-    Written (t .before .loop .from) (levelMessage (k t) (getD (degrees (k t)) (i t) 0) (levelWord (i t) (f t))) (t .before .loop .out) (c .read-level .last .1 .1 .1 .0)
+written : (c : tie.After-read-held Inv-loop μ-loop) → let t = c .before .before .before .before in
+    Written (t .before .loop .from) (levelMessage (k t) (getD (degrees (k t)) (i t) 0) (levelWord (i t) (f t))) (t .before .loop .out) (c .read-held .last .1 .1 .1 .0)
 written c =
-    let d = c .before .before .before in
+    let d = c .before .before in
     let t = d .before .before in
     let word = d .before .level-word in
-    subst (λ (r : ℕ). Written (t .before .loop .from) (levelMessage (k t) r (levelWord (i t) (f t))) (t .before .loop .out) (c .read-level .last .1 .1 .1 .0)) (d .degree .ensures)
-    (subst (Written (t .before .loop .from) (levelMessage (k t) (d .degree .result) (levelWord (i t) (f t))) (t .before .loop .out)) (sym (c .read-level .ensures))
+    subst (λ (r : ℕ). Written (t .before .loop .from) (levelMessage (k t) r (levelWord (i t) (f t))) (t .before .loop .out) (c .read-held .last .1 .1 .1 .0)) (d .degree .ensures)
+    (subst (Written (t .before .loop .from) (levelMessage (k t) (d .degree .result) (levelWord (i t) (f t))) (t .before .loop .out)) (sym (c .read-held .ensures))
     (level-written (k t) (length (f t)) (i t) (f t) (word .result) (s t .pre .1) (word .ensures) (d .degree .result) (t .before .loop .from) (t .before .loop .out)))
 
 levels-requires : tie.Need-levels-requires Inv-loop μ-loop
@@ -75,33 +75,28 @@ level-word-requires c κs = (omega (arith, size (k c) (s c .pre .0) .positions, 
 degree-requires : tie.Need-degree-requires Inv-loop μ-loop
 degree-requires c κs = (s (c .before) .pre .0, inside (c .before))
 
-slice-aggregate-read-level : tie.Need-slice-aggregate-read-level Inv-loop μ-loop
-slice-aggregate-read-level c = search needs
-
-read-level-requires : tie.Need-read-level-requires Inv-loop μ-loop
-read-level-requires c κs =
-    let d = c .before .before in
+read-held-requires : tie.Need-read-held-requires Inv-loop μ-loop
+read-held-requires c κs =
+    let d = c .before in
     let t = d .before .before in
     let l = t .before .loop in
-    let z = size (k t) (s t .pre .0) in
-    let long : 64 ≡ length (d .before .level-word .result) = slice-aggregate-read-level (c .before) in (
+    let z = size (k t) (s t .pre .0) in (
       (z .low, z .high),
       degree-low d,
-      omega (arith, z .positions, long),
       omega (arith, room t, few t),
       omega (arith, room t, ap (λ (r : ℕ). dimension r (k t)) (d .degree .ensures), l .inv .2 .long, s t .pre .2),
     )
 
 dimension-of-requires : tie.Need-dimension-of-requires Inv-loop μ-loop
 dimension-of-requires c κs =
-    let d = c .before .before .before .before .before in
+    let d = c .before .before .before .before in
     let t = d .before .before in
     let z = size (k t) (s t .pre .0) in
     ((z .low, z .high), degree-low d)
 
 add-from : tie.Need-add-from Inv-loop μ-loop
 add-from c =
-    let d = c .before .before .before .before .before .before in
+    let d = c .before .before .before .before .before in
     let t = d .before .before in
     record { fits = omega (arith, room t, few t, c .dimension-of .ensures, ap (λ (r : ℕ). dimension r (k t)) (d .degree .ensures)) }
 
@@ -114,12 +109,12 @@ loop-less c = search needs
 loop-again : tie.Need-loop-again Inv-loop μ-loop
 loop-again c =
     let w = c .before .before .before in
-    let d = w .before .before .before in
+    let d = w .before .before in
     let t = d .before .before in
     let l = t .before .loop in (
       omega arith,
       omega (arith, l .inv .1, level-end (k t) (i t) (inside t), c .dimension-of .ensures, ap (λ (r : ℕ). dimension r (k t)) (d .degree .ensures)),
-      level-more (k t) (i t) (inside t) (f t) (l .from) (s t .args .out .now) (l .out) (w .read-level .last .1 .1 .1 .0) (l .inv .1) (l .inv .2) (written w),
+      level-more (k t) (i t) (inside t) (f t) (l .from) (s t .args .out .now) (l .out) (w .read-held .last .1 .1 .1 .0) (l .inv .1) (l .inv .2) (written w),
     )
 
 same-length : tie.Need-same-length Inv-loop μ-loop
@@ -141,8 +136,7 @@ write-levels-spec =
     loop-holds
     level-word-requires
     degree-requires
-    slice-aggregate-read-level
-    read-level-requires
+    read-held-requires
     dimension-of-requires
     add-from
     add-i

@@ -43,14 +43,14 @@ module _ (c : tie.In-loop Inv-loop μ-loop) where
   early : i < 2
   early = omega (arith, inside, few-levels k (s .pre .0))
 
-tested : (c : tie.After-is-codeword Inv-loop μ-loop)
-    → let t = c .before .before .before .before in c .is-codeword .result ≡ belongs (getD (degrees (k t)) (i t) 0) (k t) (levelWord (i t) (f t))
+tested : (c : tie.After-holds-codeword Inv-loop μ-loop)
+    → let t = c .before .before .before in c .holds-codeword .result ≡ belongs (getD (degrees (k t)) (i t) 0) (k t) (levelWord (i t) (f t))
 tested c =
-    let t = c .before .before .before .before in
-    let word = c .before .before .before .level-word in
-    c .is-codeword .ensures
-    ∙ word-belongs (k t) (length (f t)) (i t) (f t) (word .result) (s t .pre .1) (word .ensures) (c .before .before .degree .result)
-    ∙ ap (λ (r : ℕ). belongs r (k t) (levelWord (i t) (f t))) (c .before .before .degree .ensures)
+    let t = c .before .before .before in
+    let word = c .before .before .level-word in
+    c .holds-codeword .ensures
+    ∙ word-belongs (k t) (length (f t)) (i t) (f t) (word .result) (s t .pre .1) (word .ensures) (c .before .degree .result)
+    ∙ ap (λ (r : ℕ). belongs r (k t) (levelWord (i t) (f t))) (c .before .degree .ensures)
 
 levels-requires : tie.Need-levels-requires Inv-loop μ-loop
 levels-requires c κs = search needs
@@ -64,29 +64,22 @@ level-word-requires c κs = (omega (arith, size (k c) (s c .pre .0) .positions, 
 degree-requires : tie.Need-degree-requires Inv-loop μ-loop
 degree-requires c κs = (s (c .before) .pre .0, inside (c .before))
 
-slice-aggregate-is-codeword : tie.Need-slice-aggregate-is-codeword Inv-loop μ-loop
-slice-aggregate-is-codeword c = search needs
-
-is-codeword-requires : tie.Need-is-codeword-requires Inv-loop μ-loop
-is-codeword-requires c κs =
-    let t = c .before .before .before in
+holds-codeword-requires : tie.Need-holds-codeword-requires Inv-loop μ-loop
+holds-codeword-requires c κs =
+    let t = c .before .before in
     let z = size (k t) (s t .pre .0) in
-    let long : 64 ≡ length (c .before .before .level-word .result) = slice-aggregate-is-codeword c in (
-      (z .low, z .high),
-      omega (arith, degree-fits (k t) (s t .pre .0) (i t) (inside t), c .before .degree .ensures),
-      omega (arith, z .positions, long),
-    )
+    ((z .low, z .high), omega (arith, degree-fits (k t) (s t .pre .0) (i t) (inside t), c .degree .ensures))
 
 cast-result : tie.Need-cast-result Inv-loop μ-loop
-cast-result c = record { fits = omega (arith, early (c .before .before .before .before .before)) }
+cast-result c = record { fits = omega (arith, early (c .before .before .before .before)) }
 
 add-result : tie.Need-add-result Inv-loop μ-loop
-add-result c = record { fits = omega (arith, early (c .before .before .before .before .before)) }
+add-result c = record { fits = omega (arith, early (c .before .before .before .before)) }
 
 returns : tie.Need-returns Inv-loop μ-loop
 returns c =
-    let t = c .before .before .before .before .before in
-    number-at (i t) (early t) ∙ sym (t .before .loop .inv .1 ∙ broken-at (k t) (f t) (i t) (inside t) (sym (tested (c .before)) ∙ not-true (c .before .is-codeword .result) (c .if1 .taken)))
+    let t = c .before .before .before .before in
+    number-at (i t) (early t) ∙ sym (t .before .loop .inv .1 ∙ broken-at (k t) (f t) (i t) (inside t) (sym (tested (c .before)) ∙ not-true (c .before .holds-codeword .result) (c .if1 .taken)))
 
 add-i : tie.Need-add-i Inv-loop μ-loop
 add-i c = search needs
@@ -96,8 +89,8 @@ loop-less c = search needs
 
 loop-again : tie.Need-loop-again Inv-loop μ-loop
 loop-again c =
-    let t = c .before .before .before .before .before in
-    (omega arith, t .before .loop .inv .1 ∙ whole-at (k t) (f t) (i t) (inside t) (sym (tested (c .before)) ∙ not-false (c .before .is-codeword .result) (c .if1 .left)))
+    let t = c .before .before .before .before in
+    (omega arith, t .before .loop .inv .1 ∙ whole-at (k t) (f t) (i t) (inside t) (sym (tested (c .before)) ∙ not-false (c .before .holds-codeword .result) (c .if1 .left)))
 
 returns-2 : tie.Need-returns-2 Inv-loop μ-loop
 returns-2 c =
@@ -114,8 +107,7 @@ broken-level-spec =
     loop-holds
     level-word-requires
     degree-requires
-    slice-aggregate-is-codeword
-    is-codeword-requires
+    holds-codeword-requires
     cast-result
     add-result
     returns
