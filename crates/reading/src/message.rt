@@ -46,20 +46,6 @@ pub fn write_levels(kind: u8, frame: &[i32], out: &mut [u8])
     }
 }
 
-// The width of number i of a block: b - 1 bits for s1, b + 1 for s8, b for the others.
-pub fn width(grade: usize, i: usize) -> usize
-    requires { ⌜ (1 ≤ grade) × (grade ≤ 4) × (i < 8) ⌝ }
-    ensures { λ r. ⌜ r ≡ getD (widths grade) i 0 ⌝ }
-{
-    if i == 0 {
-        return grade - 1;
-    }
-    if i == 7 {
-        return grade + 1;
-    }
-    grade
-}
-
 // A block's numbers s1 to s8 as one number of 8b bits, those of s1 lowest.
 pub fn packed(s: [i32; 8], grade: usize) -> u64
     requires { ⌜ (1 ≤ grade) × (grade ≤ 4) × ((i : ℕ) → T (nonNeg (getD s i (pos 0)))) ⌝ }
@@ -69,7 +55,7 @@ pub fn packed(s: [i32; 8], grade: usize) -> u64
     let mut i: usize = 8;
     while 0 < i {
         i -= 1;
-        let w = width(grade, i);
+        let w = kind_table::width(grade, i);
         let z = s[i];
         bits = (bits << w) ^ ((z as u64) % (1u64 << w));
     }
