@@ -14,8 +14,8 @@ use Rattle.frames.specs.Sending.{sendRefusal, frameAfter, energySent}
 use Rattle.kind_table.proofs.Each.{size}
 use Rattle.sending.proofs.Answers.{accepted}
 use Rattle.frames.proofs.Bounds.{sent-energy}
-use Rattle.power.specs.declared.Account.{Account}
-use Rattle.power.specs.Power.{Measured, full, grown}
+use Rattle.account.specs.declared.Account.{Account}
+use Rattle.account.specs.Power.{Measured, full, grown}
 use Rattle.account.specs.Counted.{countedRefusal, countedFrame, countedEnergy, countedAccount}
 
 -- ---- the answers, by the tests

@@ -13,12 +13,11 @@ use Rattle.e8.specs.Energy.{energy}
 use Rattle.frames.specs.Sending.{sendRefusal}
 use Rattle.kind_table.proofs.Each.{size}
 use Rattle.sending.proofs.Answers.{accepted}
-use Rattle.power.specs.declared.Account.{Account}
-use Rattle.power.specs.Power.{begun, full, grown}
-use Rattle.power.specs.History.{grownBy, powersIn, Countable, AllCountable}
-use Rattle.power.proofs.History.{history as grown-exactly}
+use Rattle.account.specs.declared.Account.{Account}
+use Rattle.account.specs.Power.{begun, full, grown}
 use Rattle.account.specs.Counted.{countedRefusal, countedAccount}
-use Rattle.account.specs.History.{Call, answer, after, accountAfter, entryOf, sentBy}
+use Rattle.account.specs.History.{Call, answer, after, accountAfter, entryOf, sentBy, powersIn}
+use Rattle.account.proofs.Grown.{grownBy, Countable, AllCountable, grown-exactly}
 use Rattle.frames.proofs.Bounds.{sent-energy}
 
 -- an accepted call passed sending's tests, and the account had room

@@ -9,8 +9,8 @@ use lib.ListN.{length}
 use Rattle.e8.specs.Energy.{energy}
 use Rattle.frames.specs.Frame.{sentFrame}
 use Rattle.frames.specs.Sending.{sendRefusal}
-use Rattle.power.specs.declared.Account.{Account}
-use Rattle.power.specs.Power.{full, grown}
+use Rattle.account.specs.declared.Account.{Account}
+use Rattle.account.specs.Power.{full, grown}
 
 -- the tests 1, 2, 3, 4, 5 of sending, then 11; n coordinates are lent. 0 is success
 unfoldable pub countedRefusal : ℕ → ℕ → List ℕ → ℕ → Account → ℕ

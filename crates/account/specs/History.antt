@@ -1,12 +1,12 @@
--- Accounts grown by calls of sending, refused ones among them. Assumes nothing.
-use Prim.Native.Nat.{ℕ, _^_}
+-- The history of an account: calls of sending one after the other, refused ones among them, and the powers of the frames that they
+-- sent. Assumes nothing.
+use Prim.Native.Nat.{ℕ, _+_, _*_, _/_, _^_}
 use mathlib.Core.Bool.{cond}
 use mathlib.Core.List.{List, [], _∷_}
 use lib.Dec.{eqb}
 use Rattle.e8.specs.Energy.{energy}
 use Rattle.frames.specs.Frame.{sentFrame}
-use Rattle.power.specs.declared.Account.{Account}
-use Rattle.power.specs.History.{Entry}
+use Rattle.account.specs.declared.Account.{Account}
 use Rattle.account.specs.Counted.{countedRefusal, countedAccount}
 
 -- a call of sending: the kind, the grade, the message and the number of coordinates lent
@@ -28,6 +28,11 @@ unfoldable pub accountAfter : Account → List Call → Account
 accountAfter a [] = a
 accountAfter a (c ∷ cs) = accountAfter (after a c) cs
 
+-- what an account takes of a sent frame: its energy and its length
+pub record Entry : Type 0 where
+  pub energy : ℕ
+  pub n : ℕ
+
 -- the energy and the length of the frame that an accepted call sends
 abbrev pub entryOf : Call → Entry
 entryOf c = record { energy = energy (sentFrame (c .kind) (c .grade) (c .message)); n = 2 ^ c .kind }
@@ -36,3 +41,8 @@ entryOf c = record { energy = energy (sentFrame (c .kind) (c .grade) (c .message
 unfoldable pub sentBy : Account → List Call → List Entry
 sentBy a [] = []
 sentBy a (c ∷ cs) = cond (eqb (answer a c) 0) (entryOf c ∷ sentBy (after a c) cs) (sentBy (after a c) cs)
+
+-- the sum of the powers energy / n, counted in parts of 1 / u
+unfoldable pub powersIn : ℕ → List Entry → ℕ
+powersIn u [] = 0
+powersIn u (e ∷ es) = e .energy * (u / e .n) + powersIn u es

@@ -1,26 +1,64 @@
-// Sending with an account: the frame, and the account grown by it.
+// Sending with an account: the frame, and the account grown by its power as f64.
 ghost use mathlib.Core.Path.{_≡_};
+ghost use mathlib.Core.Bool.{false};
+ghost use Prim.Native.Nat.{_<_};
+ghost use lib.Ieee.Exact.{HasValue};
 ghost use lib.ListN.{length};
 ghost use Rattle.frames.specs.Sending.{LeastEnergy};
-ghost use Rattle.power.specs.Power.{begun};
+ghost use Rattle.account.specs.Power.{Measured, powerOf, begun, full, grown};
 ghost use Rattle.account.specs.Counted.{countedRefusal, countedFrame, countedEnergy, countedAccount};
+
+// An account, by value: a count of frames and the sum of their powers. One from elsewhere may have any count and any sum.
+pub struct Account {
+    pub count: u32,
+    pub sum: f64,
+}
 
 // What sending with an account answers: the refusal number, 0 for success, the energy of the frame sent, and the account.
 pub struct Counted {
     pub number: u8,
     pub energy: u64,
-    pub account: power::Account,
+    pub account: Account,
+}
+
+// The power of a frame of n coordinates: exactly energy / n.
+fn power(energy: u64, n: usize) -> f64
+    requires { ⌜ Measured energy n ⌝ }
+    ensures { λ r. ⌜ (r ≡ powerOf energy n) × HasValue r false energy n ⌝ }
+{
+    let e = energy as f64;
+    let d = n as f64;
+    e / d
 }
 
 // The account at its beginning.
-pub fn begin() -> power::Account
+pub fn begin() -> Account
     ensures { λ r. ⌜ r ≡ begun ⌝ }
 {
-    power::begin()
+    Account { count: 0, sum: 0.0 }
+}
+
+// Whether an account takes no further frame.
+fn is_full(a: Account) -> bool
+    ensures { λ r. ⌜ r ≡ full a ⌝ }
+{
+    1000000 <= a.count
+}
+
+// The account grown by a frame: one more in the count, one f64 addition to the sum.
+fn grow(a: Account, energy: u64, n: usize) -> Account
+    requires { ⌜ (a .count < 1000000) × Measured energy n ⌝ }
+    ensures { λ r. ⌜ r ≡ grown a energy n ⌝ }
+{
+    let p = power(energy, n);
+    Account {
+        count: a.count + 1,
+        sum: a.sum + p,
+    }
 }
 
 // A refusal: no energy, and the account as it came.
-fn refused(number: u8, account: power::Account) -> Counted
+fn refused(number: u8, account: Account) -> Counted
     ensures { λ r. ⌜ (r .number ≡ number) × (r .energy ≡ 0) × (r .account ≡ account) ⌝ }
 {
     Counted {
@@ -36,7 +74,7 @@ pub fn send_counted(
     grade: u8,
     message: &[u8],
     frame: &mut [i32],
-    account: power::Account,
+    account: Account,
 ) -> Counted
     ensures number { λ r. ⌜ r .number ≡ countedRefusal kind grade (now (message .entry)) (length (now (frame .entry))) account ⌝ }
     ensures frame { λ r. ⌜ now (frame .exit) ≡ countedFrame kind grade (now (message .entry)) (now (frame .entry)) account ⌝ }
@@ -49,13 +87,13 @@ pub fn send_counted(
     if number != 0 {
         return refused(number, account);
     }
-    if power::is_full(account) {
+    if is_full(account) {
         return refused(11, account);
     }
     let sent = sending::send(kind, grade, message, frame);
     Counted {
         number: 0,
         energy: sent.energy,
-        account: power::grow(account, sent.energy, n),
+        account: grow(account, sent.energy, n),
     }
 }

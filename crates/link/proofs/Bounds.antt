@@ -16,8 +16,8 @@ use Rattle.frames.proofs.Refusals as R
 use Rattle.frames.proofs.Bounds.{few-positions, short-energy, sent-energy}
 use Rattle.frames.proofs.Reading.{strict-passed}
 use Rattle.sending.proofs.Answers as A
-use Rattle.power.specs.declared.Account.{Account}
-use Rattle.power.specs.Power.{full}
+use Rattle.account.specs.declared.Account.{Account}
+use Rattle.account.specs.Power.{full}
 use Rattle.account.specs.Counted.{countedRefusal, countedEnergy}
 use Rattle.account.proofs.History.{passed}
 

@@ -62,7 +62,7 @@ pub extern "C" fn link_send_counted(
     ensures frame { λ r. ⌜ now (frame .exit) ≡ countedFrame kind grade (now (message .entry)) (now (frame .entry)) (accountOf (now (count .entry)) (now (sum .entry))) ⌝ }
     ensures account { λ r. ⌜ accountOf (now (count .exit)) (now (sum .exit)) ≡ countedAccount kind grade (now (message .entry)) (length (now (frame .entry))) (accountOf (now (count .entry)) (now (sum .entry))) ⌝ }
 {
-    let before = power::Account {
+    let before = account::Account {
         count: *count,
         sum: *sum,
     };

@@ -5,7 +5,7 @@ use mathlib.Core.Bool.{false}
 use lib.ListN.{length}
 use borrow.Author.Tests.{leb-false}
 use Rattle.frames.specs.Sending.{sendRefusal}
-use Rattle.power.specs.Power.{full, grown}
+use Rattle.account.specs.Power.{full, grown}
 use Rattle.sending.proofs.Answers.{accepted}
 use Rattle.account.proofs.Answers.{refused, no-room, counted, measured}
 use borrow.Author.Needs.{needs}

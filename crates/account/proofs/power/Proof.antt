@@ -1,4 +1,4 @@
--- `power::power` meets its contract. Assumes nothing.
+-- `power` meets its contract. Assumes nothing.
 use Prim.Native.Nat.{_^_}
 use native.Mathlib.Omega.{arith}
 use native.Mathlib.Nat.{le-of-lt}
@@ -6,10 +6,10 @@ use mathlib.Core.Path.{refl}
 use lib.Dec.{le→leb}
 use lib.Ieee.{inFloat}
 use lib.Pow.{pow-mono}
-use Rattle.power.specs.Power.{powerOf}
-use Rattle.power.proofs.Exact.{power-exact}
-use Rattle.power.proofs.power.Statement.{statement}
-use Rattle.power.proofs.power.Tie as tie
+use Rattle.account.specs.Power.{powerOf}
+use Rattle.account.proofs.Exact.{power-exact}
+use Rattle.account.proofs.power.Statement.{statement}
+use Rattle.account.proofs.power.Tie as tie
 
 int-to-float-e : tie.Need-int-to-float-e
 unfolding inFloat

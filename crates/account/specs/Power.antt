@@ -1,11 +1,12 @@
--- Power and the account, as document 01 has them. Clients cite Measured, powerOf, begun, full and grown. Assumes nothing.
+-- Power and the account, as document 01 has them. Clients cite powerOf, begun, full and grown; Measured is cited by private contracts.
+-- Assumes nothing.
 use Prim.Native.Nat.{ℕ, _+_, _^_, _<_}
 use mathlib.Core.Path.{_≡_}
 use mathlib.Core.Bool.{Bool, false}
 use lib.Dec.{leb}
 use lib.IntN.{pos}
 use lib.Ieee.{Float, fin, binary64, add, div, ofInt}
-use Rattle.power.specs.declared.Account.{Account}
+use Rattle.account.specs.declared.Account.{Account}
 
 -- an energy that f64 holds as a whole number, and a length n that is a power of two, as every frame's is
 pub record Measured (energy n : ℕ) : Type 0 where

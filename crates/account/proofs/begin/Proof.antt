@@ -1,8 +1,8 @@
--- `power::begin` meets its contract. Assumes nothing.
+-- `begin` meets its contract. Assumes nothing.
 use mathlib.Core.Path.{refl}
 use lib.Ieee.{ofBits, ofFields}
-use Rattle.power.proofs.begin.Statement.{statement}
-use Rattle.power.proofs.begin.Tie as tie
+use Rattle.account.proofs.begin.Statement.{statement}
+use Rattle.account.proofs.begin.Tie as tie
 
 returns : tie.Need-returns
 unfolding ofBits ofFields

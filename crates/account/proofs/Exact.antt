@@ -12,7 +12,7 @@ use lib.Ieee.Fits.{up-pos, down-pos}
 use lib.Ieee.Scale.{round-same}
 use lib.Ieee.Back.{round-whole}
 use borrow.Author.Tests.{ne-eqb}
-use Rattle.power.specs.Power.{Measured, powerOf}
+use Rattle.account.specs.Power.{Measured, powerOf}
 
 -- a / 2 ^ i is a value of binary64 where a is below 2 ^ 53
 pub parts-exact : (a i : ℕ) → i ≤ 1074 → a < 2 ^ 53 → HasValue (round binary64 false a (2 ^ i)) false a (2 ^ i)

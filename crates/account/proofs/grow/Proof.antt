@@ -1,7 +1,7 @@
--- `power::grow` meets its contract. Assumes nothing.
+-- `grow` meets its contract. Assumes nothing.
 use borrow.Author.Needs.{needs}
-use Rattle.power.proofs.grow.Statement.{statement}
-use Rattle.power.proofs.grow.Tie as tie
+use Rattle.account.proofs.grow.Statement.{statement}
+use Rattle.account.proofs.grow.Tie as tie
 
 power-requires : tie.Need-power-requires
 power-requires c κs = search needs

@@ -1,2 +1,0 @@
-pub mod Power
-pub mod History
