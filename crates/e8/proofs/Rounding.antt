@@ -56,7 +56,7 @@ parity-rest M true t h a = rem-is t (2 * M) (a .half) M (omega arith) (eq! (` t)
 -- ---- the two candidates for a coordinate
 
 -- cent M y is the only number in [−M, M) that differs from y by a multiple of 2M
-cent-only : (M : ℕ) (y s c : ℤ) → Range M c → y ≡ c +ℤ pos M *ℤ (pos 2 *ℤ s) → cent M y ≡ c
+pub cent-only : (M : ℕ) (y s c : ℤ) → Range M c → y ≡ c +ℤ pos M *ℤ (pos 2 *ℤ s) → cent M y ≡ c
 unfolding cent
 cent-only M y s c r e = go c r e
   where
@@ -130,7 +130,7 @@ pub record Rounding (M : ℕ) (p : Bool) (xs rs cs : List ℤ) (m : ℕ) : Type 
   pub cost : energy cs + 2 * (M * m) ≡ energy rs + M * M
 
 -- the larger the coordinate, the less it costs
-cost-one : (M : ℕ) (c d : ℤ) → natAbs c + natAbs d ≡ M → sq d + 2 * (M * natAbs c) ≡ sq c + M * M
+pub cost-one : (M : ℕ) (c d : ℤ) → natAbs c + natAbs d ≡ M → sq d + 2 * (M * natAbs c) ≡ sq c + M * M
 unfolding sq
 cost-one M c d e =
     let a : ℕ = natAbs c in

@@ -1,18 +1,21 @@
 -- Coordinates of bounded size: what fits an i32, and sums of squares
 use mathlib.Core.Path.{_≡_, refl, ap}
+use mathlib.Core.Bool.{Bool, true, false, cond}
 use mathlib.Core.List.{List, [], _∷_}
 use Prim.Native.Nat.{ℕ, zero, suc, _+_, _*_, _^_, _<_, _≤_}
-use native.Mathlib.Nat.{mul-le-mul}
+use native.Mathlib.Nat.{le-trans, div-le-self, mul-le-mul}
 use native.Mathlib.Numerals.{add-one}
 use native.Mathlib.Omega.{arith}
 use lib.ListN.{length, drop, getD}
 use lib.Seq.{drop-cons}
-use lib.IntN.{ℤ, pos, negsuc, _-ℤ_, _*ℤ_, natAbs}
+use lib.IntN.{ℤ, pos, negsuc, _+ℤ_, _-ℤ_, _*ℤ_, natAbs}
+use lib.Signed.{ltZ, shrZ}
 use mir.Syntax.{w32}
 use mir.Val.{SFits}
-use Rattle.integers.proofs.Zed.{E, `_, _⊖_, P, N, ⟦_⟧, eq?, up, down, sfits!, abs-ud}
+use Rattle.integers.proofs.Zed.{E, `_, #_, _⊕_, _⊖_, _⊗_, P, N, ⟦_⟧, eq?, up, down, sfits!, abs-ud}
 use Rattle.e8.specs.Energy.{sq, energy, Within}
 use Rattle.e8.specs.Least.{lowered}
+use Rattle.shaping.specs.Rounded.{across}
 
 pub fits : (z : ℤ) → natAbs z ≤ 2 ^ 30 → SFits w32 z
 fits z h = sfits! w32 (` z) (omega (arith, abs-ud z)) (omega (arith, abs-ud z))
@@ -54,3 +57,26 @@ less-abs x h B C a b = abs! (` x ⊖ ` h) (B + C) (omega (arith, abs-ud x, abs-u
 pub lowered-within : (h : ℤ) (xs : List ℤ) (B C : ℕ) → natAbs h ≤ C → Within B xs → Within (B + C) (lowered h xs)
 lowered-within h [] B C a b = tt
 lowered-within h (x ∷ xs) B C a b = (less-abs x h B C (b .0) a, lowered-within h xs B C a (b .1))
+
+-- ---- the size of what the code computes
+
+pub sum-abs : (x y : ℤ) (A B : ℕ) → natAbs x ≤ A → natAbs y ≤ B → natAbs (x +ℤ y) ≤ A + B
+sum-abs x y A B a b = abs! (` x ⊕ ` y) (A + B) (omega (arith, abs-ud x, abs-ud y)) (omega (arith, abs-ud x, abs-ud y))
+
+pub double-abs : (x : ℤ) (B : ℕ) → natAbs x ≤ B → natAbs (pos 2 *ℤ x) ≤ B + B
+double-abs x B b = abs! (# 2 ⊗ ` x) (B + B) (omega (arith, abs-ud x)) (omega (arith, abs-ud x))
+
+pub shr-abs : (z : ℤ) (m B : ℕ) → natAbs z ≤ B → natAbs (shrZ z m) ≤ B
+shr-abs (pos n) m B b = le-trans (div-le-self n m) b
+shr-abs (negsuc n) m B b = omega (arith, div-le-self n m)
+
+pub where-abs : (t : Bool) (x : ℤ) (B : ℕ) → natAbs x ≤ B → natAbs (cond t x (pos 0)) ≤ B
+where-abs true x B b = b
+where-abs false x B b = omega arith
+
+pub across-size : (m c : ℤ) (A B : ℕ) → natAbs m ≤ A → natAbs c ≤ B → natAbs (across m c) ≤ A + B
+across-size m c A B a b = go (ltZ c (pos 0))
+  where
+    go : (t : Bool) → natAbs (cond t (c +ℤ m) (c -ℤ m)) ≤ A + B
+    go true = abs! (` c ⊕ ` m) (A + B) (omega (arith, abs-ud c, abs-ud m)) (omega (arith, abs-ud c, abs-ud m))
+    go false = abs! (` c ⊖ ` m) (A + B) (omega (arith, abs-ud c, abs-ud m)) (omega (arith, abs-ud c, abs-ud m))

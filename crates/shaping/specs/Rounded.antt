@@ -1,29 +1,71 @@
--- How the code names the scale and the candidates for a block, and the rank of a coordinate as the one to change where the sum is odd.
--- Clients need none of it; the contracts of private functions cite it. Assumes nothing.
+-- A block rounded coordinate by coordinate, and the candidates for its least member: each coordinate rounded, and the one first in rank changed where the sum is odd.
+-- Clients need none of it; the contracts of private functions cite it. M = 2·H. Assumes nothing.
 use mathlib.Core.Path.{_≡_}
 use mathlib.Core.Bool.{Bool, cond}
-use Prim.Native.Nat.{ℕ, _+_, _*_, _-_, _^_, _%_, _≤_}
-use lib.Dec.{leb, ltb}
+use mathlib.Core.List.{List, [], _∷_}
+use Prim.Native.Nat.{ℕ, suc, _+_, _*_, _-_}
+use lib.Dec.{eqb, ltb}
 use lib.IntN.{ℤ, pos, _+ℤ_, _-ℤ_, natAbs}
-use lib.Signed.{ltZ}
-
--- the scale 2^k as the code holds it
-pub record Scale (k : ℕ) (m : ℤ) : Type 0 where
-  pub small : k ≤ 7
-  pub is : m ≡ pos (2 ^ k)
+use lib.Signed.{ltZ, leZ}
+use Rattle.integers.specs.Integer.{modZ}
+use Rattle.e8.specs.Least.{cent}
 
 -- m up from a negative number, and down from any other
 abbrev pub across : ℤ → ℤ → ℤ
 across m c = cond (ltZ c (pos 0)) (c +ℤ m) (c -ℤ m)
 
--- energy e with first coordinate c comes before energy f with first coordinate d, where c and d differ
-abbrev pub sooner : ℕ → ℤ → ℕ → ℤ → Bool
-sooner e c f d = cond (ltZ c d) (leb e f) (ltb e f)
+-- cost e with first coordinate c comes before cost f with first coordinate d, where c and d differ
+abbrev pub sooner : ℤ → ℤ → ℤ → ℤ → Bool
+sooner e c f d = cond (ltZ c d) (leZ e f) (ltZ e f)
 
 -- the rank of coordinate c at place i: by size, then 15 − i where it is not negative, and i where it is
 abbrev pub rankOf : ℤ → ℕ → ℕ
 rankOf c i = 16 * natAbs c + cond (ltZ c (pos 0)) i (15 - i)
 
--- the place that a rank names
-abbrev pub placeOf : ℕ → ℕ
-placeOf n = cond (ltb (n % 16) 8) (n % 16) (15 - n % 16)
+-- every coordinate rounded
+abbrev pub rounded : ℕ → List ℤ → List ℤ
+rounded H [] = []
+rounded H (x ∷ xs) = cent H x ∷ rounded H xs
+
+-- the sum of what comes off in rounding: a multiple of M at each coordinate
+abbrev pub off : ℕ → List ℤ → ℤ
+off H [] = pos 0
+off H (x ∷ xs) = off H xs +ℤ (x -ℤ cent H x)
+
+-- the sum of the multiples of M at each coordinate or next below
+abbrev pub floors : ℕ → List ℤ → ℤ
+floors H [] = pos 0
+floors H (x ∷ xs) = floors H xs +ℤ (x -ℤ pos (modZ x (2 * H)))
+
+-- the sum of the sizes
+abbrev pub sizes : List ℤ → ℕ
+sizes [] = 0
+sizes (c ∷ cs) = sizes cs + natAbs c
+
+-- the highest rank of coordinates that stand from place i on
+abbrev pub highest : List ℤ → ℕ → ℕ
+highest [] i = 0
+highest (c ∷ cs) i = cond (ltb (highest cs (suc i)) (rankOf c i)) (rankOf c i) (highest cs (suc i))
+
+-- the lowest; with no coordinate 1039, which no rank passes where H is at most 64
+abbrev pub lowest : List ℤ → ℕ → ℕ
+lowest [] i = 1039
+lowest (c ∷ cs) i = cond (ltb (lowest cs (suc i)) (rankOf c i)) (lowest cs (suc i)) (rankOf c i)
+
+-- rs is xs rounded, from place i on, and the figures are its own
+pub record Rounded (H : ℕ) (xs rs : List ℤ) (s t n u v : ℤ) (i : ℕ) : Type 0 where
+  pub block : rs ≡ rounded H xs
+  pub whole : s ≡ off H xs
+  pub half : t ≡ floors H xs
+  pub size : n ≡ pos (sizes rs)
+  pub top : u ≡ pos (highest rs i)
+  pub low : v ≡ pos (lowest rs i)
+
+-- coordinate c at place i, `shift` across 0, and `by` back across where its rank is t
+abbrev pub memberOf : ℤ → ℤ → ℕ → ℤ → ℕ → ℤ
+memberOf shift by t c i = cond (eqb (rankOf c i) t) (across by (across shift c)) (across shift c)
+
+-- so for each coordinate, from place i on
+abbrev pub members : ℤ → ℤ → ℕ → ℕ → List ℤ → List ℤ
+members shift by t i [] = []
+members shift by t i (c ∷ cs) = memberOf shift by t c i ∷ members shift by t (suc i) cs

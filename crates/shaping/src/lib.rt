@@ -4,7 +4,7 @@ ghost use Prim.Native.Nat.{_+_, _*_, _^_, _<_, _≤_};
 ghost use lib.IntN.{pos, natAbs};
 ghost use lib.ListN.{length};
 ghost use Rattle.integers.specs.Integer.{modZ};
-ghost use Rattle.e8.specs.Energy.{energy as squares, Within};
+ghost use Rattle.e8.specs.Energy.{sq, energy as squares, Within};
 
 // ---- a part of the lent coordinates
 
@@ -62,6 +62,8 @@ pub fn store(x: [i32; 8], part: &mut [i32])
 
 // ---- remainders
 
+ghost use lib.IntN.{_-ℤ_};
+
 // 2^k.
 fn power(k: u32) -> i32
     requires { ⌜ k ≤ 10 ⌝ }
@@ -70,118 +72,229 @@ fn power(k: u32) -> i32
     1i32 << k
 }
 
-// The remainder modulo m = 2^k, which is never negative.
-fn remainder(k: u32, m: i32, z: i32) -> i32
-    requires { ⌜ (k ≤ 9) × (m ≡ pos (2 ^ k)) × (natAbs z ≤ 2 ^ 30) ⌝ }
+// The multiple of 2^k at z or next below.
+fn floor(k: u32, z: i32) -> i32
+    requires { ⌜ (k ≤ 9) × (natAbs z ≤ 2 ^ 30) ⌝ }
+    ensures { λ r. ⌜ r ≡ z -ℤ pos (modZ z (2 ^ k)) ⌝ }
+{
+    (z >> k) << k
+}
+
+// The remainder modulo 2^k, which is never negative.
+fn remainder(k: u32, z: i32) -> i32
+    requires { ⌜ (k ≤ 9) × (natAbs z ≤ 2 ^ 30) ⌝ }
     ensures { λ r. ⌜ r ≡ pos (modZ z (2 ^ k)) ⌝ }
 {
-    let q = z >> k;
-    z - q * m
+    z - floor(k, z)
 }
 
 // ---- the least member of a class
 
-ghost use mathlib.Core.Bool.{false, cond};
-ghost use lib.Dec.{ltb};
-ghost use Rattle.e8.specs.Energy.{sq};
-ghost use Rattle.e8.specs.Least.{cent as centred, best, lowered as less, leastBlock};
-ghost use Rattle.shaping.specs.Rounded.{Scale, across, sooner, rankOf, placeOf};
+ghost use Prim.Native.Nat.{ℕ};
+ghost use mathlib.Core.Bool.{cond};
+ghost use lib.IntN.{_+ℤ_, _*ℤ_};
+ghost use lib.Signed.{ltZ, shrZ};
+ghost use Rattle.e8.specs.Least.{lowered as less, leastBlock};
+ghost use Rattle.shaping.specs.Rounded.{across, sooner, rankOf, memberOf, members, Rounded};
 
-// A candidate for the least member, and its energy.
-struct Candidate {
-    block: [i32; 8],
-    energy: u32,
+fn larger(a: i32, b: i32) -> i32
+    ensures { λ r. ⌜ r ≡ cond (ltZ a b) b a ⌝ }
+{
+    if a < b { b } else { a }
 }
 
-// The number nearest 0 that differs from x by a multiple of 2M; of M and -M the latter.
-fn cent(k: u32, m: i32, x: i32) -> i32
-    requires { ⌜ Scale k m × (natAbs x ≤ 2 ^ 25) ⌝ }
-    ensures { λ r. ⌜ r ≡ centred (2 ^ k) x ⌝ }
+fn smaller(a: i32, b: i32) -> i32
+    ensures { λ r. ⌜ r ≡ cond (ltZ a b) a b ⌝ }
 {
-    remainder(k + 1, m + m, x + m) - m
+    if a < b { a } else { b }
+}
+
+fn choose(t: bool, a: i32, b: i32) -> i32
+    ensures { λ r. ⌜ r ≡ cond t a b ⌝ }
+{
+    if t { a } else { b }
+}
+
+// The size of a coordinate that is rounded.
+fn absolute(c: i32) -> i32
+    requires { ⌜ natAbs c ≤ 2 ^ 7 ⌝ }
+    ensures { λ r. ⌜ r ≡ pos (natAbs c) ⌝ }
+{
+    if c < 0 { 0 - c } else { c }
 }
 
 // From a coordinate to the other side of 0: m up where it is negative, and down where it is not.
 fn other(m: i32, c: i32) -> i32
-    requires { ⌜ (natAbs m ≤ 2 ^ 7) × (natAbs c ≤ 2 ^ 7) ⌝ }
+    requires { ⌜ (natAbs m ≤ 2 ^ 7) × (natAbs c ≤ 2 ^ 8) ⌝ }
     ensures { λ r. ⌜ r ≡ across m c ⌝ }
 {
     if c < 0 { c + m } else { c - m }
 }
 
-fn square(z: i32) -> u32
-    requires { ⌜ natAbs z ≤ 2 ^ 8 ⌝ }
-    ensures { λ r. ⌜ r ≡ sq z ⌝ }
+// The rank of a coordinate as the one to change: the larger first, of equals those that are not negative from the first on, then the negative ones from the last on.
+fn rank(c: i32, i: usize) -> i32
+    requires { ⌜ (natAbs c ≤ 2 ^ 7) × (i < 8) ⌝ }
+    ensures { λ r. ⌜ r ≡ pos (rankOf c i) ⌝ }
 {
-    (z * z) as u32
+    let j = i as i32;
+    if c < 0 { j - 16 * c } else { 16 * c + (15 - j) }
 }
 
-// Does a block of energy e and first coordinate c come before one of energy f and first coordinate d?
-fn first(e: u32, c: i32, f: u32, d: i32) -> bool
+// What changing a coordinate costs, where the sum leaves a remainder; nothing where it does not.
+fn cost(odd: i32, by: i32) -> i32
+    ensures { λ r. ⌜ r ≡ cond (ltZ (pos 0) odd) by (pos 0) ⌝ }
+{
+    if 0 < odd { by } else { 0 }
+}
+
+// The cost of the whole part: its energy over that of the rounded block, divided by M = 2h, and the sizes, which the half part does without.
+fn whole_cost(h: i32, sizes: i32, odd: i32, top: i32) -> i32
+    requires { ⌜ (natAbs h ≤ 2 ^ 7) × (natAbs sizes ≤ 2 ^ 10) × (natAbs top ≤ 2 ^ 12) ⌝ }
+    ensures { λ r. ⌜ r ≡ sizes +ℤ cond (ltZ (pos 0) odd) (pos 2 *ℤ (h -ℤ shrZ top 16)) (pos 0) ⌝ }
+{
+    sizes + cost(odd, 2 * (h - (top >> 4)))
+}
+
+// The cost of the half part, likewise.
+fn half_cost(h: i32, odd: i32, low: i32) -> i32
+    requires { ⌜ (natAbs h ≤ 2 ^ 7) × (natAbs low ≤ 2 ^ 12) ⌝ }
+    ensures { λ r. ⌜ r ≡ pos 4 *ℤ h +ℤ cond (ltZ (pos 0) odd) (pos 2 *ℤ shrZ low 16) (pos 0) ⌝ }
+{
+    4 * h + cost(odd, 2 * (low >> 4))
+}
+
+// Does a block of cost e and first coordinate c come before one of cost f and first coordinate d?
+fn first(e: i32, c: i32, f: i32, d: i32) -> bool
     ensures { λ r. ⌜ r ≡ sooner e c f d ⌝ }
 {
     if c < d { e <= f } else { e < f }
 }
 
-// The rank of a coordinate as the one to change: the larger first, of equals those that are not negative from the first on, then the negative ones from the last on.
-fn rank(c: i32, i: usize) -> u32
-    requires { ⌜ (natAbs c ≤ 2 ^ 7) × (i < 8) ⌝ }
-    ensures { λ r. ⌜ r ≡ rankOf c i ⌝ }
-{
-    let j = i as i32;
-    if c < 0 {
-        (j - 16 * c) as u32
-    } else {
-        (16 * c + (15 - j)) as u32
-    }
+// A block with every coordinate rounded, and what is to be known of it to choose the one to change, in the whole part and in the half part.
+struct Quantized {
+    block: [i32; 8],
+    sum: i32,
+    halves: i32,
+    sizes: i32,
+    top: i32,
+    low: i32,
 }
 
-fn larger(a: u32, b: u32) -> u32
-    ensures { λ r. ⌜ r ≡ cond (ltb a b) b a ⌝ }
-{
-    if a < b { b } else { a }
-}
-
-// The place that a rank names.
-fn place(n: u32) -> usize
-    ensures { λ r. ⌜ r ≡ placeOf n ⌝ }
-{
-    let t = n % 16;
-    if t < 8 { t as usize } else { (15 - t) as usize }
-}
-
-// The best block by whole vectors, for h = 2^k and M = 2h: every coordinate rounded, and where the sum is odd the first in rank changed by M.
-fn best_of(k: u32, h: i32, x: [i32; 8]) -> Candidate
-    requires { ⌜ (k ≤ 6) × Scale k h × Within (2 ^ 24 + 2 ^ 7) x ⌝ }
-    ensures block { λ r. ⌜ r .block ≡ best (2 * 2 ^ k) false x ⌝ }
-    ensures energy { λ r. ⌜ r .energy ≡ squares (best (2 * 2 ^ k) false x) ⌝ }
+// Every coordinate rounded to the nearest to 0 of its class modulo M, for h = 2^k and M = 2h; of h and -h the latter.
+fn quantize(k: u32, h: i32, x: [i32; 8]) -> Quantized
+    requires { ⌜ (k ≤ 6) × (h ≡ pos (2 ^ k)) × Within (2 ^ 24) x ⌝ }
+    ensures { λ r. ⌜ Rounded (2 ^ k) x (r .block) (r .sum) (r .halves) (r .sizes) (r .top) (r .low) 0 ⌝ }
 {
     let mut r = x;
     let mut sum: i32 = 0;
-    let mut energy: u32 = 0;
-    let mut top: u32 = 0;
+    let mut halves: i32 = 0;
+    let mut sizes: i32 = 0;
+    let mut top: i32 = 0;
+    let mut low: i32 = 1039;
     let mut i: usize = 8;
     while i > 0 {
         i -= 1;
         let v = x[i];
-        let c = cent(k, h, v);
+        let f = floor(k + 1, v + h);
+        let c = v - f;
         r[i] = c;
-        sum = sum + (v - c);
-        energy += square(c);
+        sum = sum + f;
+        halves = halves + floor(k + 1, v);
+        sizes = sizes + absolute(c);
         let t = rank(c, i);
         top = larger(top, t);
+        low = smaller(low, t);
     }
-    let m = h + h;
-    let odd = remainder(k + 2, m + m, sum);
-    let j = place(top);
-    let c = r[j];
-    let d = other(odd, c);
-    r[j] = d;
-    Candidate {
+    Quantized {
         block: r,
-        energy: energy + square(d) - square(c),
+        sum,
+        halves,
+        sizes,
+        top,
+        low,
     }
 }
+
+// Coordinate i of a candidate: the rounded one, `shift` across 0, and `by` back across where its rank is t.
+fn member(shift: i32, by: i32, t: i32, c: i32, i: usize) -> i32
+    requires { ⌜ (natAbs shift ≤ 2 ^ 7) × (natAbs by ≤ 2 ^ 7) × (natAbs c ≤ 2 ^ 7) × (i < 8) ⌝ }
+    ensures { λ r. ⌜ ((n : ℕ) → t ≡ pos n → r ≡ memberOf shift by n c i) ⌝ }
+{
+    let z = other(shift, c);
+    if rank(c, i) == t { other(by, z) } else { z }
+}
+
+// A candidate for the least member.
+fn candidate(shift: i32, by: i32, t: i32, c: [i32; 8]) -> [i32; 8]
+    requires { ⌜ (natAbs shift ≤ 2 ^ 7) × (natAbs by ≤ 2 ^ 7) × Within (2 ^ 7) c ⌝ }
+    ensures { λ r. ⌜ ((n : ℕ) → t ≡ pos n → r ≡ members shift by n 0 c) ⌝ }
+{
+    let mut r = c;
+    let mut i: usize = 0;
+    while i < 8 {
+        let z = c[i];
+        r[i] = member(shift, by, t, z, i);
+        i += 1;
+    }
+    r
+}
+
+// The member of a block's class that is sent, for the scale M = 2^(k + 1): the better of the whole part and the half part.
+pub fn least(k: u32, x: [i32; 8]) -> [i32; 8]
+    requires { ⌜ (k ≤ 6) × Within (2 ^ 24) x ⌝ }
+    ensures { λ r. ⌜ r ≡ leastBlock (2 ^ k) x ⌝ }
+{
+    let h = power(k);
+    let q = quantize(k, h, x);
+    let odd = remainder(k + 2, q.sum);
+    let half_odd = remainder(k + 2, q.halves);
+    let b = q.block;
+    let c = b[0];
+    let e = whole_cost(h, q.sizes, odd, q.top);
+    let f = half_cost(h, half_odd, q.low);
+    let t = first(
+        e,
+        member(0, odd, q.top, c, 0),
+        f,
+        member(h, half_odd, q.low, c, 0),
+    );
+    candidate(
+        choose(t, 0, h),
+        choose(t, odd, half_odd),
+        choose(t, q.top, q.low),
+        b,
+    )
+}
+
+// The square of a coordinate of a sent block, which i16 has room for.
+fn square(z: i32) -> u32
+    requires { ⌜ natAbs z ≤ 2 ^ 10 ⌝ }
+    ensures { λ r. ⌜ r ≡ sq z ⌝ }
+{
+    let y = (z as i16) as i32;
+    (y * y) as u32
+}
+
+// The energy of a sent block.
+pub fn block_energy(x: [i32; 8]) -> u64
+    requires { ⌜ Within (2 ^ 10) x ⌝ }
+    ensures { λ r. ⌜ r ≡ squares x ⌝ }
+{
+    let mut sum: u32 = 0;
+    let mut i: usize = 0;
+    while i < 8 {
+        let z = x[i];
+        sum += square(z);
+        i += 1;
+    }
+    sum as u64
+}
+
+// ---- the reduction to a message
+
+ghost use mathlib.Core.List.{_∷_};
+ghost use lib.ListN.{drop, getD};
+ghost use Rattle.e8.specs.Rows.{ints, remainders, reduced};
 
 // A block, h less at each coordinate.
 fn lowered(h: i32, x: [i32; 8]) -> [i32; 8]
@@ -198,35 +311,9 @@ fn lowered(h: i32, x: [i32; 8]) -> [i32; 8]
     r
 }
 
-// The member of a block's class that is sent, for the scale M = 2^(k + 1): the better of the whole part and the half part.
-pub fn least(k: u32, x: [i32; 8]) -> [i32; 8]
-    requires { ⌜ (k ≤ 6) × Within (2 ^ 24) x ⌝ }
-    ensures { λ r. ⌜ r ≡ leastBlock (2 ^ k) x ⌝ }
-{
-    let h = power(k);
-    let y = lowered(h, x);
-    let whole = best_of(k, h, x);
-    let half = best_of(k, h, y);
-    let a = whole.block;
-    let b = half.block;
-    let c = a[0];
-    let d = b[0];
-    if first(whole.energy, c, half.energy, d) {
-        a
-    } else {
-        b
-    }
-}
-
-// ---- the reduction to a message
-
-ghost use mathlib.Core.List.{_∷_};
-ghost use lib.ListN.{drop, getD};
-ghost use Rattle.e8.specs.Rows.{ints, remainders, reduced};
-
-// The rows of matrix (39) after the first, taken off a block, for h = 2^k and m = 2h: each changes its own place and the last.
-fn later_rows(k: u32, m: i32, y: [i32; 8]) -> [i32; 8]
-    requires { ⌜ Scale (k + 1) m × Within (2 ^ 26) y ⌝ }
+// The rows of matrix (39) after the first, taken off a block, for h = 2^k: each changes its own place and the last.
+fn later_rows(k: u32, y: [i32; 8]) -> [i32; 8]
+    requires { ⌜ (k ≤ 6) × Within (2 ^ 26) y ⌝ }
     ensures { λ r. ⌜ r ≡ getD y 0 (pos 0) ∷ ints (remainders (2 ^ k) (pos 0) (drop 1 y)) ⌝ }
 {
     let mut r = y;
@@ -234,13 +321,13 @@ fn later_rows(k: u32, m: i32, y: [i32; 8]) -> [i32; 8]
     let mut i: usize = 1;
     while i < 7 {
         let z = y[i];
-        let s = remainder(k + 1, m, z);
+        let s = remainder(k + 1, z);
         r[i] = s;
         q = q + (z - s);
         i += 1;
     }
     let z = y[7];
-    let s = remainder(k + 2, m + m, z - q);
+    let s = remainder(k + 2, z - q);
     r[7] = s;
     r
 }
@@ -250,9 +337,8 @@ pub fn reduce(k: u32, v: [i32; 8]) -> [i32; 8]
     requires { ⌜ (k ≤ 6) × Within (2 ^ 24) v ⌝ }
     ensures { λ r. ⌜ r ≡ ints (reduced (2 ^ k) v) ⌝ }
 {
-    let h = power(k);
     let x = v[0];
-    let s = remainder(k, h, x);
+    let s = remainder(k, x);
     let y = lowered(x - s, v);
-    later_rows(k, h + h, y)
+    later_rows(k, y)
 }

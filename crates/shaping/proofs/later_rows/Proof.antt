@@ -13,30 +13,30 @@ use Rattle.integers.proofs.Zed.{`_, #_, _⊕_, _⊖_, tz, sfits-to, abs-ud}
 use Rattle.integers.proofs.Floor.{modZ-lt}
 use Rattle.e8.proofs.Within.{within-at}
 use Rattle.shaping.proofs.Size.{fits, abs! }
-use Rattle.shaping.proofs.Rest.{power-fits, double}
+use Rattle.shaping.proofs.Rest.{double}
 use Rattle.shaping.proofs.Reading.{read}
 use Rattle.shaping.proofs.Reducing.{Rows, rows-none, rows-next, rows-last}
 use Rattle.shaping.proofs.later_rows.Statement.{statement}
 use Rattle.shaping.proofs.later_rows.Tie as tie
 
 abbrev Inv-loop : tie.InvT-loop
-Inv-loop k m y r₀ q₀ i₀ r q i = (1 ≤ i) × ((i ≤ 7) × Rows (2 ^ k) y r (toZ w32 q) i)
+Inv-loop k y r₀ q₀ i₀ r q i = (1 ≤ i) × ((i ≤ 7) × Rows (2 ^ k) y r (toZ w32 q) i)
 
 abbrev μ-loop : tie.MeasureT-loop
-μ-loop k m y r₀ q₀ i₀ r q i = 7 - i
+μ-loop k y r₀ q₀ i₀ r q i = 7 - i
 
 module _ (s : tie.Start Inv-loop μ-loop) where
-  eight : length (s .args .t3) ≡ 8
+  eight : length (s .args .t2) ≡ 8
   eight = search needs
 
   height : 2 ^ s .args .k ≤ 2 ^ 6
-  height = pow-mono {j = 6} (omega (arith, s .pre .0 .small))
+  height = pow-mono {j = 6} (s .pre .0)
 
   abbrev at : ℕ → ℤ
-  at i = getD (s .args .t3) i (pos 0)
+  at i = getD (s .args .t2) i (pos 0)
 
   small : (i : ℕ) → natAbs (at i) ≤ 2 ^ 26
-  small i = within-at (2 ^ 26) (s .args .t3) i (s .pre .1)
+  small i = within-at (2 ^ 26) (s .args .t2) i (s .pre .1)
 
   is : (i : ℕ) → read (at i) ≡ at i
   is i = tz refl (fits (at i) (omega (arith, small i)))
@@ -44,14 +44,8 @@ module _ (s : tie.Start Inv-loop μ-loop) where
   near : (i : ℕ) → natAbs (read (at i)) ≤ 2 ^ 30
   near i = subst (λ (z : ℤ). natAbs z ≤ 2 ^ 30) (sym (is i)) (omega (arith, small i))
 
-  twice : read (s .args .m) ≡ pos (2 ^ (s .args .k + 1))
-  twice = tz (s .pre .0 .is) (power-fits (s .args .k + 1) (omega (arith, s .pre .0 .small)))
-
   quad : 2 ^ (s .args .k + 2) ≡ 4 * 2 ^ s .args .k
   quad = ap (λ (n : ℕ). 2 ^ n) {x = s .args .k + 2} {y = s .args .k + 1 + 1} (omega arith) ∙ double (s .args .k + 1) ∙ omega (arith, double (s .args .k))
-
-  four : read (s .args .m) +ℤ read (s .args .m) ≡ pos (2 ^ (s .args .k + 2))
-  four = ap₂ _+ℤ_ twice twice ∙ ap pos {x = 2 ^ (s .args .k + 1) + 2 ^ (s .args .k + 1)} {y = 2 ^ (s .args .k + 2)} (omega (arith, double (s .args .k), quad))
 
 -- one place: its remainder, what is taken off, and the sum of that
 module _ (c : tie.After-remainder Inv-loop μ-loop) where
@@ -104,7 +98,7 @@ module _ (c : tie.After-z2 Inv-loop μ-loop) where
   last-fits = fits (at (c .before .before .before) 7 -ℤ toZ w32 (c .before .before .loop .q)) last-size
 
 loop-holds : tie.Need-loop-holds Inv-loop μ-loop
-loop-holds c = (omega arith, (omega arith, rows-none (2 ^ c .args .k) (c .args .t3) (eight c)))
+loop-holds c = (omega arith, (omega arith, rows-none (2 ^ c .args .k) (c .args .t2) (eight c)))
 
 mul-z : tie.Need-mul-z Inv-loop μ-loop
 mul-z c = search needs
@@ -116,7 +110,7 @@ add-remainder : tie.Need-add-remainder Inv-loop μ-loop
 add-remainder c = search needs
 
 remainder-requires : tie.Need-remainder-requires Inv-loop μ-loop
-remainder-requires c κs = let s = c .before .before .before in (omega (arith, s .pre .0 .small), twice s, near s (c .before .before .loop .i))
+remainder-requires c κs = let s = c .before .before .before in (omega (arith, s .pre .0), near s (c .before .before .loop .i))
 
 mul-r : tie.Need-mul-r Inv-loop μ-loop
 mul-r c = search needs
@@ -143,7 +137,7 @@ loop-again c =
       omega arith,
       (
         omega arith,
-        rows-next (2 ^ s .args .k) (s .args .t3) (l .loop .r) (toZ w32 (l .loop .q)) (l .loop .i) (pow-pos (s .args .k)) (height s) (eight s) (l .loop .inv .1 .1) _ _
+        rows-next (2 ^ s .args .k) (s .args .t2) (l .loop .r) (toZ w32 (l .loop .q)) (l .loop .i) (pow-pos (s .args .k)) (height s) (eight s) (l .loop .inv .1 .1) _ _
             (omega arith) (small s (l .loop .i)) (rest c) (tz (sum c) (sum-fits c) ∙ ap (λ (z : ℤ). toZ w32 (l .loop .q) +ℤ (at s (l .loop .i) -ℤ z)) (sym (rest c))),
       ),
     )
@@ -154,16 +148,13 @@ array-copy-out-z-2 c = search needs
 add-remainder-2 : tie.Need-add-remainder-2 Inv-loop μ-loop
 add-remainder-2 c = search needs
 
-add-remainder-3 : tie.Need-add-remainder-3 Inv-loop μ-loop
-add-remainder-3 c = let s = c .before .before .before in sfits-to (four s) (power-fits (s .args .k + 2) (omega (arith, s .pre .0 .small)))
-
 sub-remainder : tie.Need-sub-remainder Inv-loop μ-loop
 sub-remainder c = sfits-to (last c) (last-fits c)
 
 remainder-requires-2 : tie.Need-remainder-requires-2 Inv-loop μ-loop
 remainder-requires-2 c κs =
     let s = c .before .before .before in
-    (omega (arith, s .pre .0 .small), tz (four s) (power-fits (s .args .k + 2) (omega (arith, s .pre .0 .small))), subst (λ (z : ℤ). natAbs z ≤ 2 ^ 30) (sym (tz (last c) (last-fits c))) (last-size c))
+    (omega (arith, s .pre .0), subst (λ (z : ℤ). natAbs z ≤ 2 ^ 30) (sym (tz (last c) (last-fits c))) (last-size c))
 
 array-set-from-r-2 : tie.Need-array-set-from-r-2 Inv-loop μ-loop
 array-set-from-r-2 c = search needs
@@ -173,7 +164,7 @@ returns c =
     let z = c .before in
     let l = z .before .before in
     let s = l .before in
-    rows-last (2 ^ s .args .k) (s .args .t3) (l .loop .r) (toZ w32 (l .loop .q)) (l .loop .i) (pow-pos (s .args .k)) (height s) (eight s) (l .loop .inv .1 .1) _ (omega arith)
+    rows-last (2 ^ s .args .k) (s .args .t2) (l .loop .r) (toZ w32 (l .loop .q)) (l .loop .i) (pow-pos (s .args .k)) (height s) (eight s) (l .loop .inv .1 .1) _ (omega arith)
     (tz refl (record { sfits = c .remainder2 .ok }) ∙ c .remainder2 .ensures ∙ ap₂ (λ a n. pos (modZ a n)) (tz (last z) (last-fits z)) (quad s))
 
 pub later-rows-spec : {M : Type 1} → statement M
@@ -196,7 +187,6 @@ later-rows-spec =
     loop-again
     array-copy-out-z-2
     add-remainder-2
-    add-remainder-3
     sub-remainder
     remainder-requires-2
     array-set-from-r-2

@@ -1,78 +1,327 @@
 -- `least` meets its contract
-use mathlib.Core.Path.{_≡_, refl, sym, subst}
-use mathlib.Core.Bool.{true, false}
-use Prim.Native.Nat.{_+_, _^_}
+use mathlib.Core.Path.{_≡_, refl, sym, _∙_, ap, ap₂, subst}
+use mathlib.Core.Bool.{Bool, true, false, cond}
+use mathlib.Core.List.{List}
+use Prim.Native.Nat.{ℕ, _+_, _*_, _-_, _^_, _/_, _<_, _≤_}
 use native.Mathlib.Omega.{arith}
-use lib.ListN.{length}
+use lib.Pow.{pow-mono, pow-pos}
+use lib.IntN.{ℤ, pos, _+ℤ_, _-ℤ_, _*ℤ_, natAbs}
+use lib.ListN.{length, getD}
+use lib.Signed.{ltZ, shrZ}
 use borrow.Author.Needs.{needs}
-use Rattle.integers.proofs.Zed.{tz}
+use borrow.Author.Tests.{lt-ltb}
+use Rattle.integers.specs.Integer.{modZ}
+use Rattle.integers.proofs.Zed.{#_, _⊖_, _⊕_, _⊗_, eq!, tz}
 use Rattle.e8.specs.Energy.{Within}
-use Rattle.e8.specs.Least.{lowered}
-use Rattle.e8.proofs.Within.{within-to}
-use Rattle.shaping.proofs.Size.{lowered-within}
-use Rattle.shaping.proofs.Reading.{read, power-read, power-size}
-use Rattle.shaping.proofs.Passing.{least-from}
+use Rattle.e8.specs.Lattice.{bit}
+use Rattle.e8.specs.Least.{leastBlock}
+use Rattle.e8.proofs.Within.{within-at}
+use Rattle.shaping.proofs.Rest.{double}
+use Rattle.shaping.proofs.Reading.{read, plain, plain-size, power-read, power-size}
+use Rattle.shaping.proofs.Halving.{whole, halved, whole-cost, half-cost, turned, ranged, rounded-length, highest-low, chosen}
+use Rattle.shaping.proofs.Figures.{pos-where, off-size, floors-size, sizes-low, rounded-within}
+use Rattle.shaping.specs.Rounded.{sooner, rounded, off, floors, sizes, highest, lowest, memberOf, members, Rounded}
 use Rattle.shaping.proofs.least.Statement.{statement}
 use Rattle.shaping.proofs.least.Tie as tie
 
-eight : (s : tie.Start) → length (s .args .x) ≡ 8
-eight s = search needs
+-- a cost where the sum is odd
+costed : (q : Bool) (M y : ℕ) (z : ℤ) → 0 < M → z ≡ pos y → cond (ltZ (pos 0) (pos (bit q * M))) z (pos 0) ≡ pos (bit q * y)
+costed false M y z m e = ap (λ (n : ℕ). cond (ltZ (pos 0) (pos n)) z (pos 0)) {x = 0 * M} {y = 0} (omega arith) ∙ ap pos {x = 0} {y = 0 * y} (omega arith)
+costed true M y z m e = ap (λ t. cond t z (pos 0)) (lt-ltb 0 (1 * M) (omega arith)) ∙ e ∙ ap pos {x = y} {y = 1 * y} (omega arith)
+
+-- what the code computes from the rounded block and its figures
+module _ (k : ℕ) (x rs : List ℤ) (s t n u v : ℤ) (low : k ≤ 6) (w : Within (2 ^ 24) x) (eight : length x ≡ 8) (q : Rounded (2 ^ k) x rs s t n u v 0) where
+  abbrev H : ℕ
+  H = 2 ^ k
+
+  H-pos : 0 < H
+  H-pos = pow-pos k
+
+  H-small : H ≤ 2 ^ 6
+  H-small = pow-mono {j = 6} low
+
+  abbrev cs : List ℤ
+  cs = rounded H x
+
+  abbrev odd : ℤ
+  odd = pos (bit (whole H x H-pos H-small eight .odd) * (2 * H))
+
+  abbrev half-odd : ℤ
+  half-odd = pos (bit (halved H x H-pos H-small eight .odd) * (2 * H))
+
+  top-is : u ≡ pos (highest cs 0)
+  top-is = q .top ∙ ap (λ l. pos (highest l 0)) (q .block)
+
+  low-is : v ≡ pos (lowest cs 0)
+  low-is = q .low ∙ ap (λ l. pos (lowest l 0)) (q .block)
+
+  sizes-is : n ≡ pos (sizes cs)
+  sizes-is = q .size ∙ ap (λ l. pos (sizes l)) (q .block)
+
+  top-low : highest cs 0 ≤ 16 * H + 15
+  top-low = highest-low H cs 0 (ranged H x H-pos) (omega (arith, rounded-length H x, eight))
+
+  sum-size : natAbs s ≤ 2 ^ 28
+  sum-size = subst (λ (z : ℤ). natAbs z ≤ 2 ^ 28) (sym (q .whole)) (omega (arith, eight, off-size H H-pos H-small x w))
+
+  halves-size : natAbs t ≤ 2 ^ 28
+  halves-size = subst (λ (z : ℤ). natAbs z ≤ 2 ^ 28) (sym (q .half)) (omega (arith, eight, floors-size H H-pos H-small x w))
+
+  sizes-size : natAbs n ≤ 2 ^ 10
+  sizes-size = subst (λ (z : ℤ). natAbs z ≤ 2 ^ 10) (sym sizes-is) (omega (arith, eight, sizes-low H H-pos H-small x))
+
+  top-size : natAbs u ≤ 2 ^ 12
+  top-size = subst (λ (z : ℤ). natAbs z ≤ 2 ^ 12) (sym top-is) (omega (arith, top-low, H-small))
+
+  low-size : natAbs v ≤ 2 ^ 12
+  low-size = subst (λ (z : ℤ). natAbs z ≤ 2 ^ 12) (sym low-is) (omega (arith, turned H x H-pos H-small eight, H-small))
+
+  within : Within (2 ^ 7) rs
+  within = subst (Within (2 ^ 7)) (sym (q .block)) (rounded-within H H-pos H-small x)
+
+  quarter : 2 ^ (k + 2) ≡ 2 * (2 * H)
+  quarter = let e : k + 2 ≡ k + 1 + 1 = omega arith in ap (λ (m : ℕ). 2 ^ m) e ∙ double (k + 1) ∙ ap (λ (m : ℕ). 2 * m) (double k)
+
+  odd-is : pos (modZ s (2 ^ (k + 2))) ≡ odd
+  odd-is = ap₂ (λ z m. pos (modZ z m)) (q .whole) quarter ∙ ap pos (whole H x H-pos H-small eight .left)
+
+  half-odd-is : pos (modZ t (2 ^ (k + 2))) ≡ half-odd
+  half-odd-is = ap₂ (λ z m. pos (modZ z m)) (q .half) quarter ∙ ap pos (halved H x H-pos H-small eight .left)
+
+  bit-low : (b : Bool) → bit b * (2 * H) ≤ 2 ^ 7
+  bit-low false = omega arith
+  bit-low true = omega (arith, H-small)
+
+  whole-is : n +ℤ cond (ltZ (pos 0) odd) (pos 2 *ℤ (pos H -ℤ shrZ u 16)) (pos 0) ≡ pos (whole-cost H x H-pos H-small eight)
+  whole-is =
+      let a : ℕ = highest cs 0 / 16 in
+      ap₂ (λ (y z : ℤ). y +ℤ cond (ltZ (pos 0) odd) (pos 2 *ℤ (pos H -ℤ shrZ z 16)) (pos 0)) sizes-is top-is
+      ∙ ap (λ (z : ℤ). pos (sizes cs) +ℤ z) (costed (whole H x H-pos H-small eight .odd) (2 * H) (2 * H - 2 * a) (pos 2 *ℤ (pos H -ℤ pos a)) (omega (arith, H-pos)) (eq! (# 2 ⊗ (# H ⊖ # a)) (# (2 * H - 2 * a)) (omega (arith, top-low))))
+
+  half-is : pos 4 *ℤ pos H +ℤ cond (ltZ (pos 0) half-odd) (pos 2 *ℤ shrZ v 16) (pos 0) ≡ pos (half-cost H x H-pos H-small eight)
+  half-is =
+      let a : ℕ = lowest cs 0 / 16 in
+      ap (λ (z : ℤ). pos 4 *ℤ pos H +ℤ cond (ltZ (pos 0) half-odd) (pos 2 *ℤ shrZ z 16) (pos 0)) low-is
+      ∙ ap₂ _+ℤ_ (eq! (# 4 ⊗ # H) (# (2 * H + 2 * H)) (omega arith)) (costed (halved H x H-pos H-small eight .odd) (2 * H) (2 * a) (pos 2 *ℤ pos a) (omega (arith, H-pos)) (eq! (# 2 ⊗ # a) (# (2 * a)) (omega arith)))
+
+  -- the choice
+  least-is : (b : Bool) → b ≡ sooner (pos (whole-cost H x H-pos H-small eight)) (memberOf (pos 0) odd (highest cs 0) (getD rs 0 (pos 0)) 0) (pos (half-cost H x H-pos H-small eight)) (memberOf (pos H) half-odd (lowest cs 0) (getD rs 0 (pos 0)) 0)
+      → members (cond b (pos 0) (pos H)) (cond b odd half-odd) (cond b (highest cs 0) (lowest cs 0)) 0 rs ≡ leastBlock H x
+  least-is b e = ap (members (cond b (pos 0) (pos H)) (cond b odd half-odd) (cond b (highest cs 0) (lowest cs 0)) 0) (q .block)
+      ∙ chosen H x H-pos H-small eight b (e ∙ ap (λ l. sooner (pos (whole-cost H x H-pos H-small eight)) (memberOf (pos 0) odd (highest cs 0) (getD l 0 (pos 0)) 0) (pos (half-cost H x H-pos H-small eight)) (memberOf (pos H) half-odd (lowest cs 0) (getD l 0 (pos 0)) 0)) (q .block))
+
+-- the facts at a place after `quantize`
+module _ (c : tie.After-quantize) where
+  abbrev p : tie.After-power
+  p = c .before
+
+  abbrev st : tie.Start
+  st = p .before
+
+  long : length (st .args .x) ≡ 8
+  long = search needs
+
+  abbrev M : ℕ
+  M = 2 ^ st .args .k
+
+  height : read (p .power .result) ≡ pos M
+  height = power-read (st .args .k) (p .power .result) (st .pre .0) (p .power .ensures)
+
+  abbrev block : List ℤ
+  block = c .quantize .result .block
+
+  abbrev hi : ℕ
+  hi = highest (rounded M (st .args .x)) 0
+
+  abbrev lo : ℕ
+  lo = lowest (rounded M (st .args .x)) 0
+
+  abbrev o : ℤ
+  o = odd (st .args .k) (st .args .x) (c .quantize .result .block) (c .quantize .result .sum) (c .quantize .result .halves) (c .quantize .result .sizes) (c .quantize .result .top) (c .quantize .result .low) (st .pre .0) (st .pre .1) long (c .quantize .ensures)
+
+  abbrev ho : ℤ
+  ho = half-odd (st .args .k) (st .args .x) (c .quantize .result .block) (c .quantize .result .sum) (c .quantize .result .halves) (c .quantize .result .sizes) (c .quantize .result .top) (c .quantize .result .low) (st .pre .0) (st .pre .1) long (c .quantize .ensures)
+
+  o-size : natAbs o ≤ 2 ^ 7
+  o-size = bit-low (st .args .k) (st .args .x) (c .quantize .result .block) (c .quantize .result .sum) (c .quantize .result .halves) (c .quantize .result .sizes) (c .quantize .result .top) (c .quantize .result .low) (st .pre .0) (st .pre .1) long (c .quantize .ensures) (whole M (st .args .x) (H-pos (st .args .k) (st .args .x) (c .quantize .result .block) (c .quantize .result .sum) (c .quantize .result .halves) (c .quantize .result .sizes) (c .quantize .result .top) (c .quantize .result .low) (st .pre .0) (st .pre .1) long (c .quantize .ensures)) (H-small (st .args .k) (st .args .x) (c .quantize .result .block) (c .quantize .result .sum) (c .quantize .result .halves) (c .quantize .result .sizes) (c .quantize .result .top) (c .quantize .result .low) (st .pre .0) (st .pre .1) long (c .quantize .ensures)) long .odd)
+
+  ho-size : natAbs ho ≤ 2 ^ 7
+  ho-size = bit-low (st .args .k) (st .args .x) (c .quantize .result .block) (c .quantize .result .sum) (c .quantize .result .halves) (c .quantize .result .sizes) (c .quantize .result .top) (c .quantize .result .low) (st .pre .0) (st .pre .1) long (c .quantize .ensures) (halved M (st .args .x) (H-pos (st .args .k) (st .args .x) (c .quantize .result .block) (c .quantize .result .sum) (c .quantize .result .halves) (c .quantize .result .sizes) (c .quantize .result .top) (c .quantize .result .low) (st .pre .0) (st .pre .1) long (c .quantize .ensures)) (H-small (st .args .k) (st .args .x) (c .quantize .result .block) (c .quantize .result .sum) (c .quantize .result .halves) (c .quantize .result .sizes) (c .quantize .result .top) (c .quantize .result .low) (st .pre .0) (st .pre .1) long (c .quantize .ensures)) long .odd)
+
+  abbrev we : ℤ
+  we = pos (whole-cost M (st .args .x) (H-pos (st .args .k) (st .args .x) (c .quantize .result .block) (c .quantize .result .sum) (c .quantize .result .halves) (c .quantize .result .sizes) (c .quantize .result .top) (c .quantize .result .low) (st .pre .0) (st .pre .1) long (c .quantize .ensures)) (H-small (st .args .k) (st .args .x) (c .quantize .result .block) (c .quantize .result .sum) (c .quantize .result .halves) (c .quantize .result .sizes) (c .quantize .result .top) (c .quantize .result .low) (st .pre .0) (st .pre .1) long (c .quantize .ensures)) long)
+
+  abbrev he : ℤ
+  he = pos (half-cost M (st .args .x) (H-pos (st .args .k) (st .args .x) (c .quantize .result .block) (c .quantize .result .sum) (c .quantize .result .halves) (c .quantize .result .sizes) (c .quantize .result .top) (c .quantize .result .low) (st .pre .0) (st .pre .1) long (c .quantize .ensures)) (H-small (st .args .k) (st .args .x) (c .quantize .result .block) (c .quantize .result .sum) (c .quantize .result .halves) (c .quantize .result .sizes) (c .quantize .result .top) (c .quantize .result .low) (st .pre .0) (st .pre .1) long (c .quantize .ensures)) long)
+
+  sum-read : read (c .quantize .result .sum) ≡ c .quantize .result .sum
+  sum-read = plain (c .quantize .result .sum) (omega (arith, sum-size (st .args .k) (st .args .x) (c .quantize .result .block) (c .quantize .result .sum) (c .quantize .result .halves) (c .quantize .result .sizes) (c .quantize .result .top) (c .quantize .result .low) (st .pre .0) (st .pre .1) long (c .quantize .ensures)))
+
+  halves-read : read (c .quantize .result .halves) ≡ c .quantize .result .halves
+  halves-read = plain (c .quantize .result .halves) (omega (arith, halves-size (st .args .k) (st .args .x) (c .quantize .result .block) (c .quantize .result .sum) (c .quantize .result .halves) (c .quantize .result .sizes) (c .quantize .result .top) (c .quantize .result .low) (st .pre .0) (st .pre .1) long (c .quantize .ensures)))
+
+  sizes-read : read (c .quantize .result .sizes) ≡ c .quantize .result .sizes
+  sizes-read = plain (c .quantize .result .sizes) (omega (arith, sizes-size (st .args .k) (st .args .x) (c .quantize .result .block) (c .quantize .result .sum) (c .quantize .result .halves) (c .quantize .result .sizes) (c .quantize .result .top) (c .quantize .result .low) (st .pre .0) (st .pre .1) long (c .quantize .ensures)))
+
+  top-read : read (c .quantize .result .top) ≡ c .quantize .result .top
+  top-read = plain (c .quantize .result .top) (omega (arith, top-size (st .args .k) (st .args .x) (c .quantize .result .block) (c .quantize .result .sum) (c .quantize .result .halves) (c .quantize .result .sizes) (c .quantize .result .top) (c .quantize .result .low) (st .pre .0) (st .pre .1) long (c .quantize .ensures)))
+
+  low-read : read (c .quantize .result .low) ≡ c .quantize .result .low
+  low-read = plain (c .quantize .result .low) (omega (arith, low-size (st .args .k) (st .args .x) (c .quantize .result .block) (c .quantize .result .sum) (c .quantize .result .halves) (c .quantize .result .sizes) (c .quantize .result .top) (c .quantize .result .low) (st .pre .0) (st .pre .1) long (c .quantize .ensures)))
+
+  top-rank : read (c .quantize .result .top) ≡ pos hi
+  top-rank = top-read ∙ top-is (st .args .k) (st .args .x) (c .quantize .result .block) (c .quantize .result .sum) (c .quantize .result .halves) (c .quantize .result .sizes) (c .quantize .result .top) (c .quantize .result .low) (st .pre .0) (st .pre .1) long (c .quantize .ensures)
+
+  low-rank : read (c .quantize .result .low) ≡ pos lo
+  low-rank = low-read ∙ low-is (st .args .k) (st .args .x) (c .quantize .result .block) (c .quantize .result .sum) (c .quantize .result .halves) (c .quantize .result .sizes) (c .quantize .result .top) (c .quantize .result .low) (st .pre .0) (st .pre .1) long (c .quantize .ensures)
+
+  head-size : natAbs (getD block 0 (pos 0)) ≤ 2 ^ 7
+  head-size = within-at (2 ^ 7) block 0 (within (st .args .k) (st .args .x) (c .quantize .result .block) (c .quantize .result .sum) (c .quantize .result .halves) (c .quantize .result .sizes) (c .quantize .result .top) (c .quantize .result .low) (st .pre .0) (st .pre .1) long (c .quantize .ensures))
+
+  head-read : read (getD block 0 (pos 0)) ≡ getD block 0 (pos 0)
+  head-read = plain (getD block 0 (pos 0)) (omega (arith, head-size))
+
+  h-size : natAbs (read (p .power .result)) ≤ 2 ^ 7
+  h-size = power-size (st .args .k) (p .power .result) (st .pre .0) (p .power .ensures)
+
+o-read : (c : tie.After-remainder) → read (c .remainder .result) ≡ o (c .before .before)
+o-read c = let z = c .before .before in tz refl (record { sfits = c .remainder .ok }) ∙ c .remainder .ensures ∙ ap (λ (y : ℤ). pos (modZ y (2 ^ (st z .args .k + 2)))) (sum-read z) ∙ odd-is (st z .args .k) (st z .args .x) (z .quantize .result .block) (z .quantize .result .sum) (z .quantize .result .halves) (z .quantize .result .sizes) (z .quantize .result .top) (z .quantize .result .low) (st z .pre .0) (st z .pre .1) (long z) (z .quantize .ensures)
+
+ho-read : (c : tie.After-remainder2) → read (c .remainder2 .result) ≡ ho (c .before .before .before .before)
+ho-read c = let z = c .before .before .before .before in tz refl (record { sfits = c .remainder2 .ok }) ∙ c .remainder2 .ensures ∙ ap (λ (y : ℤ). pos (modZ y (2 ^ (st z .args .k + 2)))) (halves-read z) ∙ half-odd-is (st z .args .k) (st z .args .x) (z .quantize .result .block) (z .quantize .result .sum) (z .quantize .result .halves) (z .quantize .result .sizes) (z .quantize .result .top) (z .quantize .result .low) (st z .pre .0) (st z .pre .1) (long z) (z .quantize .ensures)
+
+we-read : (c : tie.After-whole-cost) → read (c .whole-cost .result) ≡ we (c .before .before .before .before .before .before .before .before .before)
+we-read c =
+    let z = c .before .before .before .before .before .before .before .before .before in
+    tz refl (record { sfits = c .whole-cost .ok }) ∙ c .whole-cost .ensures
+    ∙ (λ j. sizes-read z j +ℤ cond (ltZ (pos 0) (o-read (c .before .before .before .before .before .before .before) j)) (pos 2 *ℤ (height z j -ℤ shrZ (top-read z j) 16)) (pos 0)) ∙ whole-is (st z .args .k) (st z .args .x) (z .quantize .result .block) (z .quantize .result .sum) (z .quantize .result .halves) (z .quantize .result .sizes) (z .quantize .result .top) (z .quantize .result .low) (st z .pre .0) (st z .pre .1) (long z) (z .quantize .ensures)
+
+he-read : (c : tie.After-half-cost) → read (c .half-cost .result) ≡ he (c .before .before .before .before .before .before .before .before .before .before .before)
+he-read c =
+    let z = c .before .before .before .before .before .before .before .before .before .before .before in
+    tz refl (record { sfits = c .half-cost .ok }) ∙ c .half-cost .ensures
+    ∙ (λ j. pos 4 *ℤ height z j +ℤ cond (ltZ (pos 0) (ho-read (c .before .before .before .before .before .before .before) j)) (pos 2 *ℤ shrZ (low-read z j) 16) (pos 0)) ∙ half-is (st z .args .k) (st z .args .x) (z .quantize .result .block) (z .quantize .result .sum) (z .quantize .result .halves) (z .quantize .result .sizes) (z .quantize .result .top) (z .quantize .result .low) (st z .pre .0) (st z .pre .1) (long z) (z .quantize .ensures)
+
+whole-first : (c : tie.After-member) → read (c .member .result) ≡ memberOf (pos 0) (o (c .before .before .before .before .before .before .before .before .before .before .before .before .before)) (hi (c .before .before .before .before .before .before .before .before .before .before .before .before .before)) (getD (block (c .before .before .before .before .before .before .before .before .before .before .before .before .before)) 0 (pos 0)) 0
+whole-first c =
+    let z = c .before .before .before .before .before .before .before .before .before .before .before .before .before in
+    tz refl (record { sfits = c .member .ok }) ∙ c .member .ensures (hi z) (top-rank z) ∙ (λ j. memberOf (pos 0) (o-read (c .before .before .before .before .before .before .before .before .before .before .before) j) (hi z) (head-read z j) 0)
+
+half-first : (c : tie.After-member2) → read (c .member2 .result) ≡ memberOf (pos (M (c .before .before .before .before .before .before .before .before .before .before .before .before .before .before .before))) (ho (c .before .before .before .before .before .before .before .before .before .before .before .before .before .before .before)) (lo (c .before .before .before .before .before .before .before .before .before .before .before .before .before .before .before)) (getD (block (c .before .before .before .before .before .before .before .before .before .before .before .before .before .before .before)) 0 (pos 0)) 0
+half-first c =
+    let z = c .before .before .before .before .before .before .before .before .before .before .before .before .before .before .before in
+    tz refl (record { sfits = c .member2 .ok }) ∙ c .member2 .ensures (lo z) (low-rank z) ∙ (λ j. memberOf (height z j) (ho-read (c .before .before .before .before .before .before .before .before .before .before .before) j) (lo z) (head-read z j) 0)
+
+-- the choice
+choice : (c : tie.After-first) → c .first .result ≡ sooner (we (c .before .before .before .before .before .before .before .before .before .before .before .before .before .before .before .before)) (memberOf (pos 0) (o (c .before .before .before .before .before .before .before .before .before .before .before .before .before .before .before .before)) (hi (c .before .before .before .before .before .before .before .before .before .before .before .before .before .before .before .before)) (getD (block (c .before .before .before .before .before .before .before .before .before .before .before .before .before .before .before .before)) 0 (pos 0)) 0) (he (c .before .before .before .before .before .before .before .before .before .before .before .before .before .before .before .before)) (memberOf (pos (M (c .before .before .before .before .before .before .before .before .before .before .before .before .before .before .before .before))) (ho (c .before .before .before .before .before .before .before .before .before .before .before .before .before .before .before .before)) (lo (c .before .before .before .before .before .before .before .before .before .before .before .before .before .before .before .before)) (getD (block (c .before .before .before .before .before .before .before .before .before .before .before .before .before .before .before .before)) 0 (pos 0)) 0)
+choice c = c .first .ensures ∙ (λ j. sooner (we-read (c .before .before .before .before .before .before .before) j) (whole-first (c .before .before .before) j) (he-read (c .before .before .before .before .before) j) (half-first (c .before) j))
+
+either : (t : Bool) (a b : ℤ) → natAbs a ≤ 2 ^ 7 → natAbs b ≤ 2 ^ 7 → natAbs (cond t a b) ≤ 2 ^ 7
+either true a b l m = l
+either false a b l m = m
+
+module _ (c : tie.After-choose3) where
+  abbrev z : tie.After-quantize
+  z = c .before .before .before .before .before .before .before .before .before .before .before .before .before .before .before .before .before .before .before .before .before
+
+  abbrev t : Bool
+  t = c .before .before .before .before .before .first .result
+
+  shift-is : c .before .before .before .before .choose .result ≡ cond t (pos 0) (pos (M z))
+  shift-is = c .before .before .before .before .choose .ensures ∙ ap (cond t (pos 0)) (height z)
+
+  shift-size : natAbs (c .before .before .before .before .choose .result) ≤ 2 ^ 7
+  shift-size = subst (λ (y : ℤ). natAbs y ≤ 2 ^ 7) (sym shift-is) (either t (pos 0) (pos (M z)) (omega arith) (omega (arith, H-small (st z .args .k) (st z .args .x) (z .quantize .result .block) (z .quantize .result .sum) (z .quantize .result .halves) (z .quantize .result .sizes) (z .quantize .result .top) (z .quantize .result .low) (st z .pre .0) (st z .pre .1) (long z) (z .quantize .ensures))))
+
+  by-is : c .before .before .before .choose2 .result ≡ cond t (o z) (ho z)
+  by-is = c .before .before .before .choose2 .ensures ∙ ap₂ (cond t) (o-read (c .before .before .before .before .before .before .before .before .before .before .before .before .before .before .before .before .before .before .before)) (ho-read (c .before .before .before .before .before .before .before .before .before .before .before .before .before .before .before .before .before))
+
+  by-size : natAbs (c .before .before .before .choose2 .result) ≤ 2 ^ 7
+  by-size = subst (λ (y : ℤ). natAbs y ≤ 2 ^ 7) (sym by-is) (either t (o z) (ho z) (o-size z) (ho-size z))
+
+  rank-is : read (c .choose3 .result) ≡ pos (cond t (hi z) (lo z))
+  rank-is = tz refl (record { sfits = c .choose3 .ok }) ∙ c .choose3 .ensures ∙ ap₂ (cond t) (top-rank z) (low-rank z) ∙ pos-where t (hi z) (lo z)
 
 power-requires : tie.Need-power-requires
 power-requires c κs = search needs
 
-lowered-requires : tie.Need-lowered-requires
-lowered-requires c κs = (omega (arith, power-size (c .before .args .k) (c .power .result) (c .before .pre .0) (c .power .ensures)), c .before .pre .1)
+quantize-requires : tie.Need-quantize-requires
+quantize-requires c κs = (c .before .pre .0, power-read (c .before .args .k) (c .power .result) (c .before .pre .0) (c .power .ensures), c .before .pre .1)
 
-best-of-requires : tie.Need-best-of-requires
-best-of-requires c κs = let p = c .before in (p .before .pre .0, record { small = omega (arith, p .before .pre .0); is = power-read (p .before .args .k) (p .power .result) (p .before .pre .0) (p .power .ensures) }, within-to (2 ^ 24) (2 ^ 24 + 2 ^ 7) (p .before .args .x) (omega arith) (p .before .pre .1))
+add-remainder : tie.Need-add-remainder
+add-remainder c = search needs
 
-best-of-requires-2 : tie.Need-best-of-requires-2
-best-of-requires-2 c κs =
-    let p = c .before .before in
-    (p .before .pre .0, record { small = omega (arith, p .before .pre .0); is = power-read (p .before .args .k) (p .power .result) (p .before .pre .0) (p .power .ensures) }, subst (Within (2 ^ 24 + 2 ^ 7)) (sym (c .before .lowered .ensures)) (lowered-within (read (p .power .result)) (p .before .args .x) (2 ^ 24) (2 ^ 7) (power-size (p .before .args .k) (p .power .result) (p .before .pre .0) (p .power .ensures)) (p .before .pre .1)))
+remainder-requires : tie.Need-remainder-requires
+remainder-requires c κs = let z = c .before in (omega (arith, st z .pre .0), plain-size (z .quantize .result .sum) (2 ^ 30) (omega (arith, sum-size (st z .args .k) (st z .args .x) (z .quantize .result .block) (z .quantize .result .sum) (z .quantize .result .halves) (z .quantize .result .sizes) (z .quantize .result .top) (z .quantize .result .low) (st z .pre .0) (st z .pre .1) (long z) (z .quantize .ensures))) (omega arith))
+
+add-remainder-2 : tie.Need-add-remainder-2
+add-remainder-2 c = search needs
+
+remainder-requires-2 : tie.Need-remainder-requires-2
+remainder-requires-2 c κs = let z = c .before .before .before in (omega (arith, st z .pre .0), plain-size (z .quantize .result .halves) (2 ^ 30) (omega (arith, halves-size (st z .args .k) (st z .args .x) (z .quantize .result .block) (z .quantize .result .sum) (z .quantize .result .halves) (z .quantize .result .sizes) (z .quantize .result .top) (z .quantize .result .low) (st z .pre .0) (st z .pre .1) (long z) (z .quantize .ensures))) (omega arith))
 
 array-copy-out-c : tie.Need-array-copy-out-c
 array-copy-out-c c = search needs
 
-array-copy-out-d : tie.Need-array-copy-out-d
-array-copy-out-d c = search needs
+whole-cost-requires : tie.Need-whole-cost-requires
+whole-cost-requires c κs =
+    let z = c .before .before .before .before .before .before .before .before in
+    (h-size z, plain-size (z .quantize .result .sizes) (2 ^ 10) (sizes-size (st z .args .k) (st z .args .x) (z .quantize .result .block) (z .quantize .result .sum) (z .quantize .result .halves) (z .quantize .result .sizes) (z .quantize .result .top) (z .quantize .result .low) (st z .pre .0) (st z .pre .1) (long z) (z .quantize .ensures)) (omega arith), plain-size (z .quantize .result .top) (2 ^ 12) (top-size (st z .args .k) (st z .args .x) (z .quantize .result .block) (z .quantize .result .sum) (z .quantize .result .halves) (z .quantize .result .sizes) (z .quantize .result .top) (z .quantize .result .low) (st z .pre .0) (st z .pre .1) (long z) (z .quantize .ensures)) (omega arith))
+
+half-cost-requires : tie.Need-half-cost-requires
+half-cost-requires c κs = let z = c .before .before .before .before .before .before .before .before .before .before in (h-size z, plain-size (z .quantize .result .low) (2 ^ 12) (low-size (st z .args .k) (st z .args .x) (z .quantize .result .block) (z .quantize .result .sum) (z .quantize .result .halves) (z .quantize .result .sizes) (z .quantize .result .top) (z .quantize .result .low) (st z .pre .0) (st z .pre .1) (long z) (z .quantize .ensures)) (omega arith))
+
+member-requires : tie.Need-member-requires
+member-requires c κs =
+    let z = c .before .before .before .before .before .before .before .before .before .before .before .before in
+    (omega arith, subst (λ (y : ℤ). natAbs y ≤ 2 ^ 7) (sym (o-read (c .before .before .before .before .before .before .before .before .before .before))) (o-size z), plain-size (getD (block z) 0 (pos 0)) (2 ^ 7) (head-size z) (omega arith), omega arith)
+
+member-requires-2 : tie.Need-member-requires-2
+member-requires-2 c κs =
+    let z = c .before .before .before .before .before .before .before .before .before .before .before .before .before .before in
+    (h-size z, subst (λ (y : ℤ). natAbs y ≤ 2 ^ 7) (sym (ho-read (c .before .before .before .before .before .before .before .before .before .before))) (ho-size z), plain-size (getD (block z) 0 (pos 0)) (2 ^ 7) (head-size z) (omega arith), omega arith)
 
 first-requires : tie.Need-first-requires
 first-requires c κs = search needs
 
+choose-requires : tie.Need-choose-requires
+choose-requires c κs = search needs
+
+choose-requires-2 : tie.Need-choose-requires-2
+choose-requires-2 c κs = search needs
+
+choose-requires-3 : tie.Need-choose-requires-3
+choose-requires-3 c κs = search needs
+
+candidate-requires : tie.Need-candidate-requires
+candidate-requires c κs =
+    (plain-size (c .before .before .before .before .choose .result) (2 ^ 7) (shift-size c) (omega arith), plain-size (c .before .before .before .choose2 .result) (2 ^ 7) (by-size c) (omega arith), within (st (z c) .args .k) (st (z c) .args .x) ((z c) .quantize .result .block) ((z c) .quantize .result .sum) ((z c) .quantize .result .halves) ((z c) .quantize .result .sizes) ((z c) .quantize .result .top) ((z c) .quantize .result .low) (st (z c) .pre .0) (st (z c) .pre .1) (long (z c)) ((z c) .quantize .ensures))
+
 returns : tie.Need-returns
 returns c =
-    let w = c .before in
-    let q = w .before .before .before .before .before in
-    let p = q .before .before in
-    let s = p .before .before in
-    least-from (s .args .k) (s .args .x) (p .lowered .result) (q .before .best-of .result .block) (q .best-of2 .result .block) (q .before .best-of .result .energy) (q .best-of2 .result .energy)
-    (read (p .before .power .result)) _ _ (w .first .result) true (omega (arith, eight s)) (power-read (p .before .before .args .k) (p .before .power .result) (p .before .before .pre .0) (p .before .power .ensures)) (p .lowered .ensures)
-    (q .before .best-of .ensures .0) (q .best-of2 .ensures .0) (q .before .best-of .ensures .1) (q .best-of2 .ensures .1)
-    (tz refl (record { sfits = w .before .before .c .given })) (tz refl (record { sfits = w .before .d .given })) (w .first .ensures) (c .if1 .taken)
-
-returns-2 : tie.Need-returns-2
-returns-2 c =
-    let w = c .before in
-    let q = w .before .before .before .before .before in
-    let p = q .before .before in
-    let s = p .before .before in
-    least-from (s .args .k) (s .args .x) (p .lowered .result) (q .before .best-of .result .block) (q .best-of2 .result .block) (q .before .best-of .result .energy) (q .best-of2 .result .energy)
-    (read (p .before .power .result)) _ _ (w .first .result) false (omega (arith, eight s)) (power-read (p .before .before .args .k) (p .before .power .result) (p .before .before .pre .0) (p .before .power .ensures)) (p .lowered .ensures)
-    (q .before .best-of .ensures .0) (q .best-of2 .ensures .0) (q .before .best-of .ensures .1) (q .best-of2 .ensures .1)
-    (tz refl (record { sfits = w .before .before .c .given })) (tz refl (record { sfits = w .before .d .given })) (w .first .ensures) (c .if1 .left)
+    let d = c .before in
+    c .candidate .ensures (cond (t d) (hi (z d)) (lo (z d))) (rank-is d)
+    ∙ ap₂ (λ a e. members a e (cond (t d) (hi (z d)) (lo (z d))) 0 (block (z d))) (plain (d .before .before .before .before .choose .result) (omega (arith, shift-size d)) ∙ shift-is d) (plain (d .before .before .before .choose2 .result) (omega (arith, by-size d)) ∙ by-is d)
+    ∙ least-is (st (z d) .args .k) (st (z d) .args .x) ((z d) .quantize .result .block) ((z d) .quantize .result .sum) ((z d) .quantize .result .halves) ((z d) .quantize .result .sizes) ((z d) .quantize .result .top) ((z d) .quantize .result .low) (st (z d) .pre .0) (st (z d) .pre .1) (long (z d)) ((z d) .quantize .ensures) (t d) (choice (d .before .before .before .before .before))
 
 pub least-spec : {M : Type 1} → statement M
 least-spec =
     tie.close
     (tie.spec
     power-requires
-    lowered-requires
-    best-of-requires
-    best-of-requires-2
+    quantize-requires
+    add-remainder
+    remainder-requires
+    add-remainder-2
+    remainder-requires-2
     array-copy-out-c
-    array-copy-out-d
+    whole-cost-requires
+    half-cost-requires
+    member-requires
+    member-requires-2
     first-requires
-    returns
-    returns-2)
+    choose-requires
+    choose-requires-2
+    choose-requires-3
+    candidate-requires
+    returns)

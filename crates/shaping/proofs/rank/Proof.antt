@@ -1,13 +1,12 @@
 -- `rank` meets its contract
-use mathlib.Core.Path.{_≡_, refl, sym, _∙_, ap, ap₂, subst}
+use mathlib.Core.Path.{_≡_, refl, sym, _∙_, ap, ap₂}
 use mathlib.Core.Bool.{Bool, true, false, true≢false, cond}
 use Prim.Native.Nat.{ℕ, suc, _+_, _*_, _-_, _^_, _<_, _≤_}
 use native.Mathlib.Omega.{arith}
-use lib.Dec.{T}
 use lib.IntN.{ℤ, pos, negsuc, _+ℤ_, _-ℤ_, _*ℤ_, natAbs}
-use lib.Signed.{nonNeg, ltZ}
+use lib.Signed.{ltZ}
 use mir.Syntax.{w32}
-use mir.Val.{SFits, Fits, toZ}
+use mir.Val.{SFits, toZ}
 use mir.Facts.{toZ-pos}
 use borrow.Author.Needs.{needs}
 use borrow.Author.Tests.{ltb-true}
@@ -67,9 +66,6 @@ module _ (s : tie.Start) where
   high : ltZ (read (s .args .c)) (pos 0) ≡ false → read (pos 16 *ℤ read (s .args .c)) +ℤ read (pos 15 -ℤ toZ w32 (s .args .i)) ≡ pos n
   high l = ap₂ _+ℤ_ sixteen behind ∙ high-is (s .args .c) (s .args .i) (s .pre .1) (rw number at l)
 
-  whole : (z : ℤ) → z ≡ pos n → T (nonNeg (read z)) × Fits w32 (natAbs (read z))
-  whole z e = subst (λ (y : ℤ). T (nonNeg y) × Fits w32 (natAbs y)) (sym (tz e n-fits)) (tt, record { fits = omega (arith, n-low) })
-
 cast-j : tie.Need-cast-j
 cast-j c = search needs
 
@@ -78,9 +74,6 @@ mul-result c = sfits-to (ap (λ (z : ℤ). pos 16 *ℤ z) (number (c .before))) 
 
 sub-result : tie.Need-sub-result
 sub-result c = sfits-to (low (c .before) (c .if1 .taken)) (n-fits (c .before))
-
-cast-result : tie.Need-cast-result
-cast-result c = whole (c .before) _ (low (c .before) (c .if1 .taken))
 
 mul-result-2 : tie.Need-mul-result-2
 mul-result-2 c = sfits-to (ap (λ (z : ℤ). pos 16 *ℤ z) (number (c .before))) (sixteen-fits (c .before))
@@ -91,14 +84,11 @@ sub-result-2 c = sfits-to (ap (λ (z : ℤ). pos 15 -ℤ z) (index (c .before)))
 add-result : tie.Need-add-result
 add-result c = sfits-to (high (c .before) (c .if1 .left)) (n-fits (c .before))
 
-cast-result-2 : tie.Need-cast-result-2
-cast-result-2 c = whole (c .before) _ (high (c .before) (c .if1 .left))
-
 returns : tie.Need-returns
-returns c = ap natAbs (tz (low (c .before) (c .if1 .taken)) (n-fits (c .before)))
+returns c = tz (low (c .before) (c .if1 .taken)) (n-fits (c .before))
 
 returns-2 : tie.Need-returns-2
-returns-2 c = ap natAbs (tz (high (c .before) (c .if1 .left)) (n-fits (c .before)))
+returns-2 c = tz (high (c .before) (c .if1 .left)) (n-fits (c .before))
 
 pub rank-spec : {M : Type 1} → statement M
 rank-spec =
@@ -107,10 +97,8 @@ rank-spec =
     cast-j
     mul-result
     sub-result
-    cast-result
     mul-result-2
     sub-result-2
     add-result
-    cast-result-2
     returns
     returns-2)

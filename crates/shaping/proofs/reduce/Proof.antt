@@ -15,7 +15,7 @@ use Rattle.e8.specs.Energy.{Within}
 use Rattle.e8.specs.Least.{lowered}
 use Rattle.e8.proofs.Within.{within-at, within-to}
 use Rattle.shaping.proofs.Size.{fits, abs!, lowered-within}
-use Rattle.shaping.proofs.Reading.{read, power-read, twice-fits, twice-scale}
+use Rattle.shaping.proofs.Reading.{read}
 use Rattle.shaping.proofs.Reducing.{result, first-row}
 use Rattle.shaping.proofs.reduce.Statement.{statement}
 use Rattle.shaping.proofs.reduce.Tie as tie
@@ -36,7 +36,7 @@ module _ (s : tie.Start) where
 -- the first place: its remainder, and what is taken off every place
 module _ (c : tie.After-remainder) where
   abbrev start : tie.Start
-  start = c .before .before .before
+  start = c .before .before
 
   abbrev n : ℕ
   n = modZ (x start) (2 ^ start .args .k)
@@ -62,37 +62,31 @@ module _ (c : tie.After-remainder) where
   fits-too : SFits w32 (x start -ℤ read (c .remainder .result))
   fits-too = sfits-to (ap (λ (z : ℤ). x start -ℤ z) rest) off-fits
 
-power-requires : tie.Need-power-requires
-power-requires c κs = search needs
-
 array-copy-out-x : tie.Need-array-copy-out-x
 array-copy-out-x c = search needs
 
 remainder-requires : tie.Need-remainder-requires
-remainder-requires c κs = let p = c .before in (omega (arith, p .before .pre .0), power-read (p .before .args .k) (p .power .result) (p .before .pre .0) (p .power .ensures), subst (λ (z : ℤ). natAbs z ≤ 2 ^ 30) (sym (is (p .before))) (omega (arith, small (p .before))))
+remainder-requires c κs = let s = c .before in (omega (arith, s .pre .0), subst (λ (z : ℤ). natAbs z ≤ 2 ^ 30) (sym (is s)) (omega (arith, small s)))
 
 sub-lowered : tie.Need-sub-lowered
 sub-lowered c = sfits-to (off c) (off-fits c)
 
 lowered-requires : tie.Need-lowered-requires
-lowered-requires c κs = (off-within c, c .before .before .before .pre .1)
-
-add-later-rows : tie.Need-add-later-rows
-add-later-rows c = let p = c .before .before .before in twice-fits (p .before .args .k) (p .power .result) (p .before .pre .0) (p .power .ensures)
+lowered-requires c κs = (off-within c, c .before .before .pre .1)
 
 later-rows-requires : tie.Need-later-rows-requires
 later-rows-requires c κs =
-    let p = c .before .before .before in
-    let d : ℤ = read (read (x (p .before)) -ℤ read (c .before .remainder .result)) in (
-      twice-scale (p .before .args .k) (p .power .result) (p .before .pre .0) (p .power .ensures),
+    let s = c .before .before .before in
+    let d : ℤ = read (read (x s) -ℤ read (c .before .remainder .result)) in (
+      s .pre .0,
       subst (Within (2 ^ 26)) (sym (c .lowered .ensures))
-          (within-to (2 ^ 24 + 2 ^ 25) (2 ^ 26) (lowered d (p .before .args .t2)) (omega arith) (lowered-within d (p .before .args .t2) (2 ^ 24) (2 ^ 25) (off-within (c .before)) (p .before .pre .1))),
+          (within-to (2 ^ 24 + 2 ^ 25) (2 ^ 26) (lowered d (s .args .t2)) (omega arith) (lowered-within d (s .args .t2) (2 ^ 24) (2 ^ 25) (off-within (c .before)) (s .pre .1))),
     )
 
 returns : tie.Need-returns
 returns c =
     let r = c .before .before in
-    let s = r .before .before .before in
+    let s = r .before .before in
     c .later-rows .ensures ∙ ap (result (2 ^ s .args .k)) (c .before .lowered .ensures)
     ∙ first-row (2 ^ s .args .k) (s .args .t2) _ (read (r .remainder .result)) (pow-pos (s .args .k)) (eight s) (rest r) (tz (ap (λ (z : ℤ). z -ℤ read (r .remainder .result)) (is s)) (fits-too r))
 
@@ -100,11 +94,9 @@ pub reduce-spec : {M : Type 1} → statement M
 reduce-spec =
     tie.close
     (tie.spec
-    power-requires
     array-copy-out-x
     remainder-requires
     sub-lowered
     lowered-requires
-    add-later-rows
     later-rows-requires
     returns)

@@ -1,45 +1,29 @@
--- `remainder` meets its contract: z less its floor quotient times m
-use mathlib.Core.Path.{_≡_, refl, _∙_, ap, ap₂}
+-- `remainder` meets its contract: z less the multiple of 2^k next below
+use mathlib.Core.Path.{_≡_, refl, _∙_, ap₂}
 use Prim.Native.Nat.{_^_}
-use lib.IntN.{ℤ, pos, _-ℤ_, _*ℤ_}
-use lib.Signed.{shrZ}
-use mir.Syntax.{w32}
-use mir.Val.{toZ, ofZ}
+use lib.IntN.{pos, _-ℤ_}
 use borrow.Author.Needs.{needs}
 use Rattle.integers.specs.Integer.{modZ}
 use Rattle.integers.proofs.Zed.{tz, sfits-to}
-use Rattle.shaping.proofs.Size.{fits}
-use Rattle.shaping.proofs.Rest.{fits-quotient, fits-product, fits-remainder, remainder-is, power-fits}
+use Rattle.shaping.proofs.Rest.{floor-fits, fits-remainder, remainder-is}
+use Rattle.shaping.proofs.Reading.{read}
 use Rattle.shaping.proofs.remainder.Statement.{statement}
 use Rattle.shaping.proofs.remainder.Tie as tie
 
-module _ (c : tie.Start) where
-  number : toZ w32 (ofZ w32 (c .args .z)) ≡ c .args .z
-  number = tz refl (c .fits .z)
+rest : (c : tie.After-floor) → read (c .before .args .z) -ℤ read (c .floor .result) ≡ pos (modZ (c .before .args .z) (2 ^ c .before .args .k))
+rest c =
+    let s = c .before in
+    ap₂ _-ℤ_ (tz refl (s .fits .z)) (tz (c .floor .ensures ∙ ap₂ (λ a b. a -ℤ pos (modZ b (2 ^ s .args .k))) (tz refl (s .fits .z)) (tz refl (s .fits .z))) (floor-fits (s .args .k) (s .args .z) (s .pre .0) (s .pre .1)))
+    ∙ remainder-is (s .args .k) (s .args .z) (s .pre .0) (s .pre .1)
 
-  modulus : toZ w32 (ofZ w32 (c .args .m)) ≡ pos (2 ^ c .args .k)
-  modulus = tz (c .pre .1) (power-fits (c .args .k) (c .pre .0))
-
-  quotient : toZ w32 (ofZ w32 (shrZ (toZ w32 (ofZ w32 (c .args .z))) (2 ^ c .args .k))) ≡ shrZ (c .args .z) (2 ^ c .args .k)
-  quotient = tz (ap (λ (y : ℤ). shrZ y (2 ^ c .args .k)) number) (fits-quotient (c .args .k) (c .args .z) (c .pre .0) (c .pre .2))
-
-  rest : toZ w32 (ofZ w32 (c .args .z)) -ℤ toZ w32 (ofZ w32 (toZ w32 (ofZ w32 (shrZ (toZ w32 (ofZ w32 (c .args .z))) (2 ^ c .args .k))) *ℤ toZ w32 (ofZ w32 (c .args .m)))) ≡ pos (modZ (c .args .z) (2 ^ c .args .k))
-  rest = ap₂ _-ℤ_ number (tz (ap₂ _*ℤ_ quotient modulus) (fits-product (c .args .k) (c .args .z) (c .pre .0) (c .pre .2))) ∙ remainder-is (c .args .k) (c .args .z) (c .pre .0) (c .pre .2)
-
-cast-q : tie.Need-cast-q
-cast-q c = search needs
-
-shr-q : tie.Need-shr-q
-shr-q c = search needs
-
-mul-result : tie.Need-mul-result
-mul-result c = sfits-to (ap₂ _*ℤ_ (quotient c) (modulus c)) (fits-product (c .args .k) (c .args .z) (c .pre .0) (c .pre .2))
+floor-requires : tie.Need-floor-requires
+floor-requires c κs = search needs
 
 sub-result : tie.Need-sub-result
-sub-result c = sfits-to (rest c) (fits-remainder (c .args .k) (c .args .z) (c .pre .0) (c .pre .2))
+sub-result c = sfits-to (rest c) (fits-remainder (c .before .args .k) (c .before .args .z) (c .before .pre .0) (c .before .pre .1))
 
 returns : tie.Need-returns
-returns c = tz (rest c) (fits-remainder (c .args .k) (c .args .z) (c .pre .0) (c .pre .2))
+returns c = tz (rest c) (fits-remainder (c .before .args .k) (c .before .args .z) (c .before .pre .0) (c .before .pre .1))
 
 pub remainder-spec : {M : Type 1} → statement M
-remainder-spec = tie.close (tie.spec cast-q shr-q mul-result sub-result returns)
+remainder-spec = tie.close (tie.spec floor-requires sub-result returns)
