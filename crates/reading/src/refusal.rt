@@ -3,26 +3,35 @@ use super::level::level_word;
 ghost use mathlib.Core.Path.{_≡_};
 ghost use mathlib.Core.Bool.{true};
 ghost use Prim.Native.Nat.{_^_, _<_};
+ghost use lib.Dec.{leb};
+ghost use lib.IntN.{natAbs};
 ghost use lib.ListN.{length};
 ghost use Rattle.frames.specs.Kind.{isKind, degrees};
+ghost use Rattle.frames.specs.Sending.{unless};
 ghost use Rattle.frames.specs.Reading.{inRange, broken, openRefusal};
 
-// Whether every coordinate is within the ends of the open reading.
+// 1 for a coordinate beyond the ends of the open reading, 0 for one within them.
+pub fn far(z: i32) -> u32
+    ensures { λ r. ⌜ r ≡ unless (leb (natAbs z) 1048576) 1 0 ⌝ }
+{
+    if z < -1048576 {
+        return 1;
+    }
+    if 1048576 < z { 1 } else { 0 }
+}
+
+// Whether every coordinate is within the ends of the open reading. No coordinate ends the loop, so that several are tested at once.
 pub fn in_range(frame: &[i32]) -> bool
     ensures { λ r. ⌜ r ≡ inRange (now (frame .entry)) ⌝ }
 {
+    let mut out: u32 = 0;
     let mut p: usize = 0;
     while p < frame.len() {
         let z = frame[p];
-        if z < -1048576 {
-            return false;
-        }
-        if 1048576 < z {
-            return false;
-        }
+        out = out | far(z);
         p += 1;
     }
-    true
+    out == 0
 }
 
 // The number of the first level that is not a codeword, 0 where each one is.
