@@ -5,7 +5,7 @@ ghost use mathlib.Core.Path.{_≡_};
 ghost use Prim.Native.Nat.{ℕ, _+_, _*_, _/_, _%_, _^_, _<_, _≤_};
 ghost use lib.Dec.{eqb, leb, ltb};
 ghost use lib.ListN.{length, getD};
-ghost use Rattle.reed_muller.specs.Level.{pick, given, weight, table, order, place, dimension, codeword, backwards, belongs, Tabled};
+ghost use Rattle.reed_muller.specs.Level.{pick, given, weight, table, order, place, dimension, codeword, backwards, clearAbove, belongs, Tabled};
 ghost use Rattle.reed_muller.specs.Message.{messageBit, bytesOf, withBit, withBits};
 
 // The masks of each length by number of set bits, then by value.
@@ -263,7 +263,7 @@ fn with_digit(j: usize) -> u64
 }
 
 // Backwards, all masks at once, of a word held in a number: stage j adds to each value with digit j set the one without it.
-fn transformed(w: u64) -> u64
+pub fn transformed(w: u64) -> u64
     ensures { λ t. ⌜ ((m S : ℕ) → m ≤ 6 → S < 2 ^ m → t / 2 ^ S % 2 ≡ backwards m (λ p. w / 2 ^ p % 2) S) ⌝ }
 {
     let mut t = w;
@@ -361,13 +361,21 @@ fn heavy(r: usize) -> u64
     HEAVY[r]
 }
 
-// Whether a word held in a number belongs to RM(r,m): the bit is 0 for every mask with more than r bits set.
+// Whether the bits of the masks, held in a number, are 0 for every mask with more than r bits set.
+pub fn clear_above(bits: u64, m: usize, r: usize) -> bool
+    requires { ⌜ Tabled m × (r ≤ m) ⌝ }
+    ensures { λ b. ⌜ b ≡ clearAbove r (λ S. bits / 2 ^ S % 2) (2 ^ m) ⌝ }
+{
+    let heavies = bits & heavy(r);
+    heavies << (64 - positions(m)) == 0
+}
+
+// Whether a word held in a number belongs to RM(r,m).
 pub fn holds_codeword(w: u64, m: usize, r: usize) -> bool
     requires { ⌜ Tabled m × (r ≤ m) ⌝ }
     ensures { λ b. ⌜ b ≡ belongs r m (λ p. w / 2 ^ p % 2) ⌝ }
 {
-    let bits = transformed(w) & heavy(r);
-    bits << (64 - positions(m)) == 0
+    clear_above(transformed(w), m, r)
 }
 
 // Whether a word belongs to RM(r,m).
@@ -375,7 +383,7 @@ pub fn is_codeword(word: &[u8], m: usize, r: usize) -> bool
     requires { ⌜ Tabled m × (r ≤ m) × (2 ^ m ≤ length (now word)) ⌝ }
     ensures { λ b. ⌜ b ≡ belongs r m (λ p. getD (now (word .entry)) p 0) ⌝ }
 {
-    holds_codeword(parities(word, m), m, r)
+    clear_above(transformed(parities(word, m)), m, r)
 }
 
 // The bits of the masks of RM(r,m) in their order, held in a number.
@@ -392,37 +400,38 @@ fn in_order(bits: u64, m: usize, r: usize, masks: &[u8]) -> u64
     b
 }
 
-// The message bits of a word held in a number, themselves held in a number.
-fn message_by(w: u64, m: usize, r: usize, masks: &[u8]) -> u64
-    requires { ⌜ Tabled m × (r ≤ m) × (now masks ≡ order m) ⌝ }
-    ensures { λ b. ⌜ ((k : ℕ) → k < dimension r m → b / 2 ^ k % 2 ≡ backwards m (λ p. w / 2 ^ p % 2) (getD (order m) k 0)) ⌝ }
-{
-    in_order(transformed(w), m, r, masks)
-}
-
 // The same, by the table of masks of its length.
-fn message_of(w: u64, m: usize, r: usize) -> u64
+fn message_of(bits: u64, m: usize, r: usize) -> u64
     requires { ⌜ Tabled m × (r ≤ m) ⌝ }
-    ensures { λ b. ⌜ ((k : ℕ) → k < dimension r m → b / 2 ^ k % 2 ≡ backwards m (λ p. w / 2 ^ p % 2) (getD (order m) k 0)) ⌝ }
+    ensures { λ b. ⌜ ((k : ℕ) → k < dimension r m → b / 2 ^ k % 2 ≡ bits / 2 ^ getD (order m) k 0 % 2) ⌝ }
 {
     if m == 3 {
-        return message_by(w, m, r, &ORDER_8);
+        return in_order(bits, m, r, &ORDER_8);
     }
     if m == 4 {
-        return message_by(w, m, r, &ORDER_16);
+        return in_order(bits, m, r, &ORDER_16);
     }
-    message_by(w, m, r, &ORDER_32)
+    in_order(bits, m, r, &ORDER_32)
 }
 
-// Writes the message bits of a level held in a number into `out` from bit `from` on, and leaves every other bit as it was.
+// Writes the message bits of a level into `out` from bit `from` on, given the bits of its masks held in a number, and leaves every other bit as it was.
+pub fn put_message(bits: u64, m: usize, r: usize, out: &mut [u8], from: usize)
+    requires { ⌜ Tabled m × (r ≤ m) × (from ≤ 1000) × (from + dimension r m ≤ 8 * length (now out)) ⌝ }
+    ensures { λ _. ⌜ now (out .exit) ≡ bytesOf (length (now (out .entry)))
+        (withBits from (dimension r m) (λ k. bits / 2 ^ getD (order m) k 0 % 2) (messageBit (now (out .entry)))) ⌝ }
+{
+    let count = dimension_of(m, r);
+    let message = message_of(bits, m, r);
+    put_bits(message, count, out, from);
+}
+
+// The same of a level's word held in a number.
 pub fn read_held(w: u64, m: usize, r: usize, out: &mut [u8], from: usize)
     requires { ⌜ Tabled m × (r ≤ m) × (from ≤ 1000) × (from + dimension r m ≤ 8 * length (now out)) ⌝ }
     ensures { λ _. ⌜ now (out .exit) ≡ bytesOf (length (now (out .entry)))
         (withBits from (dimension r m) (λ k. backwards m (λ p. w / 2 ^ p % 2) (getD (order m) k 0)) (messageBit (now (out .entry)))) ⌝ }
 {
-    let count = dimension_of(m, r);
-    let bits = message_of(w, m, r);
-    put_bits(bits, count, out, from);
+    put_message(transformed(w), m, r, out, from);
 }
 
 // The same of a level's word.
@@ -431,6 +440,5 @@ pub fn read_level(word: &[u8], m: usize, r: usize, out: &mut [u8], from: usize)
     ensures { λ _. ⌜ now (out .exit) ≡ bytesOf (length (now (out .entry)))
         (withBits from (dimension r m) (λ k. backwards m (λ p. getD (now (word .entry)) p 0) (getD (order m) k 0)) (messageBit (now (out .entry)))) ⌝ }
 {
-    let w = parities(word, m);
-    read_held(w, m, r, out, from);
+    put_message(transformed(parities(word, m)), m, r, out, from);
 }

@@ -1,49 +1,32 @@
--- `read_held`: the level's bits, put in a row. Assumes nothing.
-use Prim.Native.Nat.{ℕ, _+_, _*_, _/_, _%_, _^_, _≤_}
-use mathlib.Core.Path.{_≡_, ap, _∙_}
+-- `read_held`: the message bits of the word. Assumes nothing.
+use mathlib.Core.Path.{_∙_}
 use native.Mathlib.Omega.{arith}
-use lib.ListN.{length}
-use lib.Pow.{pow-mono}
 use borrow.Author.Needs.{needs}
-use Rattle.reed_muller.specs.Level.{dimension}
-use Rattle.reed_muller.specs.Message.{messageBit, bytesOf, withBits}
-use Rattle.reed_muller.proofs.Codeword.{readBits}
-use Rattle.reed_muller.proofs.Message.{bytes-ext}
+use lib.ListN.{length}
+use Rattle.reed_muller.specs.Message.{messageBit}
 use Rattle.reed_muller.proofs.Digits.{digit}
-use Rattle.reed_muller.proofs.Bytewise.{with-ext}
-use Rattle.reed_muller.proofs.Order.{dimension-small}
+use Rattle.reed_muller.proofs.Held.{put-read}
 use Rattle.reed_muller.proofs.read_held.Statement.{statement}
 use Rattle.reed_muller.proofs.read_held.Tie as tie
 
-dimension-of-requires : tie.Need-dimension-of-requires
-dimension-of-requires c κs = omega arith
+transformed-requires : tie.Need-transformed-requires
+transformed-requires c κs = search needs
 
-message-of-requires : tie.Need-message-of-requires
-message-of-requires c κs = omega arith
-
-put-bits-requires : tie.Need-put-bits-requires
-put-bits-requires c κs =
-    let count = c .before .before .dimension-of in
-    let start = c .before .before .before .before in
-    let e : count .result ≡ dimension (start .args .r) (start .args .m) = count .ensures in
-    let few : count .result ≤ 56 = omega (arith, e, pow-mono {i = start .args .m} {j = 5} (start .pre .0 .1), dimension-small (start .args .r) (start .args .m) (start .pre .1)) in
-    let room : start .args .from + count .result ≤ 8 * length (start .args .out .now) = omega (arith, e, start .pre .3) in
-    (few, start .pre .2, room)
+put-message-requires : tie.Need-put-message-requires
+put-message-requires c κs = search needs
 
 same-length : tie.Need-same-length
 same-length c = search needs
 
 returns : tie.Need-returns
 returns c =
-    let put = c .before .before .put-bits in
-    let level = c .before .before .before .before in
-    let args = level .before .before .before .args in
+    let put = c .before .before in
+    let bits = put .before .before .transformed in
+    let start = put .before .before .before .before in
+    let args = start .args in
     let out = args .out .now in
-    let count = level .before .dimension-of in
-    let new : ℕ → ℕ = readBits (args .m) (λ p. args .w / 2 ^ p % 2) in
-    put .ensures
-    ∙ ap (λ (n : ℕ). bytesOf (length out) (withBits (args .from) n (digit (level .message-of .result)) (messageBit out))) (count .ensures)
-    ∙ bytes-ext (length out) _ _ (λ i l. with-ext (args .from) (dimension (args .r) (args .m)) (digit (level .message-of .result)) new (messageBit out) (level .message-of .ensures) i)
+    put .put-message .ensures
+    ∙ put-read (args .r) (args .m) (start .pre .1) (digit (bits .result)) (digit (args .w)) (λ S h. bits .ensures (args .m) S (omega arith) h) (length out) (args .from) (messageBit out)
 
 pub read-held-spec : {M : Type 1} → statement M
-read-held-spec = tie.close (tie.spec dimension-of-requires message-of-requires put-bits-requires same-length returns)
+read-held-spec = tie.close (tie.spec transformed-requires put-message-requires same-length returns)
