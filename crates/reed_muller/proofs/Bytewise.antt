@@ -1,13 +1,13 @@
--- Bits put into bytes, byte by byte: a byte blended with new bits under a mask, and bytes put one after another. Assumes nothing.
+-- Bits put into bytes, byte by byte: a byte blended with new bits under a mask, bytes put one after another, and bytes taken. Assumes nothing.
 use Prim.Native.Nat.{ℕ, zero, suc, _+_, _-_, _*_, _/_, _%_, _^_, _≤_, _<_}
-use mathlib.Core.Path.{_≡_, refl, sym, ap, ap₂, _∙_}
+use mathlib.Core.Path.{_≡_, refl, sym, ap, _∙_}
 use mathlib.Core.List.{List}
 use native.Mathlib.Nat.{pow-suc, div-eq-of-lt, mod-eq-of-lt}
 use native.Mathlib.Decide.{decLt, ℕ-discrete}
 use native.Mathlib.Omega.{arith}
 use lib.Dec.{eqb}
 use lib.Bits.{bitAnd, bitXor}
-use lib.Pow.{pow-pos, pow-mono}
+use lib.Pow.{pow-pos, pow-mono, pow-add}
 use lib.ListN.{length, getD, set, length-set}
 use lib.Seq.{ext-getD, getD-set-same, getD-set-other}
 use borrow.Author.Tests.{eq-eqb, ne-eqb}
@@ -15,8 +15,8 @@ use Rattle.reed_muller.specs.Level.{pick, sumTo}
 use Rattle.reed_muller.specs.Message.{messageBit, byteOf, bytesOf, withBits}
 use Rattle.reed_muller.proofs.Sum.{sum-ext}
 use Rattle.reed_muller.proofs.Table.{table-at}
-use Rattle.reed_muller.proofs.Message.{number, number-bit, number-digits, length-bytes, bits-of-bytes, bytes-ext, with-in, with-before, with-past, with-small}
-use Rattle.reed_muller.proofs.Digits.{digit, xor-digit, and-clear, and-keep, digit-mod, digit-from, shift-digit, shift-low}
+use Rattle.reed_muller.proofs.Message.{number, number-bit, number-digits, length-bytes, bit-of-byte, bits-of-bytes, bytes-ext, with-in, with-before, with-past, with-small}
+use Rattle.reed_muller.proofs.Digits.{digit, xor-digit, and-clear, and-keep, digit-mod, digit-from, shift-digit, shift-low, joined-low, joined-high}
 
 -- ---- the number with the first c digits set
 
@@ -105,11 +105,8 @@ module _ (n : ℕ) (new old : ℕ → ℕ) (new-small : (i : ℕ) → new i < 2)
 
   module _ (j : ℕ) (h : j < n) where
     pub next-byte : (p : ℕ) → p < 8 → digit (getD (upTo j) j 0) p ≡ old (8 * j + p)
-    unfolding messageBit
     next-byte p l =
-        let a : (8 * j + p) / 8 ≡ j = omega arith in
-        let b : (8 * j + p) % 8 ≡ p = omega arith in
-        sym (ap₂ (λ (a b : ℕ). getD (upTo j) a 0 / 2 ^ b % 2) a b)
+        sym (bit-of-byte (upTo j) j p l)
         ∙ bits-of-bytes n (withBits 0 (8 * j) new old) (λ k u. with-small 0 (8 * j) new old new-small old-small k) (8 * j + p) (omega arith)
         ∙ above j (8 * j + p) (omega arith)
 
@@ -162,3 +159,20 @@ module _ (from count : ℕ) (f g old : ℕ → ℕ) (h : (k : ℕ) → k < count
           ap (withBits from count f old) e ∙ with-in from count f old (i - from) (omega arith) ∙ h (i - from) (omega arith)
           ∙ sym (ap (withBits from count g old) e ∙ with-in from count g old (i - from) (omega arith))
       go (no k) (no l) = with-past from count f old i (omega arith) ∙ sym (with-past from count g old i (omega arith))
+
+-- ---- bytes taken from the last to the first
+
+module _ (xs : List ℕ) (bytes : (j : ℕ) → getD xs j 0 < 256) (j c w : ℕ) where
+  pub byte-taken : ((q : ℕ) → q < c → digit w q ≡ messageBit xs (8 * (j + 1) + q)) → (q : ℕ) → q < 8 + c → digit (256 * w + getD xs j 0) q ≡ messageBit xs (8 * j + q)
+  byte-taken so q l = go (decLt q 8)
+    where
+      go : Dec (q < 8) → digit (256 * w + getD xs j 0) q ≡ messageBit xs (8 * j + q)
+      go (yes u) = joined-low 8 w (getD xs j 0) q u ∙ sym (bit-of-byte xs j q u)
+      go (no k) =
+          let e : q ≡ 8 + (q - 8) = omega arith in
+          let f : 8 * (j + 1) + (q - 8) ≡ 8 * j + q = omega arith in
+          ap (digit (256 * w + getD xs j 0)) e ∙ joined-high 8 w (getD xs j 0) (bytes j) (q - 8)
+          ∙ so (q - 8) (omega arith) ∙ ap (messageBit xs) f
+
+  pub taken-fits : w < 2 ^ c → 256 * w + getD xs j 0 < 2 ^ (8 + c)
+  taken-fits h = omega (arith, pow-add 2 8 c, bytes j)
