@@ -207,15 +207,15 @@ pub fn put_bits(bits: u64, count: usize, out: &mut [u8], from: usize)
 {
     let first = from / 8;
     let s = from % 8;
-    let v = bits << s;
-    let m = ((1u64 << count) - 1) << s;
-    let mut i: usize = 0;
-    while 8 * i < s + count {
-        let t = 8 * i;
-        let j = first + i;
+    let mut v = bits << s;
+    let mut m = ((1u64 << count) - 1) << s;
+    let mut j = first;
+    while 0 < m {
         let x = out[j];
-        out[j] = blended(x, ((v >> t) % 256) as u8, ((m >> t) % 256) as u8);
-        i += 1;
+        out[j] = blended(x, (v % 256) as u8, (m % 256) as u8);
+        v = v >> 8;
+        m = m >> 8;
+        j += 1;
     }
 }
 
