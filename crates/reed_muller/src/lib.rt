@@ -1,6 +1,6 @@
 // Level codes: the order of masks, codewords of RM(r,m) and the way back, and the bits of a message's bytes.
 // A word is a lent slice of 2 ^ m bytes; where it is only read, bytes past these do not count. `Tabled m`: length 2 ^ m has a table of masks.
-// The work is done on a whole word at once, held in a number: bit p is the value at p.
+// The work is done on numbers that hold a whole word, message or transform: bit p is the value at p, bit k message bit k, bit S the bit of mask S.
 ghost use mathlib.Core.Path.{_≡_};
 ghost use Prim.Native.Nat.{ℕ, _+_, _*_, _/_, _%_, _^_, _<_, _≤_};
 ghost use lib.Dec.{eqb, leb, ltb};
