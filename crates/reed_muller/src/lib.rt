@@ -1,6 +1,6 @@
 // Level codes: the order of masks, codewords of RM(r,m) and the way back, and the bits of a message's bytes.
 // A word is a lent slice of 2 ^ m bytes; where it is only read, bytes past these do not count. `Tabled m`: length 2 ^ m has a table of masks.
-// The work is done on a whole word at once, held in a number: bit p is the value at p.
+// The work is done on numbers that hold a whole word, message or transform: bit p is the value at p, bit k message bit k, bit S the bit of mask S.
 ghost use mathlib.Core.Path.{_≡_};
 ghost use Prim.Native.Nat.{ℕ, _+_, _*_, _/_, _%_, _^_, _<_, _≤_};
 ghost use lib.Dec.{eqb, leb, ltb};
@@ -207,16 +207,33 @@ pub fn put_bits(bits: u64, count: usize, out: &mut [u8], from: usize)
 {
     let first = from / 8;
     let s = from % 8;
-    let v = bits << s;
-    let m = ((1u64 << count) - 1) << s;
-    let mut i: usize = 0;
-    while 8 * i < s + count {
-        let t = 8 * i;
-        let j = first + i;
+    let mut v = bits << s;
+    let mut m = ((1u64 << count) - 1) << s;
+    let mut j = first;
+    while 0 < m {
         let x = out[j];
-        out[j] = blended(x, ((v >> t) % 256) as u8, ((m >> t) % 256) as u8);
-        i += 1;
+        out[j] = blended(x, (v % 256) as u8, (m % 256) as u8);
+        v = v >> 8;
+        m = m >> 8;
+        j += 1;
     }
+}
+
+// The message bits from bit `from` on, held in a number, byte by byte.
+pub fn bits_at(message: &[u8], from: usize, count: usize) -> u64
+    requires { ⌜ (count ≤ 56) × (from ≤ 1000) × (from + count ≤ 8 * length (now message)) ⌝ }
+    ensures { λ w. ⌜ ((t : ℕ) → t < count → w / 2 ^ t % 2 ≡ messageBit (now (message .entry)) (from + t)) ⌝ }
+{
+    let first = from / 8;
+    let s = from % 8;
+    let mut w: u64 = 0;
+    let mut i = (s + count + 7) / 8;
+    while 0 < i {
+        i -= 1;
+        let j = first + i;
+        w = 256 * w + message[j] as u64;
+    }
+    w >> s
 }
 
 // The value at p of the codeword of RM(r,m) of the message bits from bit `from` on.
@@ -289,41 +306,41 @@ fn parities(word: &[u8], m: usize) -> u64
     w
 }
 
-// The message bits from bit `from` on, each at its mask, held in a number.
-fn coefficients(message: &[u8], from: usize, m: usize, r: usize, masks: &[u8]) -> u64
-    requires { ⌜ Tabled m × (r ≤ m) × (from ≤ 1000) × (from + dimension r m ≤ 8 * length (now message)) × (now masks ≡ order m) ⌝ }
-    ensures { λ w. ⌜ ((S : ℕ) → S < 2 ^ m → w / 2 ^ S % 2 ≡ given (leb (weight S) r) (messageBit (now (message .entry)) (from + place (order m) S))) ⌝ }
+// Message bits held in a number, each at its mask.
+fn coefficients(bits: u64, m: usize, r: usize, masks: &[u8]) -> u64
+    requires { ⌜ Tabled m × (r ≤ m) × (now masks ≡ order m) ⌝ }
+    ensures { λ w. ⌜ ((S : ℕ) → S < 2 ^ m → w / 2 ^ S % 2 ≡ given (leb (weight S) r) (bits / 2 ^ place (order m) S % 2)) ⌝ }
 {
     let count = dimension_of(m, r);
     let mut w: u64 = 0;
     let mut k: usize = 0;
     while k < count {
-        w = w ^ ((bit(message, from + k) as u64) << masks[k]);
+        w = w ^ (((bits >> k) % 2) << masks[k]);
         k += 1;
     }
     w
 }
 
-// The codeword of RM(r,m) of the message bits from bit `from` on, held in a number.
-fn codeword_by(message: &[u8], from: usize, m: usize, r: usize, masks: &[u8]) -> u64
-    requires { ⌜ Tabled m × (r ≤ m) × (from ≤ 1000) × (from + dimension r m ≤ 8 * length (now message)) × (now masks ≡ order m) ⌝ }
-    ensures { λ w. ⌜ ((p : ℕ) → p < 2 ^ m → w / 2 ^ p % 2 ≡ codeword r m (λ k. messageBit (now (message .entry)) (from + k)) p) ⌝ }
+// The codeword of RM(r,m) of message bits held in a number, itself held in a number.
+fn codeword_by(bits: u64, m: usize, r: usize, masks: &[u8]) -> u64
+    requires { ⌜ Tabled m × (r ≤ m) × (now masks ≡ order m) ⌝ }
+    ensures { λ w. ⌜ ((p : ℕ) → p < 2 ^ m → w / 2 ^ p % 2 ≡ codeword r m (λ k. bits / 2 ^ k % 2) p) ⌝ }
 {
-    transformed(coefficients(message, from, m, r, masks))
+    transformed(coefficients(bits, m, r, masks))
 }
 
 // The same, by the table of masks of its length.
-fn codeword_of(message: &[u8], from: usize, m: usize, r: usize) -> u64
-    requires { ⌜ Tabled m × (r ≤ m) × (from ≤ 1000) × (from + dimension r m ≤ 8 * length (now message)) ⌝ }
-    ensures { λ w. ⌜ ((p : ℕ) → p < 2 ^ m → w / 2 ^ p % 2 ≡ codeword r m (λ k. messageBit (now (message .entry)) (from + k)) p) ⌝ }
+pub fn codeword_held(bits: u64, m: usize, r: usize) -> u64
+    requires { ⌜ Tabled m × (r ≤ m) ⌝ }
+    ensures { λ w. ⌜ ((p : ℕ) → p < 2 ^ m → w / 2 ^ p % 2 ≡ codeword r m (λ k. bits / 2 ^ k % 2) p) ⌝ }
 {
     if m == 3 {
-        return codeword_by(message, from, m, r, &ORDER_8);
+        return codeword_by(bits, m, r, &ORDER_8);
     }
     if m == 4 {
-        return codeword_by(message, from, m, r, &ORDER_16);
+        return codeword_by(bits, m, r, &ORDER_16);
     }
-    codeword_by(message, from, m, r, &ORDER_32)
+    codeword_by(bits, m, r, &ORDER_32)
 }
 
 // The first eight values of a word held in a number.
@@ -344,7 +361,8 @@ pub fn encode(message: &[u8], from: usize, m: usize, r: usize, word: &mut [u8])
     ensures { λ _. ⌜ now (word .exit) ≡ table (2 ^ m) (codeword r m (λ k. messageBit (now (message .entry)) (from + k))) ⌝ }
 {
     let n = positions(m);
-    let w = codeword_of(message, from, m, r);
+    let bits = bits_at(message, from, dimension_of(m, r));
+    let w = codeword_held(bits, m, r);
     let mut p: usize = 0;
     while p < n {
         let e = p + 8;

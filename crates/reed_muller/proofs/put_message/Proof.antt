@@ -1,16 +1,15 @@
 -- `put_message`: the bits of the masks in their order, put in a row. Assumes nothing.
-use Prim.Native.Nat.{ℕ, _+_, _*_, _/_, _%_, _^_, _≤_}
+use Prim.Native.Nat.{ℕ, _+_, _*_, _≤_}
 use mathlib.Core.Path.{_≡_, ap, _∙_}
 use native.Mathlib.Omega.{arith}
 use lib.ListN.{length, getD}
-use lib.Pow.{pow-mono}
 use borrow.Author.Needs.{needs}
 use Rattle.reed_muller.specs.Level.{order, dimension}
 use Rattle.reed_muller.specs.Message.{messageBit, bytesOf, withBits}
 use Rattle.reed_muller.proofs.Message.{bytes-ext}
 use Rattle.reed_muller.proofs.Digits.{digit}
 use Rattle.reed_muller.proofs.Bytewise.{with-ext}
-use Rattle.reed_muller.proofs.Order.{dimension-small}
+use Rattle.reed_muller.proofs.MaskTables.{few-bits}
 use Rattle.reed_muller.proofs.put_message.Statement.{statement}
 use Rattle.reed_muller.proofs.put_message.Tie as tie
 
@@ -25,7 +24,7 @@ put-bits-requires c κs =
     let count = c .before .before .dimension-of in
     let start = c .before .before .before .before in
     let e : count .result ≡ dimension (start .args .r) (start .args .m) = count .ensures in
-    let few : count .result ≤ 56 = omega (arith, e, pow-mono {i = start .args .m} {j = 5} (start .pre .0 .1), dimension-small (start .args .r) (start .args .m) (start .pre .1)) in
+    let few : count .result ≤ 56 = omega (arith, e, few-bits (start .pre .0) (start .pre .1)) in
     let room : start .args .from + count .result ≤ 8 * length (start .args .out .now) = omega (arith, e, start .pre .3) in
     (few, start .pre .2, room)
 
