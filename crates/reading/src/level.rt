@@ -1,4 +1,4 @@
-// Level words: the bits of one weight of a frame's coordinates.
+// Level words: the bits of one weight of a frame's coordinates, and the same taken backwards.
 ghost use mathlib.Core.Path.{_≡_};
 ghost use mathlib.Core.Bool.{true};
 ghost use Prim.Native.Nat.{ℕ, _*_, _/_, _%_, _^_, _<_, _≤_};
@@ -47,7 +47,7 @@ pub fn level_word(frame: &[i32], i: usize) -> u64
     word
 }
 
-// All levels of a frame, each taken backwards.
+// All levels of a frame, each taken backwards: one number for each.
 pub fn level_words(kind: u8, frame: &[i32], words: &mut [u64])
     requires { ⌜ (isKind kind ≡ true) × (length (now frame) ≡ 2 ^ kind) × (levels kind ≤ length (now words)) ⌝ }
     ensures { λ _. ⌜ HoldsLevels kind (now (frame .entry)) (now (words .exit)) ⌝ }

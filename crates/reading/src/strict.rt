@@ -1,4 +1,4 @@
-// The further test of the strict reading: a frame is the one that is sent where each block is the least member of its class.
+// The tests of either reading. The further one of the strict reading: a frame is the one that is sent where each block is the least member of its class.
 use super::refusal::open_refusal;
 ghost use mathlib.Core.Path.{_≡_};
 ghost use Prim.Native.Nat.{_*_, _/_, _^_, _≤_};

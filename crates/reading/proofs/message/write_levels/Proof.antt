@@ -11,7 +11,6 @@ use Rattle.reed_muller.proofs.Message.{length-bytes}
 use Rattle.frames.specs.Kind.{degrees, levels, dimensions, levelBits}
 use Rattle.frames.specs.Frame.{levelWord}
 use Rattle.frames.specs.Reading.{levelMessage, levelMessages}
-use Rattle.frames.proofs.Bounds.{few-levels}
 use Rattle.kind_table.proofs.Each.{size, bits-row}
 use Rattle.reading.specs.Written.{Written}
 use Rattle.reading.specs.Holding.{HoldsLevels}
@@ -45,9 +44,6 @@ module _ (c : tie.In-loop Inv-loop μ-loop) where
 
   inside : i < levels k
   inside = omega (arith, c .before .before .levels .ensures)
-
-  early : i < 2
-  early = omega (arith, inside, few-levels k (s .pre .0))
 
   room : c .before .loop .from + dimension (getD (degrees k) i 0) k ≤ levelBits k
   room = omega (arith, level-room k i inside, c .before .loop .inv .1)
@@ -87,7 +83,7 @@ degree-requires : tie.Need-degree-requires Inv-loop μ-loop
 degree-requires c κs = (s c .pre .0, inside c)
 
 mul-bits : tie.Need-mul-bits Inv-loop μ-loop
-mul-bits c = record { fits = omega (arith, early (turn c)) }
+mul-bits c = search needs
 
 shared-slice-read-bits : tie.Need-shared-slice-read-bits Inv-loop μ-loop
 shared-slice-read-bits c = let t = turn (c .before) in omega (arith, inside t, s t .pre .1)

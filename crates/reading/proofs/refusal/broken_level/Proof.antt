@@ -66,7 +66,7 @@ degree-requires : tie.Need-degree-requires Inv-loop μ-loop
 degree-requires c κs = (s c .pre .0, inside c)
 
 mul-bits : tie.Need-mul-bits Inv-loop μ-loop
-mul-bits c = record { fits = omega (arith, early (c .before)) }
+mul-bits c = search needs
 
 shared-slice-read-bits : tie.Need-shared-slice-read-bits Inv-loop μ-loop
 shared-slice-read-bits c = let t = c .before .before in omega (arith, inside t, s t .pre .1)
