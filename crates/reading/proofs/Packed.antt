@@ -16,31 +16,30 @@ use Rattle.frames.specs.Reading.{digits, allDigits}
 use Rattle.frames.proofs.Numbers.{total}
 use Rattle.reading.proofs.Rows.{digits-count}
 
--- a number of w bits below those of a row
-module _ (W w n bits s : ℕ) (row : List ℕ) (room : w + n ≤ W) where
+-- a number of w bits below others: the digits of both
+module _ (W w n bits s : ℕ) (f : ℕ → ℕ) (room : w + n ≤ W) (fits : s < 2 ^ w) where
   abbrev both : ℕ
-  both = bitXor (bits * 2 ^ w % 2 ^ W) (s % 2 ^ w)
+  both = bitXor (bits * 2 ^ w % 2 ^ W) s
 
-  low : (t : ℕ) → t < w → getD (digits w s ++ row) t 0 ≡ digit s t
-  unfolding digits
-  low t l = List·getD-append (digits w s) row 0 t (omega (arith, digits-count w s)) ∙ table-at (digit s) w t l
-
-  high : (t : ℕ) → w ≤ t → getD (digits w s ++ row) t 0 ≡ getD row (t - w) 0
-  high t l =
-      let e : t ≡ length (digits w s) + (t - w) = omega (arith, digits-count w s) in
-      ap (λ (i : ℕ). getD (digits w s ++ row) i 0) e ∙ getD-append-add (digits w s) row (t - w) 0
-
-  pub pack-more : ((t : ℕ) → t < n → digit bits t ≡ getD row t 0) → (t : ℕ) → t < w + n → digit both t ≡ getD (digits w s ++ row) t 0
-  pack-more so t l = go (decLt t w)
+  pub digits-below : ((t : ℕ) → t < w → digit s t ≡ f t) → ((t : ℕ) → t < n → digit bits t ≡ f (w + t)) → (t : ℕ) → t < w + n → digit both t ≡ f t
+  digits-below low high t l = go (decLt t w)
     where
-      go : Dec (t < w) → digit both t ≡ getD (digits w s ++ row) t 0
-      go (yes h) =
-          xor-digit (bits * 2 ^ w % 2 ^ W) (s % 2 ^ w) t
-          ∙ omega (arith, shift-low bits w W t h (omega arith), digit-mod s w t h) ∙ sym (low t h)
+      go : Dec (t < w) → digit both t ≡ f t
+      go (yes h) = xor-digit (bits * 2 ^ w % 2 ^ W) s t ∙ omega (arith, shift-low bits w W t h (omega arith)) ∙ low t h
       go (no h) =
-          let z : digit (s % 2 ^ w) t ≡ 0 = ap (λ (x : ℕ). x % 2) (div-eq-of-lt (omega (arith, mod-lt s (pow-pos w), pow-mono {i = w} {j = t} (omega arith)))) in
-          xor-digit (bits * 2 ^ w % 2 ^ W) (s % 2 ^ w) t
-          ∙ omega (arith, z, shift-digit bits w W t (omega arith) (omega arith)) ∙ so (t - w) (omega arith) ∙ sym (high t (omega arith))
+          let z : digit s t ≡ 0 = ap (λ (x : ℕ). x % 2) (div-eq-of-lt (omega (arith, fits, pow-mono {i = w} {j = t} (omega arith)))) in
+          let e : w + (t - w) ≡ t = omega arith in
+          xor-digit (bits * 2 ^ w % 2 ^ W) s t
+          ∙ omega (arith, z, shift-digit bits w W t (omega arith) (omega arith)) ∙ high (t - w) (omega arith) ∙ ap f e
+
+-- one number more, below those of a row
+pub pack-more : (W w n bits s : ℕ) (row : List ℕ) → w + n ≤ W → ((t : ℕ) → t < n → digit bits t ≡ getD row t 0)
+    → (t : ℕ) → t < w + n → digit (bitXor (bits * 2 ^ w % 2 ^ W) (s % 2 ^ w)) t ≡ getD (digits w s ++ row) t 0
+unfolding digits
+pack-more W w n bits s row room so =
+    digits-below W w n bits (s % 2 ^ w) (λ t. getD (digits w s ++ row) t 0) room (mod-lt s (pow-pos w))
+    (λ t l. digit-mod s w t l ∙ sym (List·getD-append (digits w s) row 0 t (omega (arith, digits-count w s)) ∙ table-at (digit s) w t l))
+    (λ t l. so t l ∙ sym (ap (λ (i : ℕ). getD (digits w s ++ row) (i + t) 0) (sym (digits-count w s)) ∙ getD-append-add (digits w s) row t 0))
 
 -- the rows of the numbers from i on
 pub all-from : (ws ss : List ℕ) (i : ℕ) → i < length ws → i < length ss

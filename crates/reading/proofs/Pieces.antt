@@ -2,17 +2,18 @@
 use Prim.Native.Nat.{ℕ, _+_, _*_, _-_, _^_, _≤_, _<_}
 use mathlib.Core.Path.{_≡_, sym, ap, subst, _∙_}
 use mathlib.Core.Bool.{true}
-use mathlib.Core.List.{List, _++_}
+use mathlib.Core.List.{List}
 use native.Mathlib.Nat.{mul-le-mul-left}
 use native.Mathlib.Omega.{arith}
 use lib.IntN.{ℤ}
-use lib.ListN.{length, take, getD, length-take, length-drop}
+use lib.Pow.{pow-pos}
+use lib.ListN.{length, take, getD, set, length-append, length-take, length-drop, length-set}
 use lib.Seq.{take-all}
 use Rattle.reed_muller.specs.Level.{table, dimension, order, backwards}
 use Rattle.reed_muller.specs.Message.{messageBit, bytesOf, withBits}
-use Rattle.reed_muller.proofs.Table.{table-ext}
 use Rattle.reed_muller.proofs.Parity.{backwards-small}
 use Rattle.reed_muller.proofs.Digits.{digit, digit-small}
+use Rattle.reed_muller.proofs.Held.{put-read}
 use Rattle.e8.specs.Lattice.{part}
 use Rattle.e8.specs.Rows.{reduced}
 use Rattle.frames.specs.Kind.{isKind, degrees, levels, blocks, dimensions, levelBits, messageBits, messageBytes}
@@ -22,24 +23,19 @@ use Rattle.frames.specs.Reading.{levelMessage, levelMessages, quotients, allDig
 use Rattle.frames.proofs.Frame.{quotients-length}
 use Rattle.frames.proofs.Rows.{shape}
 use Rattle.reading.specs.Written.{Written}
-use Rattle.reading.proofs.Words.{word-backwards}
-use Rattle.reading.proofs.Writing.{zeros, written-table, written-next, written-whole}
+use Rattle.reading.proofs.Writing.{written-table, written-next, cleared, written-whole}
 use Rattle.reading.proofs.Rows.{all-count, total-widths, reduced-count, levels-count, levels-more, dimensions-more, dimensions-le, blocks-more, blocks-count}
 use Rattle.reading.proofs.Packed.{row-of-digits}
 
 -- ---- levels
 
--- what the way back writes of a number that holds level i is the level's message
-pub level-written : (m n i : ℕ) (f : List ℤ) (word : ℕ) → n ≡ 2 ^ m → ((p : ℕ) → p < n → digit word p ≡ levelWord i f p) → (r from : ℕ) (out : List ℕ)
-    → Written from (levelMessage m r (levelWord i f)) out (bytesOf (length out) (withBits from (dimension r m) (λ t. backwards m (digit word) (getD (order m) t 0)) (messageBit out)))
+-- what is written of a number that holds level i backwards is the level's message
+pub level-written : (m i : ℕ) (f : List ℤ) (bits : ℕ) → ((S : ℕ) → S < 2 ^ m → digit bits S ≡ backwards m (levelWord i f) S) → (r : ℕ) → r ≤ m → (from : ℕ) (out : List ℕ)
+    → Written from (levelMessage m r (levelWord i f)) out (bytesOf (length out) (withBits from (dimension r m) (λ t. digit bits (getD (order m) t 0)) (messageBit out)))
 unfolding levelMessage
-level-written m n i f word long is r from out =
-    subst (λ (row : List ℕ). Written from row out (bytesOf (length out) (withBits from (dimension r m) new (messageBit out))))
-    (table-ext (dimension r m) (λ t h. word-backwards m n i f word long is (getD (order m) t 0)))
-    (written-table from (dimension r m) new (λ t. backwards-small m (digit word) (getD (order m) t 0)) out)
-  where
-    new : ℕ → ℕ
-    new t = backwards m (digit word) (getD (order m) t 0)
+level-written m i f bits is r low from out =
+    subst (Written from (levelMessage m r (levelWord i f)) out) (sym (put-read r m low (digit bits) (levelWord i f) is (length out) from (messageBit out)))
+    (written-table from (dimension r m) (λ t. backwards m (levelWord i f) (getD (order m) t 0)) (λ t. backwards-small m (levelWord i f) (getD (order m) t 0)) out)
 
 module _ (k i : ℕ) (h : i < levels k) where
   -- where the next level begins
@@ -100,11 +96,31 @@ module _ (k b j : ℕ) (kind : isKind k ≡ true) (grade : 1 ≤ b) (h : j < blo
 
 -- ---- the whole message
 
-pub message-written : (k b n : ℕ) (f : List ℤ) (x y : List ℕ) → n ≡ messageBytes k b → Written 0 (levelMessages k 0 (degrees k) f) (zeros n) x
-    → Written (levelBits k) (blockMessages b (blocks k) (quotients (levels k) f)) x y → y ≡ openMessage k b f
-unfolding openMessage readBits levelBits
-message-written k b n f x y e first second =
-    written-whole n (levelMessages k 0 (degrees k) f ++ blockMessages b (blocks k) (quotients (levels k) f)) y
-    (written-next 0 (dimensions k (degrees k)) (levelMessages k 0 (degrees k) f) (blockMessages b (blocks k) (quotients (levels k) f)) (zeros n) x y
-    (sym (levels-count k 0 (degrees k) f) ∙ omega arith) first second)
-    ∙ ap (λ (m : ℕ). bytesOf m (λ i. getD (levelMessages k 0 (degrees k) f ++ blockMessages b (blocks k) (quotients (levels k) f)) i 0)) e
+module _ (k b : ℕ) (kind : isKind k ≡ true) (grade : 1 ≤ b) (f : List ℤ) (l : length f ≡ 2 ^ k) where
+  read-long : length (readBits k b f) ≡ messageBits k b
+  unfolding readBits messageBits levelBits
+  read-long =
+      length-append (levelMessages k 0 (degrees k) f) (blockMessages b (blocks k) (quotients (levels k) f))
+      ∙ omega (
+        arith,
+        levels-count k 0 (degrees k) f,
+        blocks-count b (blocks k) (quotients (levels k) f) grade (omega (arith, quotients-length (levels k) f, shape k kind .whole)),
+        ap (λ (n : ℕ). n * b) (shape k kind .whole),
+      )
+
+  -- one byte at least
+  pub some-byte : 1 ≤ messageBytes k b
+  unfolding messageBytes messageBits
+  some-byte = omega (arith, mul-le-mul-left (2 ^ k) grade, pow-pos k)
+
+  -- the levels, then the blocks, into bytes of which the last is 0
+  pub message-written : (out x y : List ℕ) → length out ≡ messageBytes k b → ((j : ℕ) → getD y j 0 < 256)
+      → Written 0 (levelMessages k 0 (degrees k) f) (set out (length out - 1) 0) x
+      → Written (levelBits k) (blockMessages b (blocks k) (quotients (levels k) f)) x y → y ≡ openMessage k b f
+  unfolding openMessage readBits messageBytes levelBits
+  message-written out x y e each first second =
+      written-whole (readBits k b f) (set out (length out - 1) 0) y
+      (λ i h u. cleared out (length out - 1) i (omega (arith, e, some-byte)) (omega (arith, e, some-byte, read-long, length-set out (length out - 1) 0))) each
+      (written-next 0 (levelBits k) (levelMessages k 0 (degrees k) f) (blockMessages b (blocks k) (quotients (levels k) f)) (set out (length out - 1) 0) x y
+      (sym (levels-count k 0 (degrees k) f) ∙ omega arith) first second)
+      ∙ ap (λ (m : ℕ). bytesOf m (λ i. getD (readBits k b f) i 0)) (length-set out (length out - 1) 0 ∙ e)

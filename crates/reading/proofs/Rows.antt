@@ -22,20 +22,6 @@ use Rattle.frames.specs.Frame.{levelWord}
 use Rattle.frames.specs.Reading.{levelMessage, levelMessages, quotients, digits, allDigits, blockMessages}
 use Rattle.frames.proofs.Numbers.{total}
 
--- ---- widths
-
--- s2 to s7 have b bits each
-pub middle : (b i : ℕ) → i < 8 → (i ≡ 0 → ⊥) → (i ≡ 7 → ⊥) → b ≡ getD (widths b) i 0
-middle b zero h l r = absurd (l refl)
-middle b (suc zero) h l r = refl
-middle b (suc (suc zero)) h l r = refl
-middle b (suc (suc (suc zero))) h l r = refl
-middle b (suc (suc (suc (suc zero)))) h l r = refl
-middle b (suc (suc (suc (suc (suc zero))))) h l r = refl
-middle b (suc (suc (suc (suc (suc (suc zero)))))) h l r = refl
-middle b (suc (suc (suc (suc (suc (suc (suc zero))))))) h l r = absurd (r refl)
-middle b (suc (suc (suc (suc (suc (suc (suc (suc i)))))))) h l r = absurd (omega arith)
-
 -- ---- numbers
 
 pub digits-count : (w n : ℕ) → length (digits w n) ≡ w

@@ -1,11 +1,11 @@
 -- Frames compared coordinate by coordinate and block by block. Assumes nothing.
 use Prim.Native.Nat.{ℕ, zero, suc, _+_, _*_, _-_, _≤_, _<_}
 use mathlib.Core.Path.{_≡_, refl, sym, ap, ap₂, _∙_}
-use mathlib.Core.Bool.{Bool, true, false, _&&_}
+use mathlib.Core.Bool.{Bool, true, false, _&&_, and-assoc}
 use mathlib.Core.List.{List, [], _∷_, _++_}
 use native.Mathlib.Numerals.{add-one}
 use native.Mathlib.Omega.{arith}
-use lib.ListN.{length, take, drop, length-take, length-drop, drop-of-length-le, take-append-drop}
+use lib.ListN.{length, take, drop, drop-of-length-le, take-append-drop}
 use lib.Seq.{drop-cons, drop-drop}
 use lib.IntN.{ℤ, pos, negsuc}
 use borrow.Author.Tests.{eq-eqb, ne-eqb}
@@ -14,7 +14,7 @@ use Rattle.e8.specs.Lattice.{part}
 use Rattle.e8.specs.Least.{leastBlock, leastFrame}
 use Rattle.e8.proofs.Frame.{block-size}
 use Rattle.frames.specs.Reading.{sameNumber, sameFrame}
-use Rattle.frames.proofs.Frame.{at}
+use Rattle.frames.proofs.Frame.{at, part-length}
 
 -- ---- coordinates
 
@@ -47,16 +47,12 @@ agree-all x y i hx hy = ap₂ sameFrame (drop-of-length-le x hx) (drop-of-length
 
 -- ---- blocks
 
-and-assoc : (s t u : Bool) → (s && (t && u)) ≡ ((s && t) && u)
-and-assoc true t u = refl
-and-assoc false t u = refl
-
 same-append : (x y u v : List ℤ) → length x ≡ length y → sameFrame (x ++ u) (y ++ v) ≡ (sameFrame x y && sameFrame u v)
 unfolding sameFrame
 same-append [] [] u v l = refl
 same-append [] (b ∷ y) u v l = absurd (omega arith)
 same-append (a ∷ x) [] u v l = absurd (omega arith)
-same-append (a ∷ x) (b ∷ y) u v l = rw (same-append x y u v (omega arith)) (and-assoc (sameNumber a b) (sameFrame x y) (sameFrame u v))
+same-append (a ∷ x) (b ∷ y) u v l = rw (same-append x y u v (omega arith)) (sym (and-assoc (sameNumber a b) (sameFrame x y) (sameFrame u v)))
 
 -- whether the blocks from block j on are least in their classes
 abbrev pub leastFrom : ℕ → ℕ → ℕ → List ℤ → Bool
@@ -67,7 +63,7 @@ module _ (H : ℕ) (pos-H : 0 < H) (n j : ℕ) (f : List ℤ) (long : length f �
   g = drop (8 * j) f
 
   part-8 : length (part j f) ≡ 8
-  part-8 = simp (length-take, length-drop) (omega arith)
+  part-8 = part-length f n j long h
 
   -- one block, and those after it
   step : leastFrom H n j f ≡ (sameFrame (part j f) (leastBlock H (part j f)) && leastFrom H n (j + 1) f)

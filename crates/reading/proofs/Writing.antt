@@ -1,27 +1,19 @@
 -- Rows of bits written one behind the other. Assumes nothing.
-use Prim.Native.Nat.{ℕ, _+_, _*_, _-_, _/_, _%_, _^_, _<_}
+use Prim.Native.Nat.{ℕ, _+_, _*_, _-_, _/_, _%_, _^_, _≤_, _<_}
 use mathlib.Core.Path.{_≡_, refl, sym, ap, _∙_, subst}
 use mathlib.Core.List.{List, [], _++_}
 use native.Mathlib.Decide.{decLt}
 use native.Mathlib.Nat.{zero-div}
 use native.Mathlib.Omega.{arith}
-use lib.Dec.{lit<}
-use lib.ListN.{length, getD, length-append, List·getD-append, List·getD-eq-default}
-use lib.Seq.{getD-append-add}
+use lib.ListN.{length, getD, set, length-append, List·getD-append, List·getD-eq-default}
+use lib.Seq.{getD-append-add, getD-set-same}
 use Rattle.reed_muller.specs.Level.{table}
-use Rattle.reed_muller.specs.Message.{messageBit, byteOf, bytesOf, withBits}
+use Rattle.reed_muller.specs.Message.{messageBit, bytesOf, withBits}
 use Rattle.reed_muller.proofs.Table.{length-table, table-at}
 use Rattle.reed_muller.proofs.Parity.{message-small}
-use Rattle.reed_muller.proofs.Message.{length-bytes, bits-of-bytes, bytes-ext, bytes-of-bits, byte-lt, with-in, with-before, with-past, with-small, with-none}
+use Rattle.reed_muller.proofs.Message.{length-bytes, bits-of-bytes, bytes-ext, bytes-of-bits, with-in, with-before, with-past, with-small, with-none}
 use Rattle.reed_muller.proofs.Bytewise.{with-ext}
-use Rattle.frames.proofs.One.{table-below}
-use Rattle.reading.specs.Written.{Bytes, Written}
-
--- ---- bytes made of bits
-
-made-bytes : (n : ℕ) (bit : ℕ → ℕ) → ((i : ℕ) → bit i < 2) → Bytes (bytesOf n bit)
-unfolding bytesOf
-made-bytes n bit h = table-below 256 (byteOf bit) n (lit< tt) (λ j. byte-lt bit j (λ i l. h (8 * j + i)))
+use Rattle.reading.specs.Written.{Written}
 
 -- ---- a row of bits of a table
 
@@ -36,7 +28,6 @@ pub written-table : (from n : ℕ) (new : ℕ → ℕ) → ((t : ℕ) → new t 
     → Written from (table n new) before (bytesOf (length before) (withBits from n new (messageBit before)))
 written-table from n new small before = record {
   long = length-bytes (length before) bit;
-  each = λ b. made-bytes (length before) bit bit-small;
   bits = λ i l. bits-of-bytes (length before) bit (λ j h. bit-small j) i l ∙ row-of-table from n new (messageBit before) i;
 }
   where
@@ -51,7 +42,6 @@ written-table from n new small before = record {
 pub written-none : (from : ℕ) (before : List ℕ) → Written from [] before before
 written-none from before = record {
   long = refl;
-  each = λ b. b;
   bits = λ i l. sym (with-none from (λ t. getD [] t 0) (messageBit before) i);
 }
 
@@ -95,7 +85,6 @@ module _ (from : ℕ) (R S a b c : List ℕ) (first : Written from R a b) (secon
   pub written-append : Written from (R ++ S) a c
   written-append = record {
     long = second .long ∙ first .long;
-    each = λ h. second .each (first .each h);
     bits = λ i l. second .bits i (omega (arith, first .long)) ∙ in-turn i l (decLt i from) (decLt i (from + length R)) (decLt i (from + length R + length S));
   }
 
@@ -103,31 +92,25 @@ module _ (from : ℕ) (R S a b c : List ℕ) (first : Written from R a b) (secon
 pub written-next : (from at : ℕ) (R S a b c : List ℕ) → at ≡ from + length R → Written from R a b → Written at S b c → Written from (R ++ S) a c
 written-next from at R S a b c e first second = written-append from R S a b c first (subst (λ (n : ℕ). Written n S b c) e second)
 
--- ---- into bytes that are 0
+-- ---- the whole of the bytes
 
--- n bytes of 0
-abbrev pub zeros : ℕ → List ℕ
-zeros n = table n (λ i. 0)
-
-zero-bit : (n i : ℕ) → messageBit (zeros n) i ≡ 0
+-- the bits of a byte that is made 0
+pub cleared : (bytes : List ℕ) (j i : ℕ) → j < length bytes → i / 8 ≡ j → messageBit (set bytes j 0) i ≡ 0
 unfolding messageBit
-zero-bit n i = ap (λ (x : ℕ). x / 2 ^ (i % 8) % 2) (at (decLt (i / 8) n)) ∙ ap (λ (x : ℕ). x % 2) (zero-div (2 ^ (i % 8)))
-  where
-    at : Dec (i / 8 < n) → getD (zeros n) (i / 8) 0 ≡ 0
-    at (yes l) = table-at (λ i. 0) n (i / 8) l
-    at (no k) = List·getD-eq-default (zeros n) 0 {n = i / 8} (omega (arith, length-table (λ i. 0) n))
+cleared bytes j i h e =
+    ap (λ (x : ℕ). x / 2 ^ (i % 8) % 2) (ap (λ (n : ℕ). getD (set bytes j 0) n 0) e ∙ getD-set-same bytes j 0 0 h) ∙ ap (λ (x : ℕ). x % 2) (zero-div (2 ^ (i % 8)))
 
--- the bytes of a row, spare bits 0
-pub written-whole : (n : ℕ) (row after : List ℕ) → Written 0 row (zeros n) after → after ≡ bytesOf n (λ i. getD row i 0)
-written-whole n row after w =
-    sym (bytes-of-bits after (w .each (table-below 256 (λ i. 0) n (lit< tt) (λ i. lit< tt))))
-    ∙ ap (λ (m : ℕ). bytesOf m (messageBit after)) (w .long ∙ length-table (λ i. 0) n)
-    ∙ bytes-ext n (messageBit after) bit (λ i l. w .bits i (omega (arith, length-table (λ i. 0) n)) ∙ at i (decLt i (length row)))
+-- the bytes of a row, where the spare bits were 0
+pub written-whole : (row before after : List ℕ) → ((i : ℕ) → length row ≤ i → i < 8 * length before → messageBit before i ≡ 0) → ((j : ℕ) → getD after j 0 < 256)
+    → Written 0 row before after → after ≡ bytesOf (length before) (λ i. getD row i 0)
+written-whole row before after spare each w =
+    sym (bytes-of-bits after each) ∙ ap (λ (m : ℕ). bytesOf m (messageBit after)) (w .long)
+    ∙ bytes-ext (length before) (messageBit after) bit (λ i l. w .bits i l ∙ at i l (decLt i (length row)))
   where
     bit : ℕ → ℕ
     bit i = getD row i 0
 
-    at : (i : ℕ) → Dec (i < length row) → withBits 0 (length row) bit (messageBit (zeros n)) i ≡ bit i
-    at i (yes l) = let e : i ≡ 0 + i = omega arith in ap (withBits 0 (length row) bit (messageBit (zeros n))) e ∙ with-in 0 (length row) bit (messageBit (zeros n)) i l
-    at i (no k) =
-        with-past 0 (length row) bit (messageBit (zeros n)) i (omega arith) ∙ zero-bit n i ∙ sym (List·getD-eq-default row 0 {n = i} (omega arith))
+    at : (i : ℕ) → i < 8 * length before → Dec (i < length row) → withBits 0 (length row) bit (messageBit before) i ≡ bit i
+    at i l (yes h) = let e : i ≡ 0 + i = omega arith in ap (withBits 0 (length row) bit (messageBit before)) e ∙ with-in 0 (length row) bit (messageBit before) i h
+    at i l (no k) =
+        with-past 0 (length row) bit (messageBit before) i (omega arith) ∙ spare i (omega arith) l ∙ sym (List·getD-eq-default row 0 {n = i} (omega arith))

@@ -5,12 +5,7 @@ use mathlib.Core.List.{List}
 use lib.ListN.{length, getD}
 use Rattle.reed_muller.specs.Message.{messageBit, withBits}
 
--- every entry is a byte
-abbrev pub Bytes : List ℕ → Type 0
-Bytes bytes = (j : ℕ) → getD bytes j 0 < 256
-
 -- `after` is `before` with the bits of the row at `from`, `from` + 1, .., and every other bit as it was
 pub record Written (from : ℕ) (row before after : List ℕ) : Type 0 where
   pub long : length after ≡ length before
-  pub each : Bytes before → Bytes after
   pub bits : (i : ℕ) → i < 8 * length before → messageBit after i ≡ withBits from (length row) (λ t. getD row t 0) (messageBit before) i

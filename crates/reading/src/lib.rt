@@ -5,11 +5,11 @@ mod refusal;
 mod strict;
 
 use message::write_message;
-use refusal::open_refusal;
-use strict::strict_refusal;
+use strict::refusal;
 ghost use mathlib.Core.Path.{_≡_};
 ghost use lib.ListN.{length};
 ghost use Rattle.frames.specs.Reading.{openRefusal, strictRefusal, messageAfter, energyRead};
+ghost use Rattle.reading.specs.Numbers.{refusalOf};
 
 // What a reading answers: its number, 0 where the message is given, and the energy of the frame.
 pub struct Reading {
@@ -17,20 +17,21 @@ pub struct Reading {
     pub energy: u64,
 }
 
-// The answer by the number of a reading that takes no frame which the open reading refuses.
-fn answer(number: u8, kind: u8, grade: u8, frame: &[i32], message: &mut [u8]) -> Reading
-    requires { ⌜ (number ≡ 0 → openRefusal kind grade (now frame) (length (now message)) ≡ 0) ⌝ }
-    ensures number { λ r. ⌜ r .number ≡ number ⌝ }
-    ensures message { λ r. ⌜ now (message .exit) ≡ messageAfter number kind grade (now (frame .entry)) (now (message .entry)) ⌝ }
-    ensures energy { λ r. ⌜ r .energy ≡ energyRead number (now (frame .entry)) ⌝ }
+// A reading; a strict one, where `strict` is set, takes the sent frame alone. A refusal writes nothing.
+fn read(strict: bool, kind: u8, grade: u8, frame: &[i32], message: &mut [u8]) -> Reading
+    ensures number { λ r. ⌜ r .number ≡ refusalOf strict kind grade (now (frame .entry)) (length (now (message .entry))) ⌝ }
+    ensures message { λ r. ⌜ now (message .exit) ≡ messageAfter (refusalOf strict kind grade (now (frame .entry)) (length (now (message .entry)))) kind grade (now (frame .entry)) (now (message .entry)) ⌝ }
+    ensures energy { λ r. ⌜ r .energy ≡ energyRead (refusalOf strict kind grade (now (frame .entry)) (length (now (message .entry)))) (now (frame .entry)) ⌝ }
 {
+    let mut words = [0u64; 2];
+    let number = refusal(strict, kind, grade, frame, message.len(), &mut words);
     if number != 0 {
         return Reading {
             number: number,
             energy: 0,
         };
     }
-    write_message(kind, grade, frame, message);
+    write_message(kind, grade, frame, &words, message);
     let energy = shaping::energy(frame);
     Reading {
         number: 0,
@@ -44,8 +45,7 @@ pub fn read_open(kind: u8, grade: u8, frame: &[i32], message: &mut [u8]) -> Read
     ensures message { λ r. ⌜ now (message .exit) ≡ messageAfter (openRefusal kind grade (now (frame .entry)) (length (now (message .entry)))) kind grade (now (frame .entry)) (now (message .entry)) ⌝ }
     ensures energy { λ r. ⌜ r .energy ≡ energyRead (openRefusal kind grade (now (frame .entry)) (length (now (message .entry)))) (now (frame .entry)) ⌝ }
 {
-    let number = open_refusal(kind, grade, frame, message.len());
-    answer(number, kind, grade, frame, message)
+    read(false, kind, grade, frame, message)
 }
 
 // The strict reading: the message of the sent frame alone.
@@ -54,6 +54,5 @@ pub fn read_strict(kind: u8, grade: u8, frame: &[i32], message: &mut [u8]) -> Re
     ensures message { λ r. ⌜ now (message .exit) ≡ messageAfter (strictRefusal kind grade (now (frame .entry)) (length (now (message .entry)))) kind grade (now (frame .entry)) (now (message .entry)) ⌝ }
     ensures energy { λ r. ⌜ r .energy ≡ energyRead (strictRefusal kind grade (now (frame .entry)) (length (now (message .entry)))) (now (frame .entry)) ⌝ }
 {
-    let number = strict_refusal(kind, grade, frame, message.len());
-    answer(number, kind, grade, frame, message)
+    read(true, kind, grade, frame, message)
 }

@@ -1,14 +1,12 @@
-// The message of a frame of the coding set: the lent bytes cleared, then the bits of the levels and those of the blocks, one behind the other.
-use super::level::level_word;
+// The message of a frame of the coding set: the bits of the levels and those of the blocks, one behind the other.
 ghost use mathlib.Core.Path.{_≡_};
 ghost use mathlib.Core.Bool.{true};
 ghost use mathlib.Core.List.{List};
 ghost use Prim.Native.Nat.{ℕ, _+_, _-_, _*_, _/_, _%_, _^_, _<_, _≤_};
 ghost use lib.Dec.{T};
-ghost use lib.IntN.{pos};
+ghost use lib.IntN.{ℤ, pos};
 ghost use lib.ListN.{length, getD};
 ghost use lib.Signed.{nonNeg};
-ghost use Rattle.reed_muller.specs.Level.{table};
 ghost use Rattle.e8.specs.Energy.{Within};
 ghost use Rattle.e8.specs.Lattice.{part};
 ghost use Rattle.e8.specs.Rows.{ints, reduced};
@@ -17,30 +15,20 @@ ghost use Rattle.frames.specs.Message.{widths};
 ghost use Rattle.frames.specs.Sending.{isGrade};
 ghost use Rattle.frames.specs.Reading.{levelMessages, quotients, allDigits, blockMessages, openMessage, inRange};
 ghost use Rattle.reading.specs.Written.{Written};
+ghost use Rattle.reading.specs.Holding.{HoldsLevels};
 
-// Every byte is made 0.
-pub fn clear(out: &mut [u8])
-    ensures { λ _. ⌜ now (out .exit) ≡ table (length (now (out .entry))) (λ i. 0) ⌝ }
-{
-    let mut byte: usize = 0;
-    while byte < out.len() {
-        out[byte] = 0;
-        byte += 1;
-    }
-}
-
-// The bits of the levels, from bit 0 on.
-pub fn write_levels(kind: u8, frame: &[i32], out: &mut [u8])
-    requires { ⌜ (isKind kind ≡ true) × (length (now frame) ≡ 2 ^ kind) × (levelBits kind ≤ 8 * length (now out)) ⌝ }
-    ensures { λ _. ⌜ Written 0 (levelMessages kind 0 (degrees kind) (now (frame .entry))) (now (out .entry)) (now (out .exit)) ⌝ }
+// The bits of the levels, from bit 0 on: of any frame whose levels are held.
+pub fn write_levels(kind: u8, words: &[u64], out: &mut [u8])
+    requires { ⌜ (isKind kind ≡ true) × (levels kind ≤ length (now words)) × (levelBits kind ≤ 8 * length (now out)) ⌝ }
+    ensures { λ _. ⌜ ((f : List ℤ) → HoldsLevels kind f (now (words .entry)) → Written 0 (levelMessages kind 0 (degrees kind) f) (now (out .entry)) (now (out .exit))) ⌝ }
 {
     let count = kind_table::levels(kind);
     let mut from: usize = 0;
     let mut i: usize = 0;
     while i < count {
-        let word = level_word(frame, i);
         let degree = kind_table::degree(kind, i);
-        reed_muller::read_held(word, kind as usize, degree, out, from);
+        let bits = words[i];
+        reed_muller::put_message(bits, kind as usize, degree, out, from);
         from += reed_muller::dimension_of(kind as usize, degree);
         i += 1;
     }
@@ -105,12 +93,13 @@ pub fn write_blocks(kind: u8, grade: usize, frame: &[i32], out: &mut [u8])
     }
 }
 
-// The whole message: every lent byte, spare bits 0.
-pub fn write_message(kind: u8, grade: u8, frame: &[i32], out: &mut [u8])
-    requires { ⌜ (isKind kind ≡ true) × (isGrade grade ≡ true) × (length (now frame) ≡ 2 ^ kind) × (inRange (now frame) ≡ true) × (length (now out) ≡ messageBytes kind grade) ⌝ }
+// The whole message: every lent byte, spare bits 0. They lie in the last byte; every other bit is one of a level or of a block.
+pub fn write_message(kind: u8, grade: u8, frame: &[i32], words: &[u64], out: &mut [u8])
+    requires { ⌜ (isKind kind ≡ true) × (isGrade grade ≡ true) × (length (now frame) ≡ 2 ^ kind) × (inRange (now frame) ≡ true) × HoldsLevels kind (now frame) (now words) × (length (now out) ≡ messageBytes kind grade) ⌝ }
     ensures { λ _. ⌜ now (out .exit) ≡ openMessage kind grade (now (frame .entry)) ⌝ }
 {
-    clear(out);
-    write_levels(kind, frame, out);
+    let last = out.len() - 1;
+    out[last] = 0;
+    write_levels(kind, words, out);
     write_blocks(kind, grade as usize, frame, out);
 }

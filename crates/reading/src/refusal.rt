@@ -1,41 +1,52 @@
 // The tests of the readings, in document 01's order. A refusal is the number of the first one that is not passed; 0 is success.
-use super::level::level_word;
+use super::level::level_words;
 ghost use mathlib.Core.Path.{_≡_};
 ghost use mathlib.Core.Bool.{true};
-ghost use Prim.Native.Nat.{_^_, _<_};
+ghost use mathlib.Core.List.{List};
+ghost use Prim.Native.Nat.{_≤_};
+ghost use lib.Dec.{leb};
+ghost use lib.IntN.{ℤ, natAbs};
 ghost use lib.ListN.{length};
-ghost use Rattle.frames.specs.Kind.{isKind, degrees};
+ghost use Rattle.frames.specs.Kind.{isKind, degrees, levels};
+ghost use Rattle.frames.specs.Sending.{unless};
 ghost use Rattle.frames.specs.Reading.{inRange, broken, openRefusal};
+ghost use Rattle.reading.specs.Holding.{HoldsLevels};
 
-// Whether every coordinate is within the ends of the open reading.
+// 1 for a coordinate beyond the ends of the open reading, 0 for one within them.
+pub fn far(z: i32) -> u32
+    ensures { λ r. ⌜ r ≡ unless (leb (natAbs z) 1048576) 1 0 ⌝ }
+{
+    if z < -1048576 {
+        return 1;
+    }
+    if 1048576 < z { 1 } else { 0 }
+}
+
+// Whether every coordinate is within the ends of the open reading. No coordinate ends the loop, so that several are tested at once.
 pub fn in_range(frame: &[i32]) -> bool
     ensures { λ r. ⌜ r ≡ inRange (now (frame .entry)) ⌝ }
 {
+    let mut out: u32 = 0;
     let mut p: usize = 0;
     while p < frame.len() {
         let z = frame[p];
-        if z < -1048576 {
-            return false;
-        }
-        if 1048576 < z {
-            return false;
-        }
+        out = out | far(z);
         p += 1;
     }
-    true
+    out == 0
 }
 
-// The number of the first level that is not a codeword, 0 where each one is.
-pub fn broken_level(kind: u8, frame: &[i32]) -> u8
-    requires { ⌜ (isKind kind ≡ true) × (length (now frame) ≡ 2 ^ kind) ⌝ }
-    ensures { λ r. ⌜ r ≡ broken kind 0 (degrees kind) (now (frame .entry)) ⌝ }
+// The number of the first level that is not a codeword, 0 where each one is: of any frame whose levels are held.
+pub fn broken_level(kind: u8, words: &[u64]) -> u8
+    requires { ⌜ (isKind kind ≡ true) × (levels kind ≤ length (now words)) ⌝ }
+    ensures { λ r. ⌜ ((f : List ℤ) → HoldsLevels kind f (now (words .entry)) → r ≡ broken kind 0 (degrees kind) f) ⌝ }
 {
     let count = kind_table::levels(kind);
     let mut i: usize = 0;
     while i < count {
-        let word = level_word(frame, i);
         let degree = kind_table::degree(kind, i);
-        if !reed_muller::holds_codeword(word, kind as usize, degree) {
+        let bits = words[i];
+        if !reed_muller::clear_above(bits, kind as usize, degree) {
             return 7 + (i as u8);
         }
         i += 1;
@@ -43,9 +54,11 @@ pub fn broken_level(kind: u8, frame: &[i32]) -> u8
     0
 }
 
-// The tests of the open reading; n message bytes are lent.
-pub fn open_refusal(kind: u8, grade: u8, frame: &[i32], n: usize) -> u8
-    ensures { λ r. ⌜ r ≡ openRefusal kind grade (now (frame .entry)) n ⌝ }
+// The tests of the open reading; n message bytes are lent. Past them, the words hold the frame's levels.
+pub fn open_refusal(kind: u8, grade: u8, frame: &[i32], n: usize, words: &mut [u64]) -> u8
+    requires { ⌜ 2 ≤ length (now words) ⌝ }
+    ensures number { λ r. ⌜ r ≡ openRefusal kind grade (now (frame .entry)) n ⌝ }
+    ensures words { λ r. ⌜ (r ≡ 0 → HoldsLevels kind (now (frame .entry)) (now (words .exit))) ⌝ }
 {
     if !kind_table::is_kind(kind) {
         return 1;
@@ -65,5 +78,6 @@ pub fn open_refusal(kind: u8, grade: u8, frame: &[i32], n: usize) -> u8
     if !in_range(frame) {
         return 6;
     }
-    broken_level(kind, frame)
+    level_words(kind, frame, words);
+    broken_level(kind, words)
 }

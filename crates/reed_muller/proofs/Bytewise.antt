@@ -1,13 +1,13 @@
--- Bits put into bytes, byte by byte: a byte blended with new bits under a mask, and bytes put one after another. Assumes nothing.
+-- Bits put into bytes, byte by byte: a byte blended with new bits under a mask, bytes put one after another, and bytes taken. Assumes nothing.
 use Prim.Native.Nat.{ℕ, zero, suc, _+_, _-_, _*_, _/_, _%_, _^_, _≤_, _<_}
-use mathlib.Core.Path.{_≡_, refl, sym, ap, ap₂, _∙_}
+use mathlib.Core.Path.{_≡_, refl, sym, ap, subst, _∙_}
 use mathlib.Core.List.{List}
-use native.Mathlib.Nat.{pow-suc, div-eq-of-lt, mod-eq-of-lt}
+use native.Mathlib.Nat.{add-mul, pow-suc, div-one, div-eq-of-lt, mod-eq-of-lt, mod-le}
 use native.Mathlib.Decide.{decLt, ℕ-discrete}
 use native.Mathlib.Omega.{arith}
 use lib.Dec.{eqb}
 use lib.Bits.{bitAnd, bitXor}
-use lib.Pow.{pow-pos, pow-mono}
+use lib.Pow.{pow-pos, pow-mono, pow-add, shr-shr}
 use lib.ListN.{length, getD, set, length-set}
 use lib.Seq.{ext-getD, getD-set-same, getD-set-other}
 use borrow.Author.Tests.{eq-eqb, ne-eqb}
@@ -15,8 +15,8 @@ use Rattle.reed_muller.specs.Level.{pick, sumTo}
 use Rattle.reed_muller.specs.Message.{messageBit, byteOf, bytesOf, withBits}
 use Rattle.reed_muller.proofs.Sum.{sum-ext}
 use Rattle.reed_muller.proofs.Table.{table-at}
-use Rattle.reed_muller.proofs.Message.{number, number-bit, number-digits, length-bytes, bits-of-bytes, bytes-ext, with-in, with-before, with-past, with-small}
-use Rattle.reed_muller.proofs.Digits.{digit, xor-digit, and-clear, and-keep, digit-mod, digit-from, shift-digit, shift-low}
+use Rattle.reed_muller.proofs.Message.{number, number-bit, number-digits, length-bytes, bit-of-byte, bits-of-bytes, bytes-ext, with-in, with-before, with-past, with-none, with-small}
+use Rattle.reed_muller.proofs.Digits.{digit, xor-digit, and-clear, and-keep, digit-none, digit-mod, digit-from, shift-digit, shift-low, joined-low, joined-high}
 
 -- ---- the number with the first c digits set
 
@@ -45,43 +45,114 @@ blend-digit x v m p = go (ℕ-discrete (digit m p) 1)
         let z : digit m p ≡ 0 = omega arith in
         rw (ne-eqb (digit m p) 1 n) (xor-digit x (bitAnd (bitXor x v) m) p ∙ omega (arith, and-clear (bitXor x v) m p z))
 
-module _ (W bits c o from i : ℕ) (old : ℕ → ℕ) (ones : o ≡ 2 ^ c - 1) (inside : 8 * i + 8 ≤ W) where
-  -- the new bits and their mask, as the code shifts them
-  abbrev new : ℕ
-  new = bits * 2 ^ (from % 8) % 2 ^ W
-
+-- the mask of c bits from bit s on, in a number of W digits: some are left past e exactly while e is before its end
+module _ (W c o s e : ℕ) (ones : o ≡ 2 ^ c - 1) where
   abbrev mask : ℕ
-  mask = o * 2 ^ (from % 8) % 2 ^ W
+  mask = o * 2 ^ s % 2 ^ W
 
-  eighth : (x p : ℕ) → p < 8 → digit (x / 2 ^ (8 * i) % 256) p ≡ digit x (8 * i + p)
-  eighth x p h = digit-mod (x / 2 ^ (8 * i)) 8 p h ∙ digit-from x (8 * i) p
-
-  abbrev at : ℕ → ℕ
-  at p = 8 * (from / 8 + i) + p
-
-  kept : (p : ℕ) (y x : ℕ) → p < 8 → digit mask (8 * i + p) ≡ 0 → withBits from c (digit bits) old (at p) ≡ old (at p) → digit x p ≡ old (at p)
-      → digit y p ≡ pick (eqb (digit (mask / 2 ^ (8 * i) % 256) p) 1) (digit (new / 2 ^ (8 * i) % 256) p) (digit x p) → digit y p ≡ withBits from c (digit bits) old (at p)
-  kept p y x h m w o e = e ∙ rw (eighth mask p h, m) (o ∙ sym w)
-
-  -- byte i from that of bit `from` on
-  pub blend-right : (x y : ℕ) → ((p : ℕ) → p < 8 → digit x p ≡ old (at p))
-      → ((p : ℕ) → digit y p ≡ pick (eqb (digit (mask / 2 ^ (8 * i) % 256) p) 1) (digit (new / 2 ^ (8 * i) % 256) p) (digit x p))
-      → (p : ℕ) → p < 8 → digit y p ≡ withBits from c (digit bits) old (at p)
-  blend-right x y was is p h = go (decLt (8 * i + p) (from % 8)) (decLt (8 * i + p) (from % 8 + c))
+  mask-left : 0 < mask / 2 ^ e → e < s + c
+  mask-left h = go (decLt e (s + c))
     where
-      go : Dec (8 * i + p < from % 8) → Dec (8 * i + p < from % 8 + c) → digit y p ≡ withBits from c (digit bits) old (at p)
+      less : s + c ≤ e → mask < 2 ^ e
+      less l =
+          let up : o + 1 ≡ 2 ^ c = omega (arith, ones, pow-pos c) in
+          omega (
+            arith,
+            ap (λ (x : ℕ). x * 2 ^ s) up,
+            add-mul o 1 (2 ^ s),
+            pow-add 2 c s,
+            pow-pos s,
+            pow-mono {i = c + s} {j = e} (omega arith),
+            mod-le (o * 2 ^ s) (2 ^ W),
+          )
+
+      go : Dec (e < s + c) → e < s + c
+      go (yes l) = l
+      go (no k) = absurd (omega (arith, h, div-eq-of-lt (less (omega arith))))
+
+  mask-none : s + c ≤ W → 0 < c → mask / 2 ^ e ≡ 0 → s + c ≤ e
+  mask-none room more z = go (decLt e (s + c))
+    where
+      last : e < s + c → digit mask (s + c - 1) ≡ 0
+      last l =
+          let i : s + c - 1 ≡ e + (s + c - 1 - e) = omega arith in
+          ap (digit mask) i ∙ sym (digit-from mask e (s + c - 1 - e)) ∙ ap (λ (x : ℕ). digit x (s + c - 1 - e)) z ∙ digit-none (s + c - 1 - e)
+
+      go : Dec (e < s + c) → s + c ≤ e
+      go (no k) = omega arith
+      go (yes l) =
+          absurd (omega (arith, last l, shift-digit o s W (s + c - 1) (omega arith) (omega arith), ones-below c o ones (s + c - 1 - s) (omega arith)))
+
+-- the new bits v and their mask m at byte j, as the code shifts them from byte to byte
+pub record Shifted (W bits o from j v m : ℕ) : Type 0 where
+  pub begun : from / 8 ≤ j
+  pub is-v : v ≡ bits * 2 ^ (from % 8) % 2 ^ W / 2 ^ (8 * (j - from / 8))
+  pub is-m : m ≡ o * 2 ^ (from % 8) % 2 ^ W / 2 ^ (8 * (j - from / 8))
+
+pub shifted-first : (W bits o from : ℕ) → Shifted W bits o from (from / 8) (bits * 2 ^ (from % 8) % 2 ^ W) (o * 2 ^ (from % 8) % 2 ^ W)
+shifted-first W bits o from = record { begun = omega arith; is-v = whole _; is-m = whole _ }
+  where
+    whole : (x : ℕ) → x ≡ x / 2 ^ (8 * (from / 8 - from / 8))
+    whole x = let z : 8 * (from / 8 - from / 8) ≡ 0 = omega arith in sym (ap (λ (i : ℕ). x / 2 ^ i) z ∙ div-one x)
+
+pub shifted-next : {W bits o from j v m : ℕ} → Shifted W bits o from j v m → Shifted W bits o from (j + 1) (v / 256) (m / 256)
+shifted-next {W} {bits} {o} {from} {j} sh = record { begun = omega (arith, sh .begun); is-v = less _ _ (sh .is-v); is-m = less _ _ (sh .is-m) }
+  where
+    less : (x y : ℕ) → y ≡ x / 2 ^ (8 * (j - from / 8)) → y / 256 ≡ x / 2 ^ (8 * (j + 1 - from / 8))
+    less x y e =
+        let i : 8 * (j - from / 8) + 8 ≡ 8 * (j + 1 - from / 8) = omega (arith, sh .begun) in
+        ap (λ (z : ℕ). z / 256) e ∙ shr-shr x (8 * (j - from / 8)) 8 ∙ ap (λ (i : ℕ). x / 2 ^ i) i
+
+module _ {W bits o from j v m : ℕ} (sh : Shifted W bits o from j v m) (c : ℕ) (ones : o ≡ 2 ^ c - 1) (old : ℕ → ℕ) where
+  -- the bits once they are put
+  abbrev then : ℕ → ℕ
+  then = withBits from c (digit bits) old
+
+  -- while bits of the mask are left, byte j has new ones, and then none
+  pub within : 0 < m → 8 * j < from + c
+  within h = omega (arith, sh .begun, mask-left W c o (from % 8) (8 * (j - from / 8)) ones (subst (λ (x : ℕ). 0 < x) (sh .is-m) h))
+
+  pub beyond : from % 8 + c ≤ W → m ≡ 0 → (q : ℕ) → 8 * j ≤ q → then q ≡ old q
+  beyond room z q l = go (decLt 0 c)
+    where
+      go : Dec (0 < c) → then q ≡ old q
+      go (yes k) =
+          with-past from c (digit bits) old q
+          (omega (arith, l, sh .begun, mask-none W c o (from % 8) (8 * (j - from / 8)) ones room k (sym (sh .is-m) ∙ z)))
+      go (no k) = let e : c ≡ 0 = omega arith in ap (λ (n : ℕ). withBits from n (digit bits) old q) e ∙ with-none from (digit bits) old q
+
+  -- where bit p of byte j stands in what is shifted
+  abbrev there : ℕ → ℕ
+  there p = 8 * (j - from / 8) + p
+
+  eighth : (x y p : ℕ) → p < 8 → x ≡ y / 2 ^ (8 * (j - from / 8)) → digit (x % 256) p ≡ digit y (there p)
+  eighth x y p h e = digit-mod x 8 p h ∙ ap (λ (x : ℕ). digit x p) e ∙ digit-from y (8 * (j - from / 8)) p
+
+  kept : (p : ℕ) (y x : ℕ) → digit (m % 256) p ≡ 0 → then (8 * j + p) ≡ old (8 * j + p) → digit x p ≡ old (8 * j + p)
+      → digit y p ≡ pick (eqb (digit (m % 256) p) 1) (digit (v % 256) p) (digit x p) → digit y p ≡ then (8 * j + p)
+  kept p y x z w o e = e ∙ rw z (o ∙ sym w)
+
+  pub blend-right : 8 * (j - from / 8) + 8 ≤ W → (x y : ℕ) → ((p : ℕ) → p < 8 → digit x p ≡ old (8 * j + p))
+      → ((p : ℕ) → digit y p ≡ pick (eqb (digit (m % 256) p) 1) (digit (v % 256) p) (digit x p)) → (p : ℕ) → p < 8 → digit y p ≡ then (8 * j + p)
+  blend-right inside x y was is p h = go (decLt (there p) (from % 8)) (decLt (there p) (from % 8 + c))
+    where
+      masked : digit (m % 256) p ≡ digit (o * 2 ^ (from % 8) % 2 ^ W) (there p)
+      masked = eighth m (o * 2 ^ (from % 8) % 2 ^ W) p h (sh .is-m)
+
+      go : Dec (there p < from % 8) → Dec (there p < from % 8 + c) → digit y p ≡ then (8 * j + p)
       go (yes l) d =
-          kept p y x h (shift-low o (from % 8) W (8 * i + p) l (omega arith)) (with-before from c (digit bits) old (at p) (omega arith)) (was p h) (is p)
+          kept p y x (masked ∙ shift-low o (from % 8) W (there p) l (omega arith))
+          (with-before from c (digit bits) old (8 * j + p) (omega (arith, sh .begun))) (was p h) (is p)
       go (no k) (yes l) =
-          let one : digit mask (8 * i + p) ≡ 1 = shift-digit o (from % 8) W (8 * i + p) (omega arith) (omega arith) ∙ ones-below c o ones (8 * i + p - from % 8) (omega arith) in
-          let e : at p ≡ from + (8 * i + p - from % 8) = omega arith in
-          is p ∙ rw (eighth mask p h, one)
-          (eighth new p h ∙ shift-digit bits (from % 8) W (8 * i + p) (omega arith) (omega arith)
-          ∙ sym (ap (withBits from c (digit bits) old) e ∙ with-in from c (digit bits) old (8 * i + p - from % 8) (omega arith)))
+          let one : digit (m % 256) p ≡ 1 = masked ∙ shift-digit o (from % 8) W (there p) (omega arith) (omega arith) ∙ ones-below c o ones (there p - from % 8) (omega arith) in
+          let e : 8 * j + p ≡ from + (there p - from % 8) = omega (arith, sh .begun) in
+          is p ∙ rw one
+          (eighth v (bits * 2 ^ (from % 8) % 2 ^ W) p h (sh .is-v) ∙ shift-digit bits (from % 8) W (there p) (omega arith) (omega arith)
+          ∙ sym (ap then e ∙ with-in from c (digit bits) old (there p - from % 8) (omega arith)))
       go (no k) (no l) =
-          kept p y x h
-          (shift-digit o (from % 8) W (8 * i + p) (omega arith) (omega arith) ∙ ones-past c o ones (8 * i + p - from % 8) (omega arith))
-          (with-past from c (digit bits) old (at p) (omega arith)) (was p h) (is p)
+          kept p y x
+          (masked ∙ shift-digit o (from % 8) W (there p) (omega arith) (omega arith) ∙ ones-past c o ones (there p - from % 8) (omega arith))
+          (with-past from c (digit bits) old (8 * j + p) (omega (arith, sh .begun))) (was p h) (is p)
 
 -- ---- bytes put one after another
 
@@ -105,11 +176,8 @@ module _ (n : ℕ) (new old : ℕ → ℕ) (new-small : (i : ℕ) → new i < 2)
 
   module _ (j : ℕ) (h : j < n) where
     pub next-byte : (p : ℕ) → p < 8 → digit (getD (upTo j) j 0) p ≡ old (8 * j + p)
-    unfolding messageBit
     next-byte p l =
-        let a : (8 * j + p) / 8 ≡ j = omega arith in
-        let b : (8 * j + p) % 8 ≡ p = omega arith in
-        sym (ap₂ (λ (a b : ℕ). getD (upTo j) a 0 / 2 ^ b % 2) a b)
+        sym (bit-of-byte (upTo j) j p l)
         ∙ bits-of-bytes n (withBits 0 (8 * j) new old) (λ k u. with-small 0 (8 * j) new old new-small old-small k) (8 * j + p) (omega arith)
         ∙ above j (8 * j + p) (omega arith)
 
@@ -162,3 +230,20 @@ module _ (from count : ℕ) (f g old : ℕ → ℕ) (h : (k : ℕ) → k < count
           ap (withBits from count f old) e ∙ with-in from count f old (i - from) (omega arith) ∙ h (i - from) (omega arith)
           ∙ sym (ap (withBits from count g old) e ∙ with-in from count g old (i - from) (omega arith))
       go (no k) (no l) = with-past from count f old i (omega arith) ∙ sym (with-past from count g old i (omega arith))
+
+-- ---- bytes taken from the last to the first
+
+module _ (xs : List ℕ) (bytes : (j : ℕ) → getD xs j 0 < 256) (j c w : ℕ) where
+  pub byte-taken : ((q : ℕ) → q < c → digit w q ≡ messageBit xs (8 * (j + 1) + q)) → (q : ℕ) → q < 8 + c → digit (256 * w + getD xs j 0) q ≡ messageBit xs (8 * j + q)
+  byte-taken so q l = go (decLt q 8)
+    where
+      go : Dec (q < 8) → digit (256 * w + getD xs j 0) q ≡ messageBit xs (8 * j + q)
+      go (yes u) = joined-low 8 w (getD xs j 0) q u ∙ sym (bit-of-byte xs j q u)
+      go (no k) =
+          let e : q ≡ 8 + (q - 8) = omega arith in
+          let f : 8 * (j + 1) + (q - 8) ≡ 8 * j + q = omega arith in
+          ap (digit (256 * w + getD xs j 0)) e ∙ joined-high 8 w (getD xs j 0) (bytes j) (q - 8)
+          ∙ so (q - 8) (omega arith) ∙ ap (messageBit xs) f
+
+  pub taken-fits : w < 2 ^ c → 256 * w + getD xs j 0 < 2 ^ (8 + c)
+  taken-fits h = omega (arith, pow-add 2 8 c, bytes j)

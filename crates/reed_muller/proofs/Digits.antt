@@ -1,15 +1,15 @@
 -- Binary digits of numbers that are added modulo 2, masked, shifted and doubled. Assumes nothing.
 use Prim.Native.Nat.{ℕ, zero, suc, _+_, _-_, _*_, _/_, _%_, _^_, _≤_, _<_, min}
 use mathlib.Core.Path.{_≡_, refl, sym, ap, _∙_}
-use native.Mathlib.Nat.{add-zero, min-zero, min-le-left, min-eq-left, div-one, div-eq-of-lt, zero-div, mod-eq-of-lt, pow-suc}
+use native.Mathlib.Nat.{add-zero, min-zero, min-le-left, min-eq-left, div-one, div-eq-of-lt, zero-div, mod-eq-of-lt, pow-suc, mul-comm}
 use native.Mathlib.Decide.{decLt, ℕ-discrete}
 use native.Mathlib.Omega.{arith}
-use lib.Pow.{split, shl-shr, shr-shr, pow-mono}
+use lib.Pow.{high, split, shl-shr, shr-shr, pow-mono}
 use lib.Bits.{bitAnd, bitXor, and-step, and-shr, xor-step, xor-shr, differ}
 use borrow.Author.Tests.{eq-eqb, ne-eqb}
 use lib.Dec.{eqb}
 use Rattle.reed_muller.specs.Level.{given}
-use Rattle.reed_muller.proofs.Message.{under, div-suc}
+use Rattle.reed_muller.proofs.Message.{under}
 
 abbrev pub digit : ℕ → ℕ → ℕ
 digit x p = x / 2 ^ p % 2
@@ -82,22 +82,25 @@ bit-digit b S W p hb u = go (ℕ-discrete p S) (decLt p S)
         (shift-digit b S W p (omega arith) u
         ∙ ap (λ (y : ℕ). y % 2) (div-eq-of-lt (omega (arith, pow-mono {i = 1} {j = p - S} (omega arith)))))
 
--- ---- one digit more, at the low end
+-- ---- k digits more, at the low end
 
-module _ (w x : ℕ) (h : x < 2) where
-  digit-first : digit (2 * w + x) 0 ≡ x
-  digit-first = ap (λ (y : ℕ). y % 2) (div-one (2 * w + x)) ∙ omega arith
+module _ (k w x : ℕ) where
+  pub joined-low : (i : ℕ) → i < k → digit (2 ^ k * w + x) i ≡ digit x i
+  joined-low i h = ap (λ (y : ℕ). digit (y + x) i) (mul-comm (2 ^ k) w) ∙ under x w k i h
 
-  digit-later : (i : ℕ) → digit (2 * w + x) (suc i) ≡ digit w i
-  digit-later i =
-      let e : (2 * w + x) / 2 ≡ w = omega arith in
-      ap (λ (y : ℕ). y % 2) (div-suc (2 * w + x) i ∙ ap (λ (y : ℕ). y / 2 ^ i) e)
+  pub joined-high : x < 2 ^ k → (i : ℕ) → digit (2 ^ k * w + x) (k + i) ≡ digit w i
+  joined-high h i =
+      sym (digit-from (2 ^ k * w + x) k i)
+      ∙ ap (λ (y : ℕ). digit y i) (ap (λ (y : ℕ). (y + x) / 2 ^ k) (mul-comm (2 ^ k) w) ∙ high w k h)
 
 -- digits from p on, and the one before them
 module _ (f : ℕ → ℕ) (n p w : ℕ) (h : 0 < p) (small : f (p - 1) < 2) where
   pub digits-more : ((i : ℕ) → p + i < n → digit w i ≡ f (p + i)) → (i : ℕ) → p - 1 + i < n → digit (2 * w + f (p - 1)) i ≡ f (p - 1 + i)
-  digits-more so zero l = digit-first w (f (p - 1)) small ∙ ap f (omega arith)
-  digits-more so (suc i) l = digit-later w (f (p - 1)) small i ∙ so i (omega arith) ∙ ap f (omega arith)
+  digits-more so zero l =
+      joined-low 1 w (f (p - 1)) 0 (omega arith) ∙ ap (λ (y : ℕ). y % 2) (div-one (f (p - 1))) ∙ mod-eq-of-lt small ∙ ap f (omega arith)
+  digits-more so (suc i) l =
+      let e : suc i ≡ 1 + i = omega arith in
+      ap (digit (2 * w + f (p - 1))) e ∙ joined-high 1 w (f (p - 1)) small i ∙ so i (omega arith) ∙ ap f (omega arith)
 
   pub digits-fit : p ≤ n → w < 2 ^ (n - p) → 2 * w + f (p - 1) < 2 ^ (n - (p - 1))
   digits-fit l b = let e : n - (p - 1) ≡ suc (n - p) = omega arith in rw (e, pow-suc) (omega arith)

@@ -1,4 +1,4 @@
--- Words held in numbers, by the masks of the order: coefficients put one after another, and the test of a word. For every r ≤ m. Assumes nothing.
+-- Words held in numbers, by the masks of the order: coefficients put one after another, the message read, and the test of the bits. For every r ≤ m. Assumes nothing.
 use Prim.Native.Nat.{ℕ, _+_, _-_, _*_, _%_, _^_, _≤_, _<_}
 use mathlib.Core.Path.{_≡_, refl, sym, ap, _∙_}
 use mathlib.Core.Bool.{Bool, true, false, true≢false}
@@ -12,14 +12,16 @@ use lib.Count.{ones}
 use lib.Pow.{pow-pos}
 use lib.ListN.{getD}
 use borrow.Author.Tests.{eq-eqb, ne-eqb, le-leb, lt-leb, lt-ltb, le-ltb}
-use Rattle.reed_muller.specs.Level.{sumTo, table, given, weight, order, place, dimension, backwards, belongs}
-use Rattle.reed_muller.proofs.Order.{order-place, place-order, place-light, order-light}
-use Rattle.reed_muller.proofs.Codeword.{coefficient}
-use Rattle.reed_muller.proofs.Belongs.{belongs-of, belongs-above}
+use Rattle.reed_muller.specs.Level.{sumTo, table, given, weight, order, place, dimension, backwards, clearAbove}
+use Rattle.reed_muller.specs.Message.{bytesOf, withBits}
+use Rattle.reed_muller.proofs.Order.{order-place, order-below, place-order, place-light, order-light, dimension-small}
+use Rattle.reed_muller.proofs.Codeword.{coefficient, readBits}
+use Rattle.reed_muller.proofs.Belongs.{clear-true, clear-zero}
 use Rattle.reed_muller.proofs.Sum.{sum-zero}
 use Rattle.reed_muller.proofs.Table.{table-at}
-use Rattle.reed_muller.proofs.Message.{number, number-bit, number-digits}
+use Rattle.reed_muller.proofs.Message.{number, number-bit, number-digits, bytes-ext}
 use Rattle.reed_muller.proofs.Digits.{digit, digit-none, and-clear, and-keep, shift-digit, shift-low}
+use Rattle.reed_muller.proofs.Bytewise.{with-ext}
 
 -- the coefficients of the first k masks of the order, and 0 at the others
 abbrev pub firstOf : ℕ → (ℕ → ℕ) → ℕ → ℕ → ℕ
@@ -59,37 +61,46 @@ module _ (m : ℕ) (bit : ℕ → ℕ) (small : (k : ℕ) → bit k < 2) (S : �
       go (no n) (yes d) = absurd (omega (arith, n, order-light r m hr (place (order m) S) d, ap weight (place-order m S h .1)))
       go (no n) (no d) = rw (lt-leb (weight S) r (omega arith), le-ltb (place (order m) S) (dimension r m) (omega arith))
 
--- ---- the test of a word, its masks held in a number of W digits
+-- ---- the message bits read, put into bytes
+
+module _ (r m : ℕ) (hr : r ≤ m) (bit v : ℕ → ℕ) (is : (S : ℕ) → S < 2 ^ m → bit S ≡ backwards m v S) where
+  pub put-read : (n from : ℕ) (old : ℕ → ℕ)
+      → bytesOf n (withBits from (dimension r m) (λ k. bit (getD (order m) k 0)) old) ≡ bytesOf n (withBits from (dimension r m) (readBits m v) old)
+  put-read n from old =
+      bytes-ext n _ _ (λ i l. with-ext from (dimension r m) (λ k. bit (getD (order m) k 0)) (readBits m v) old
+      (λ k h. is (getD (order m) k 0) (order-below m k (omega (arith, dimension-small r m hr)))) i)
+
+-- ---- the test of the bits of the masks, held in a number of W digits
 
 -- 0 is the number with no digit set
 no-digits : (x W : ℕ) → x < 2 ^ W → ((p : ℕ) → p < W → digit x p ≡ 0) → x ≡ 0
 no-digits x W l h =
     sym (mod-eq-of-lt l) ∙ sym (number-digits x W) ∙ sum-zero W _ (λ p u. ap (λ (y : ℕ). y * 2 ^ p) (h p u) ∙ zero-mul (2 ^ p))
 
-module _ (W r m b h : ℕ) (value : ℕ → ℕ) (room : 2 ^ m ≤ W) (bits : (S : ℕ) → S < 2 ^ m → digit b S ≡ backwards m value S) (heavy : (S : ℕ) → S < W → digit h S ≡ given (ltb r (weight S)) 1) where
+module _ (W r m b h : ℕ) (room : 2 ^ m ≤ W) (heavy : (S : ℕ) → S < W → digit h S ≡ given (ltb r (weight S)) 1) where
   -- as the code computes it
   abbrev tested-bits : ℕ
   tested-bits = bitAnd b h * 2 ^ (W - 2 ^ m) % 2 ^ W
 
-  at-heavy : (S : ℕ) → S < 2 ^ m → r < weight S → digit (bitAnd b h) S ≡ backwards m value S
-  at-heavy S l w = and-keep b h S (heavy S (omega arith) ∙ rw (lt-ltb r (weight S) w)) ∙ bits S l
+  at-heavy : (S : ℕ) → S < 2 ^ m → r < weight S → digit (bitAnd b h) S ≡ digit b S
+  at-heavy S l w = and-keep b h S (heavy S (omega arith) ∙ rw (lt-ltb r (weight S) w))
 
   at-light : (S : ℕ) → S < 2 ^ m → weight S ≤ r → digit (bitAnd b h) S ≡ 0
   at-light S l w = and-clear b h S (heavy S (omega arith) ∙ rw (le-ltb r (weight S) w))
 
-  clear-belongs : tested-bits ≡ 0 → belongs r m value ≡ true
-  clear-belongs e = belongs-of r m value (λ S l w.
+  none-above : tested-bits ≡ 0 → (S : ℕ) → S < 2 ^ m → r < weight S → digit b S ≡ 0
+  none-above e S l w =
       let back : W - 2 ^ m + S - (W - 2 ^ m) ≡ S = omega arith in
       sym (at-heavy S l w) ∙ ap (digit (bitAnd b h)) (sym back)
       ∙ sym (shift-digit (bitAnd b h) (W - 2 ^ m) W (W - 2 ^ m + S) (omega arith) (omega arith))
-      ∙ ap (λ (x : ℕ). digit x (W - 2 ^ m + S)) e ∙ digit-none (W - 2 ^ m + S))
+      ∙ ap (λ (x : ℕ). digit x (W - 2 ^ m + S)) e ∙ digit-none (W - 2 ^ m + S)
 
-  belongs-clear : belongs r m value ≡ true → tested-bits ≡ 0
-  belongs-clear t = no-digits tested-bits W (mod-lt _ (pow-pos W)) (λ p u. go p u (decLt p (W - 2 ^ m)))
+  none-left : ((S : ℕ) → S < 2 ^ m → r < weight S → digit b S ≡ 0) → tested-bits ≡ 0
+  none-left z = no-digits tested-bits W (mod-lt _ (pow-pos W)) (λ p u. go p u (decLt p (W - 2 ^ m)))
     where
       here : (S : ℕ) → S < 2 ^ m → Dec (weight S ≤ r) → digit (bitAnd b h) S ≡ 0
       here S l (yes w) = at-light S l w
-      here S l (no w) = let u : r < weight S = omega arith in at-heavy S l u ∙ belongs-above r m value t S l u
+      here S l (no w) = let u : r < weight S = omega arith in at-heavy S l u ∙ z S l u
 
       go : (p : ℕ) → p < W → Dec (p < W - 2 ^ m) → digit tested-bits p ≡ 0
       go p u (yes l) = shift-low (bitAnd b h) (W - 2 ^ m) W p l u
@@ -97,12 +108,12 @@ module _ (W r m b h : ℕ) (value : ℕ → ℕ) (room : 2 ^ m ≤ W) (bits : (S
           shift-digit (bitAnd b h) (W - 2 ^ m) W p (omega arith) u
           ∙ here (p - (W - 2 ^ m)) (omega arith) (decLe (weight (p - (W - 2 ^ m))) r)
 
-  pub held-belongs : eqb tested-bits 0 ≡ belongs r m value
-  held-belongs = go (belongs r m value) refl
+  pub held-clear : eqb tested-bits 0 ≡ clearAbove r (digit b) (2 ^ m)
+  held-clear = go (clearAbove r (digit b) (2 ^ m)) refl
     where
-      go : (t : Bool) → belongs r m value ≡ t → eqb tested-bits 0 ≡ t
-      go true e = eq-eqb tested-bits 0 (belongs-clear e)
-      go false e = ne-eqb tested-bits 0 (λ z. true≢false (sym (clear-belongs z) ∙ e))
+      go : (t : Bool) → clearAbove r (digit b) (2 ^ m) ≡ t → eqb tested-bits 0 ≡ t
+      go true e = eq-eqb tested-bits 0 (none-left (clear-zero r (digit b) (2 ^ m) e))
+      go false e = ne-eqb tested-bits 0 (λ z. true≢false (sym (clear-true r (digit b) (2 ^ m) (none-above z)) ∙ e))
 
 -- the words of the masks below 64 with more than r bits set
 abbrev heavy-words : List ℕ

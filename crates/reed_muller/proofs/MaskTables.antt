@@ -8,7 +8,7 @@ use lib.ListN.{getD}
 use lib.Pow.{pow-mono, pow-add}
 use Rattle.reed_muller.specs.Level.{ofWeight, masks, order, place, table, dimension, Tabled}
 use Rattle.reed_muller.proofs.Table.{table-at}
-use Rattle.reed_muller.proofs.Order.{order-below}
+use Rattle.reed_muller.proofs.Order.{order-below, dimension-small}
 
 -- the tables of length 2 ^ m: the masks in order, their places, the dimensions for r = 0, .., m
 pub record Right (m : ℕ) (os ps ds : List ℕ) : Type 0 where
@@ -75,6 +75,10 @@ short h = pow-mono {j = 6} (omega arith)
 -- and so are the masks
 pub mask-short : {m k S : ℕ} → Tabled m → k < 2 ^ m → S ≡ getD (order m) k 0 → S < 64
 mask-short {m} {k} h l e = omega (arith, short h, order-below m k l)
+
+-- and the messages
+pub few-bits : {m r : ℕ} → Tabled m → r ≤ m → dimension r m ≤ 32
+few-bits {m} {r} h hr = omega (arith, dimension-small r m hr, pow-mono {i = m} {j = 5} (h .1))
 
 -- they are a whole number of eights
 pub eights : {m : ℕ} → Tabled m → 2 ^ m % 8 ≡ 0

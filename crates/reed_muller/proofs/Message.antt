@@ -28,7 +28,7 @@ number-lt b zero h = omega arith
 number-lt b (suc n) h =
     rw pow-suc (omega (arith, number-lt b n (λ i l. h i (omega arith)), mul-le-mul-right (2 ^ n) (le-of-suc-le-suc (h n (omega arith)))))
 
-pub div-suc : (x i : ℕ) → x / 2 ^ suc i ≡ x / 2 / 2 ^ i
+div-suc : (x i : ℕ) → x / 2 ^ suc i ≡ x / 2 / 2 ^ i
 div-suc x i = sym (shr-shr x 1 i ∙ ap (λ (j : ℕ). x / 2 ^ j) (omega arith))
 
 -- digit i of a number, under a higher digit
@@ -87,14 +87,18 @@ pub bytes-ext : (n : ℕ) (f g : ℕ → ℕ) → ((k : ℕ) → k < 8 * n → f
 unfolding bytesOf byteOf
 bytes-ext n f g h = table-ext n (λ j l. sum-ext 8 (λ i hi. ap (λ (x : ℕ). x * 2 ^ i) (h (8 * j + i) (omega arith))))
 
+-- bit p of byte j
+pub bit-of-byte : (xs : List ℕ) (j p : ℕ) → p < 8 → messageBit xs (8 * j + p) ≡ getD xs j 0 / 2 ^ p % 2
+unfolding messageBit
+bit-of-byte xs j p h =
+    let a : (8 * j + p) / 8 ≡ j = omega arith in
+    let b : (8 * j + p) % 8 ≡ p = omega arith in
+    ap₂ (λ (a b : ℕ). getD xs a 0 / 2 ^ b % 2) a b
+
 byte-of-bits : (xs : List ℕ) → ((j : ℕ) → getD xs j 0 < 256) → (j : ℕ) → byteOf (messageBit xs) j ≡ getD xs j 0
-unfolding messageBit byteOf
+unfolding byteOf
 byte-of-bits xs h j =
-    sum-ext 8 (λ i hi.
-    let a : (8 * j + i) / 8 ≡ j = omega arith in
-    let b : (8 * j + i) % 8 ≡ i = omega arith in
-    ap₂ (λ (a b : ℕ). getD xs a 0 / 2 ^ b % 2 * 2 ^ i) a b)
-    ∙ number-digits (getD xs j 0) 8 ∙ mod-eq-of-lt (h j)
+    sum-ext 8 (λ i hi. ap (λ (x : ℕ). x * 2 ^ i) (bit-of-byte xs j i hi)) ∙ number-digits (getD xs j 0) 8 ∙ mod-eq-of-lt (h j)
 
 -- a table of the bytes' values is the bytes
 pub bytes-are : (xs : List ℕ) (f : ℕ → ℕ) → ((j : ℕ) → j < length xs → f j ≡ getD xs j 0) → table (length xs) f ≡ xs

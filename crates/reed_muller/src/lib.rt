@@ -1,11 +1,11 @@
 // Level codes: the order of masks, codewords of RM(r,m) and the way back, and the bits of a message's bytes.
 // A word is a lent slice of 2 ^ m bytes; where it is only read, bytes past these do not count. `Tabled m`: length 2 ^ m has a table of masks.
-// The work is done on a whole word at once, held in a number: bit p is the value at p.
+// The work is done on numbers that hold a whole word, message or transform: bit p is the value at p, bit k message bit k, bit S the bit of mask S.
 ghost use mathlib.Core.Path.{_≡_};
 ghost use Prim.Native.Nat.{ℕ, _+_, _*_, _/_, _%_, _^_, _<_, _≤_};
 ghost use lib.Dec.{eqb, leb, ltb};
 ghost use lib.ListN.{length, getD};
-ghost use Rattle.reed_muller.specs.Level.{pick, given, weight, table, order, place, dimension, codeword, backwards, belongs, Tabled};
+ghost use Rattle.reed_muller.specs.Level.{pick, given, weight, table, order, place, dimension, codeword, backwards, clearAbove, belongs, Tabled};
 ghost use Rattle.reed_muller.specs.Message.{messageBit, bytesOf, withBit, withBits};
 
 // The masks of each length by number of set bits, then by value.
@@ -207,16 +207,33 @@ pub fn put_bits(bits: u64, count: usize, out: &mut [u8], from: usize)
 {
     let first = from / 8;
     let s = from % 8;
-    let v = bits << s;
-    let m = ((1u64 << count) - 1) << s;
-    let mut i: usize = 0;
-    while 8 * i < s + count {
-        let t = 8 * i;
-        let j = first + i;
+    let mut v = bits << s;
+    let mut m = ((1u64 << count) - 1) << s;
+    let mut j = first;
+    while 0 < m {
         let x = out[j];
-        out[j] = blended(x, ((v >> t) % 256) as u8, ((m >> t) % 256) as u8);
-        i += 1;
+        out[j] = blended(x, (v % 256) as u8, (m % 256) as u8);
+        v = v >> 8;
+        m = m >> 8;
+        j += 1;
     }
+}
+
+// The message bits from bit `from` on, held in a number, byte by byte.
+pub fn bits_at(message: &[u8], from: usize, count: usize) -> u64
+    requires { ⌜ (count ≤ 56) × (from ≤ 1000) × (from + count ≤ 8 * length (now message)) ⌝ }
+    ensures { λ w. ⌜ ((t : ℕ) → t < count → w / 2 ^ t % 2 ≡ messageBit (now (message .entry)) (from + t)) ⌝ }
+{
+    let first = from / 8;
+    let s = from % 8;
+    let mut w: u64 = 0;
+    let mut i = (s + count + 7) / 8;
+    while 0 < i {
+        i -= 1;
+        let j = first + i;
+        w = 256 * w + message[j] as u64;
+    }
+    w >> s
 }
 
 // The value at p of the codeword of RM(r,m) of the message bits from bit `from` on.
@@ -263,7 +280,7 @@ fn with_digit(j: usize) -> u64
 }
 
 // Backwards, all masks at once, of a word held in a number: stage j adds to each value with digit j set the one without it.
-fn transformed(w: u64) -> u64
+pub fn transformed(w: u64) -> u64
     ensures { λ t. ⌜ ((m S : ℕ) → m ≤ 6 → S < 2 ^ m → t / 2 ^ S % 2 ≡ backwards m (λ p. w / 2 ^ p % 2) S) ⌝ }
 {
     let mut t = w;
@@ -289,41 +306,41 @@ fn parities(word: &[u8], m: usize) -> u64
     w
 }
 
-// The message bits from bit `from` on, each at its mask, held in a number.
-fn coefficients(message: &[u8], from: usize, m: usize, r: usize, masks: &[u8]) -> u64
-    requires { ⌜ Tabled m × (r ≤ m) × (from ≤ 1000) × (from + dimension r m ≤ 8 * length (now message)) × (now masks ≡ order m) ⌝ }
-    ensures { λ w. ⌜ ((S : ℕ) → S < 2 ^ m → w / 2 ^ S % 2 ≡ given (leb (weight S) r) (messageBit (now (message .entry)) (from + place (order m) S))) ⌝ }
+// Message bits held in a number, each at its mask.
+fn coefficients(bits: u64, m: usize, r: usize, masks: &[u8]) -> u64
+    requires { ⌜ Tabled m × (r ≤ m) × (now masks ≡ order m) ⌝ }
+    ensures { λ w. ⌜ ((S : ℕ) → S < 2 ^ m → w / 2 ^ S % 2 ≡ given (leb (weight S) r) (bits / 2 ^ place (order m) S % 2)) ⌝ }
 {
     let count = dimension_of(m, r);
     let mut w: u64 = 0;
     let mut k: usize = 0;
     while k < count {
-        w = w ^ ((bit(message, from + k) as u64) << masks[k]);
+        w = w ^ (((bits >> k) % 2) << masks[k]);
         k += 1;
     }
     w
 }
 
-// The codeword of RM(r,m) of the message bits from bit `from` on, held in a number.
-fn codeword_by(message: &[u8], from: usize, m: usize, r: usize, masks: &[u8]) -> u64
-    requires { ⌜ Tabled m × (r ≤ m) × (from ≤ 1000) × (from + dimension r m ≤ 8 * length (now message)) × (now masks ≡ order m) ⌝ }
-    ensures { λ w. ⌜ ((p : ℕ) → p < 2 ^ m → w / 2 ^ p % 2 ≡ codeword r m (λ k. messageBit (now (message .entry)) (from + k)) p) ⌝ }
+// The codeword of RM(r,m) of message bits held in a number, itself held in a number.
+fn codeword_by(bits: u64, m: usize, r: usize, masks: &[u8]) -> u64
+    requires { ⌜ Tabled m × (r ≤ m) × (now masks ≡ order m) ⌝ }
+    ensures { λ w. ⌜ ((p : ℕ) → p < 2 ^ m → w / 2 ^ p % 2 ≡ codeword r m (λ k. bits / 2 ^ k % 2) p) ⌝ }
 {
-    transformed(coefficients(message, from, m, r, masks))
+    transformed(coefficients(bits, m, r, masks))
 }
 
 // The same, by the table of masks of its length.
-fn codeword_of(message: &[u8], from: usize, m: usize, r: usize) -> u64
-    requires { ⌜ Tabled m × (r ≤ m) × (from ≤ 1000) × (from + dimension r m ≤ 8 * length (now message)) ⌝ }
-    ensures { λ w. ⌜ ((p : ℕ) → p < 2 ^ m → w / 2 ^ p % 2 ≡ codeword r m (λ k. messageBit (now (message .entry)) (from + k)) p) ⌝ }
+pub fn codeword_held(bits: u64, m: usize, r: usize) -> u64
+    requires { ⌜ Tabled m × (r ≤ m) ⌝ }
+    ensures { λ w. ⌜ ((p : ℕ) → p < 2 ^ m → w / 2 ^ p % 2 ≡ codeword r m (λ k. bits / 2 ^ k % 2) p) ⌝ }
 {
     if m == 3 {
-        return codeword_by(message, from, m, r, &ORDER_8);
+        return codeword_by(bits, m, r, &ORDER_8);
     }
     if m == 4 {
-        return codeword_by(message, from, m, r, &ORDER_16);
+        return codeword_by(bits, m, r, &ORDER_16);
     }
-    codeword_by(message, from, m, r, &ORDER_32)
+    codeword_by(bits, m, r, &ORDER_32)
 }
 
 // The first eight values of a word held in a number.
@@ -344,7 +361,8 @@ pub fn encode(message: &[u8], from: usize, m: usize, r: usize, word: &mut [u8])
     ensures { λ _. ⌜ now (word .exit) ≡ table (2 ^ m) (codeword r m (λ k. messageBit (now (message .entry)) (from + k))) ⌝ }
 {
     let n = positions(m);
-    let w = codeword_of(message, from, m, r);
+    let bits = bits_at(message, from, dimension_of(m, r));
+    let w = codeword_held(bits, m, r);
     let mut p: usize = 0;
     while p < n {
         let e = p + 8;
@@ -361,13 +379,13 @@ fn heavy(r: usize) -> u64
     HEAVY[r]
 }
 
-// Whether a word held in a number belongs to RM(r,m): the bit is 0 for every mask with more than r bits set.
-pub fn holds_codeword(w: u64, m: usize, r: usize) -> bool
+// Whether the bits of the masks, held in a number, are 0 for every mask with more than r bits set.
+pub fn clear_above(bits: u64, m: usize, r: usize) -> bool
     requires { ⌜ Tabled m × (r ≤ m) ⌝ }
-    ensures { λ b. ⌜ b ≡ belongs r m (λ p. w / 2 ^ p % 2) ⌝ }
+    ensures { λ b. ⌜ b ≡ clearAbove r (λ S. bits / 2 ^ S % 2) (2 ^ m) ⌝ }
 {
-    let bits = transformed(w) & heavy(r);
-    bits << (64 - positions(m)) == 0
+    let heavies = bits & heavy(r);
+    heavies << (64 - positions(m)) == 0
 }
 
 // Whether a word belongs to RM(r,m).
@@ -375,7 +393,7 @@ pub fn is_codeword(word: &[u8], m: usize, r: usize) -> bool
     requires { ⌜ Tabled m × (r ≤ m) × (2 ^ m ≤ length (now word)) ⌝ }
     ensures { λ b. ⌜ b ≡ belongs r m (λ p. getD (now (word .entry)) p 0) ⌝ }
 {
-    holds_codeword(parities(word, m), m, r)
+    clear_above(transformed(parities(word, m)), m, r)
 }
 
 // The bits of the masks of RM(r,m) in their order, held in a number.
@@ -392,37 +410,29 @@ fn in_order(bits: u64, m: usize, r: usize, masks: &[u8]) -> u64
     b
 }
 
-// The message bits of a word held in a number, themselves held in a number.
-fn message_by(w: u64, m: usize, r: usize, masks: &[u8]) -> u64
-    requires { ⌜ Tabled m × (r ≤ m) × (now masks ≡ order m) ⌝ }
-    ensures { λ b. ⌜ ((k : ℕ) → k < dimension r m → b / 2 ^ k % 2 ≡ backwards m (λ p. w / 2 ^ p % 2) (getD (order m) k 0)) ⌝ }
-{
-    in_order(transformed(w), m, r, masks)
-}
-
 // The same, by the table of masks of its length.
-fn message_of(w: u64, m: usize, r: usize) -> u64
+fn message_of(bits: u64, m: usize, r: usize) -> u64
     requires { ⌜ Tabled m × (r ≤ m) ⌝ }
-    ensures { λ b. ⌜ ((k : ℕ) → k < dimension r m → b / 2 ^ k % 2 ≡ backwards m (λ p. w / 2 ^ p % 2) (getD (order m) k 0)) ⌝ }
+    ensures { λ b. ⌜ ((k : ℕ) → k < dimension r m → b / 2 ^ k % 2 ≡ bits / 2 ^ getD (order m) k 0 % 2) ⌝ }
 {
     if m == 3 {
-        return message_by(w, m, r, &ORDER_8);
+        return in_order(bits, m, r, &ORDER_8);
     }
     if m == 4 {
-        return message_by(w, m, r, &ORDER_16);
+        return in_order(bits, m, r, &ORDER_16);
     }
-    message_by(w, m, r, &ORDER_32)
+    in_order(bits, m, r, &ORDER_32)
 }
 
-// Writes the message bits of a level held in a number into `out` from bit `from` on, and leaves every other bit as it was.
-pub fn read_held(w: u64, m: usize, r: usize, out: &mut [u8], from: usize)
+// Writes the message bits of a level into `out` from bit `from` on, given the bits of its masks held in a number, and leaves every other bit as it was.
+pub fn put_message(bits: u64, m: usize, r: usize, out: &mut [u8], from: usize)
     requires { ⌜ Tabled m × (r ≤ m) × (from ≤ 1000) × (from + dimension r m ≤ 8 * length (now out)) ⌝ }
     ensures { λ _. ⌜ now (out .exit) ≡ bytesOf (length (now (out .entry)))
-        (withBits from (dimension r m) (λ k. backwards m (λ p. w / 2 ^ p % 2) (getD (order m) k 0)) (messageBit (now (out .entry)))) ⌝ }
+        (withBits from (dimension r m) (λ k. bits / 2 ^ getD (order m) k 0 % 2) (messageBit (now (out .entry)))) ⌝ }
 {
     let count = dimension_of(m, r);
-    let bits = message_of(w, m, r);
-    put_bits(bits, count, out, from);
+    let message = message_of(bits, m, r);
+    put_bits(message, count, out, from);
 }
 
 // The same of a level's word.
@@ -431,6 +441,5 @@ pub fn read_level(word: &[u8], m: usize, r: usize, out: &mut [u8], from: usize)
     ensures { λ _. ⌜ now (out .exit) ≡ bytesOf (length (now (out .entry)))
         (withBits from (dimension r m) (λ k. backwards m (λ p. getD (now (word .entry)) p 0) (getD (order m) k 0)) (messageBit (now (out .entry)))) ⌝ }
 {
-    let w = parities(word, m);
-    read_held(w, m, r, out, from);
+    put_message(transformed(parities(word, m)), m, r, out, from);
 }

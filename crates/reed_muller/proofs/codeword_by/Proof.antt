@@ -1,9 +1,8 @@
 -- `codeword_by`: a codeword is the transform of its coefficients. Assumes nothing.
-use Prim.Native.Nat.{ℕ, _+_, _%_}
+use Prim.Native.Nat.{ℕ, _%_}
 use mathlib.Core.Path.{sym, ap, _∙_}
 use borrow.Author.Needs.{needs}
 use native.Mathlib.Omega.{arith}
-use Rattle.reed_muller.specs.Message.{messageBit}
 use Rattle.reed_muller.proofs.Transform.{backwards-cong}
 use Rattle.reed_muller.proofs.Codeword.{coefficient, codeword-transform}
 use Rattle.reed_muller.proofs.Digits.{digit}
@@ -18,9 +17,9 @@ transformed-requires c κs = search needs
 
 returns : tie.Need-returns
 returns c =
-    let start = c .before .before .before .before in
+    let start = c .before .before .before in
     let args = start .args in
-    let bits : ℕ → ℕ = λ k. messageBit (args .message .now) (args .from + k) in
+    let bits : ℕ → ℕ = digit (args .bits) in
     λ p h.
     c .transformed .ensures (args .m) p (omega arith) h
     ∙ backwards-cong (args .m) (digit (c .before .coefficients .result)) (coefficient (args .r) (args .m) bits) (λ S l. ap (λ (x : ℕ). x % 2) (c .before .coefficients .ensures S l)) p

@@ -2,9 +2,10 @@
 use Prim.Native.Nat.{ℕ, _%_}
 use mathlib.Core.Path.{ap, _∙_}
 use native.Mathlib.Nat.{mod-mod}
+use native.Mathlib.Omega.{arith}
 use borrow.Author.Needs.{needs}
 use lib.ListN.{getD}
-use Rattle.reed_muller.proofs.Belongs.{belongs-cong}
+use Rattle.reed_muller.proofs.Belongs.{belongs-bits, belongs-cong}
 use Rattle.reed_muller.proofs.Digits.{digit}
 use Rattle.reed_muller.proofs.is_codeword.Statement.{statement}
 use Rattle.reed_muller.proofs.is_codeword.Tie as tie
@@ -12,16 +13,21 @@ use Rattle.reed_muller.proofs.is_codeword.Tie as tie
 parities-requires : tie.Need-parities-requires
 parities-requires c κs = search needs
 
-holds-codeword-requires : tie.Need-holds-codeword-requires
-holds-codeword-requires c κs = search needs
+transformed-requires : tie.Need-transformed-requires
+transformed-requires c κs = search needs
+
+clear-above-requires : tie.Need-clear-above-requires
+clear-above-requires c κs = search needs
 
 returns : tie.Need-returns
 returns c =
-    let word = c .before .parities in
-    let args = c .before .before .before .args in
+    let bits = c .before .transformed in
+    let word = c .before .before .parities in
+    let args = c .before .before .before .before .args in
     let value : ℕ → ℕ = λ p. getD (args .word .now) p 0 in
-    c .holds-codeword .ensures
+    c .clear-above .ensures
+    ∙ belongs-bits (args .r) (args .m) (digit (word .result)) (digit (bits .result)) (λ S h. bits .ensures (args .m) S (omega arith) h)
     ∙ belongs-cong (args .r) (args .m) (digit (word .result)) value (λ p h. ap (λ (x : ℕ). x % 2) (word .ensures p h) ∙ mod-mod (value p) 2)
 
 pub is-codeword-spec : {M : Type 1} → statement M
-is-codeword-spec = tie.close (tie.spec parities-requires holds-codeword-requires returns)
+is-codeword-spec = tie.close (tie.spec parities-requires transformed-requires clear-above-requires returns)

@@ -1,4 +1,4 @@
--- `put_bits`: the bytes below that of index i are put. Assumes nothing.
+-- `put_bits`: the bytes below j are put. Assumes nothing.
 use Prim.Native.Nat.{ℕ, _+_, _-_, _*_, _/_, _%_, _^_, _≤_, _<_}
 use mathlib.Core.Path.{_≡_, sym, ap, _∙_}
 use mathlib.Core.List.{List}
@@ -9,9 +9,9 @@ use lib.Pow.{pow-pos, pow-mono}
 use borrow.Author.Needs.{needs}
 use Rattle.reed_muller.specs.Message.{messageBit, withBits}
 use Rattle.reed_muller.proofs.Parity.{message-small}
-use Rattle.reed_muller.proofs.Message.{length-bytes, bytes-of-bits, with-before, with-past, with-small}
+use Rattle.reed_muller.proofs.Message.{length-bytes, bytes-of-bits, with-before, with-small}
 use Rattle.reed_muller.proofs.Digits.{digit, digit-small}
-use Rattle.reed_muller.proofs.Bytewise.{firstBytes, blend-right, next-byte, byte-put, none-put, all-put}
+use Rattle.reed_muller.proofs.Bytewise.{Shifted, shifted-first, shifted-next, within, beyond, blend-right, firstBytes, next-byte, byte-put, none-put, all-put}
 use Rattle.reed_muller.proofs.put_bits.Statement.{statement}
 use Rattle.reed_muller.proofs.put_bits.Tie as tie
 
@@ -23,11 +23,11 @@ put-small : (bits count : ℕ) (out : List ℕ) (from i : ℕ) → put bits coun
 put-small bits count out from = with-small from count (digit bits) (messageBit out) (digit-small bits) (message-small out)
 
 abbrev Inv-loop : tie.InvT-loop
-Inv-loop bits count out₀ from first s v m i₀ out i =
-    (8 * i ≤ s + count + 7) × (out ≡ firstBytes (length out₀) (put bits count out₀ from) (messageBit out₀) (first + i))
+Inv-loop bits count out₀ from first s v₀ m₀ j₀ out v m j =
+    Shifted 64 bits (1 * 2 ^ count % 2 ^ 64 - 1) from j v m × (out ≡ firstBytes (length out₀) (put bits count out₀ from) (messageBit out₀) j)
 
 abbrev μ-loop : tie.MeasureT-loop
-μ-loop bits count out₀ from first s v m i₀ out i = s + count + 8 - 8 * i
+μ-loop bits count out₀ from first s v₀ m₀ j₀ out v m j = m
 
 same : (c : tie.At-loop Inv-loop μ-loop) → length (c .loop .out) ≡ length (c .before .before .args .out .now)
 same c = ap length (c .loop .inv .1) ∙ length-bytes (length (c .before .before .args .out .now)) _
@@ -35,6 +35,14 @@ same c = ap length (c .loop .inv .1) ∙ length-bytes (length (c .before .before
 -- the power of two in the mask
 power : (n : ℕ) → n ≤ 56 → 1 * 2 ^ n % 2 ^ 64 ≡ 2 ^ n
 power n h = let e : 1 * 2 ^ n ≡ 2 ^ n = omega arith in ap (λ (x : ℕ). x % 2 ^ 64) e ∙ mod-eq-of-lt (omega (arith, pow-mono {i = n} {j = 56} h))
+
+ones : (n : ℕ) → n ≤ 56 → 1 * 2 ^ n % 2 ^ 64 - 1 ≡ 2 ^ n - 1
+ones n h = ap (λ (x : ℕ). x - 1) (power n h)
+
+-- the byte is one of those that have new bits
+new-here : (c : tie.At-loop Inv-loop μ-loop) → 0 < c .loop .m → 8 * c .loop .j < c .before .before .args .from + c .before .before .args .count
+new-here c h =
+    let start = c .before .before in within (c .loop .inv .0) (start .args .count) (ones (start .args .count) (start .pre .0)) (messageBit (start .args .out .now)) h
 
 shl-v : tie.Need-shl-v Inv-loop μ-loop
 shl-v c = search needs
@@ -52,35 +60,17 @@ loop-holds : tie.Need-loop-holds Inv-loop μ-loop
 loop-holds c =
     let args = c .before .args in
     let out = args .out .now in (
-      omega arith,
+      shifted-first 64 (args .bits) (1 * 2 ^ args .count % 2 ^ 64 - 1) (args .from),
       sym (none-put (length out) (put (args .bits) (args .count) out (args .from)) (messageBit out) (put-small (args .bits) (args .count) out (args .from)) (message-small out)
-          (args .from / 8 + 0) (λ q l. with-before (args .from) (args .count) (digit (args .bits)) (messageBit out) q (omega arith))
+          (args .from / 8) (λ q l. with-before (args .from) (args .count) (digit (args .bits)) (messageBit out) q (omega arith))
           ∙ bytes-of-bits out (λ j. c .slice-known .given j .fits)),
     )
 
-mul-loop : tie.Need-mul-loop Inv-loop μ-loop
-mul-loop c = search needs
-
-add-loop : tie.Need-add-loop Inv-loop μ-loop
-add-loop c = search needs
-
-mul-t : tie.Need-mul-t Inv-loop μ-loop
-mul-t c = search needs
-
-add-j : tie.Need-add-j Inv-loop μ-loop
-add-j c = search needs
-
 slice-read-x : tie.Need-slice-read-x Inv-loop μ-loop
-slice-read-x c = omega (arith, same (c .before .before))
-
-shr-blended : tie.Need-shr-blended Inv-loop μ-loop
-shr-blended c = search needs
+slice-read-x c = omega (arith, same (c .before .before), new-here (c .before .before) (c .before .loop-test .taken), c .before .before .before .before .pre .2)
 
 cast-blended : tie.Need-cast-blended Inv-loop μ-loop
 cast-blended c = search needs
-
-shr-blended-2 : tie.Need-shr-blended-2 Inv-loop μ-loop
-shr-blended-2 c = search needs
 
 cast-blended-2 : tie.Need-cast-blended-2 Inv-loop μ-loop
 cast-blended-2 c = search needs
@@ -89,13 +79,13 @@ blended-requires : tie.Need-blended-requires Inv-loop μ-loop
 blended-requires c κs = search needs
 
 slice-write-out : tie.Need-slice-write-out Inv-loop μ-loop
-slice-write-out c = omega (arith, same (c .before .before .before))
+slice-write-out c = slice-read-x (c .before)
 
-add-i : tie.Need-add-i Inv-loop μ-loop
-add-i c = search needs
+add-j : tie.Need-add-j Inv-loop μ-loop
+add-j c = omega (arith, new-here (c .before .before .before) (c .before .before .loop-test .taken))
 
 loop-less : tie.Need-loop-less Inv-loop μ-loop
-loop-less c = search needs
+loop-less c = omega arith
 
 loop-again : tie.Need-loop-again Inv-loop μ-loop
 loop-again c =
@@ -104,18 +94,16 @@ loop-again c =
     let args = start .args in
     let out = args .out .now in
     let n = args .count in
-    let i = at .loop .i in
-    let j : ℕ = args .from / 8 + i in
+    let j = at .loop .j in
     let small = put-small (args .bits) n out (args .from) in
-    let room : j < length out = omega arith in
-    let e : args .from / 8 + (i + 1) ≡ j + 1 = omega arith in (
-      omega arith,
+    let here : 8 * j < args .from + n = new-here at (c .before .before .loop-test .taken) in
+    let room : j < length out = omega (arith, here, start .pre .2) in (
+      shifted-next (at .loop .inv .0),
       ap (λ (xs : List ℕ). set xs j (c .blended .result)) (at .loop .inv .1)
           ∙ byte-put (length out) (put (args .bits) n out (args .from)) (messageBit out) small (message-small out) j room (c .blended .result) (c .blended .ok)
-          (blend-right 64 (args .bits) n (1 * 2 ^ n % 2 ^ 64 - 1) (args .from) i (messageBit out) (ap (λ (x : ℕ). x - 1) (power n (start .pre .0))) (omega arith) (getD (at .loop .out) j 0) (c .blended .result)
+          (blend-right (at .loop .inv .0) n (ones n (start .pre .0)) (messageBit out) (omega (arith, here, start .pre .0)) (getD (at .loop .out) j 0) (c .blended .result)
           (λ p l. ap (λ (xs : List ℕ). digit (getD xs j 0) p) (at .loop .inv .1) ∙ next-byte (length out) (put (args .bits) n out (args .from)) (messageBit out) small (message-small out) j room p l)
-          (c .blended .ensures))
-          ∙ sym (ap (firstBytes (length out) (put (args .bits) n out (args .from)) (messageBit out)) e),
+          (c .blended .ensures)),
     )
 
 same-length : tie.Need-same-length Inv-loop μ-loop
@@ -124,11 +112,12 @@ same-length c = same (c .before)
 returns : tie.Need-returns Inv-loop μ-loop
 returns c =
     let at = c .before in
-    let args = at .before .before .args in
+    let start = at .before .before in
+    let args = start .args in
     let out = args .out .now in
     at .loop .inv .1
     ∙ all-put (length out) (put (args .bits) (args .count) out (args .from)) (messageBit out) (put-small (args .bits) (args .count) out (args .from)) (message-small out)
-    (args .from / 8 + at .loop .i) (λ q l. with-past (args .from) (args .count) (digit (args .bits)) (messageBit out) q (omega arith))
+    (at .loop .j) (beyond (at .loop .inv .0) (args .count) (ones (args .count) (start .pre .0)) (messageBit out) (omega (arith, start .pre .0)) (omega arith))
 
 pub put-bits-spec : {M : Type 1} → statement M
 put-bits-spec =
@@ -141,18 +130,12 @@ put-bits-spec =
     sub-m
     shl-m-2
     loop-holds
-    mul-loop
-    add-loop
-    mul-t
-    add-j
     slice-read-x
-    shr-blended
     cast-blended
-    shr-blended-2
     cast-blended-2
     blended-requires
     slice-write-out
-    add-i
+    add-j
     loop-less
     loop-again
     same-length

@@ -1,86 +1,86 @@
--- `level_word`: the number has the bits of the coordinates from p on. Assumes nothing.
-use Prim.Native.Nat.{ℕ, _+_, _*_, _-_, _^_, _≤_, _<_}
-use mathlib.Core.Path.{_≡_, refl, sym, ap, subst, _∙_}
+-- `level_word`: the number has the bits of the coordinates from block j on. Assumes nothing.
+use Prim.Native.Nat.{ℕ, _+_, _*_, _-_, _/_, _≤_, _<_}
+use mathlib.Core.Path.{_≡_, sym, ap, _∙_}
+use mathlib.Core.List.{List}
 use native.Mathlib.Omega.{arith}
-use lib.IntN.{pos}
-use lib.ListN.{length, getD}
-use lib.Pow.{pow-pos, pow-mono}
+use lib.IntN.{ℤ}
+use lib.ListN.{length, take, drop}
 use borrow.Author.Needs.{needs}
-use Rattle.integers.proofs.Zed.{tz}
-use Rattle.reed_muller.proofs.Digits.{digit, digits-more, digits-fit}
+use Rattle.e8.specs.Lattice.{part}
+use Rattle.reed_muller.proofs.Digits.{digit}
 use Rattle.frames.specs.Frame.{weightBit, levelWord}
-use Rattle.reading.proofs.Words.{weight-bit-small}
+use Rattle.frames.proofs.Frame.{part-length, part-at}
+use Rattle.reading.proofs.Same.{part-is}
+use Rattle.reading.proofs.Packed.{digits-below}
 use Rattle.reading.proofs.level.level_word.Statement.{statement}
 use Rattle.reading.proofs.level.level_word.Tie as tie
 
 abbrev Inv-loop : tie.InvT-loop
-Inv-loop frame i word₀ p₀ word p =
-    (p ≤ length frame) × (word < 2 ^ (length frame - p)) × ((q : ℕ) → p + q < length frame → digit word q ≡ levelWord i frame (p + q))
+Inv-loop frame i word₀ j₀ word j = (j ≤ length frame / 8) × ((q : ℕ) → 8 * j + q < length frame → digit word q ≡ levelWord i frame (8 * j + q))
 
 abbrev μ-loop : tie.MeasureT-loop
-μ-loop frame i word₀ p₀ word p = p
+μ-loop frame i word₀ j₀ word j = j
 
 -- a turn of the loop
 module _ (c : tie.In-loop Inv-loop μ-loop) where
-  -- the number has room for one bit more
-  half : c .before .loop .word < 2 ^ 63
-  half =
-      let l = c .before .loop in
-      let n = length (c .before .before .args .frame .now) in
-      omega (arith, l .inv .1, pow-mono {i = n - l .p} {j = 63} (omega (arith, c .before .before .pre .0)))
-
--- the bit read
-module _ (c : tie.After-weight-bit Inv-loop μ-loop) where
   abbrev s : tie.Start Inv-loop μ-loop
-  s = c .before .before .before .before
+  s = c .before .before
 
-  abbrev f : ℕ → ℕ
-  f = levelWord (s .args .i) (s .args .frame .now)
+  abbrev f : List ℤ
+  f = s .args .frame .now
 
-  abbrev at : ℕ
-  at = c .before .before .before .loop .p - 1
+  abbrev j : ℕ
+  j = c .before .loop .j - 1
 
-  is : c .weight-bit .result ≡ f at
-  is = c .weight-bit .ensures ∙ ap (weightBit (s .args .i)) (tz refl (record { sfits = c .before .z .given }))
+  whole : length f ≡ 8 * (length f / 8)
+  whole = sym (s .pre .0)
 
-  small : f at < 2
-  small = weight-bit-small (s .args .i) (getD (s .args .frame .now) at (pos 0))
+  inside : j < length f / 8
+  inside = omega arith
+
+  read : take (8 * j + 8 - 8 * j) (drop (8 * j) f) ≡ part j f
+  read = part-is j f
 
 loop-holds : tie.Need-loop-holds Inv-loop μ-loop
-loop-holds c = (omega arith, pow-pos _, λ q l. absurd (omega (arith, l)))
+loop-holds c = (omega arith, λ q l. absurd (omega (arith, l)))
 
-sub-p : tie.Need-sub-p Inv-loop μ-loop
-sub-p c = search needs
+sub-j : tie.Need-sub-j Inv-loop μ-loop
+sub-j c = search needs
 
-mul-z : tie.Need-mul-z Inv-loop μ-loop
-mul-z c = search needs
+mul-a : tie.Need-mul-a Inv-loop μ-loop
+mul-a c = search needs
 
-shared-slice-copy-out-z : tie.Need-shared-slice-copy-out-z Inv-loop μ-loop
-shared-slice-copy-out-z c = omega arith
+add-e : tie.Need-add-e Inv-loop μ-loop
+add-e c = search needs
 
-mul-word : tie.Need-mul-word Inv-loop μ-loop
-mul-word c = record { fits = omega (arith, half (c .before)) }
+mul-eight : tie.Need-mul-eight Inv-loop μ-loop
+mul-eight c = search needs
 
-weight-bit-requires : tie.Need-weight-bit-requires Inv-loop μ-loop
-weight-bit-requires c κs = search needs
+sub-eight : tie.Need-sub-eight Inv-loop μ-loop
+sub-eight c = search needs
 
-cast-word : tie.Need-cast-word Inv-loop μ-loop
-cast-word c = record { fits = omega (arith, is c, small c) }
+part-eight-start : tie.Need-part-eight-start Inv-loop μ-loop
+part-eight-start c = search needs
 
-add-word : tie.Need-add-word Inv-loop μ-loop
-add-word c = record { fits = omega (arith, is c, small c, half (c .before .before)) }
+part-eight-end : tie.Need-part-eight-end Inv-loop μ-loop
+part-eight-end c = search needs
+
+eight-requires : tie.Need-eight-requires Inv-loop μ-loop
+eight-requires c κs = let t = c .before in (ap length (read t) ∙ part-length (f t) (length (f t) / 8) (j t) (whole t) (inside t), s t .pre .2)
 
 loop-less : tie.Need-loop-less Inv-loop μ-loop
-loop-less c = omega arith
+loop-less c = search needs
 
 loop-again : tie.Need-loop-again Inv-loop μ-loop
 loop-again c =
-    let l = c .before .before .before .loop in
-    let n = length (s c .args .frame .now) in
-    let more : 2 * l .word + f c (l .p - 1) ≡ 2 * l .word + c .weight-bit .result = ap (λ (x : ℕ). 2 * l .word + x) (sym (is c)) in (
+    let t = c .before .before in
+    let i = s t .args .i in
+    let l = t .before .loop in
+    let n : ℕ = length (f t) - 8 * l .j in (
       omega arith,
-      subst (λ (w : ℕ). w < 2 ^ (n - (l .p - 1))) more (digits-fit (f c) n (l .p) (l .word) (omega arith) (small c) (l .inv .0) (l .inv .1)),
-      subst (λ (w : ℕ). (q : ℕ) → l .p - 1 + q < n → digit w q ≡ f c (l .p - 1 + q)) more (digits-more (f c) n (l .p) (l .word) (omega arith) (small c) (l .inv .2)),
+      λ q h. digits-below 64 8 n (l .word) (c .eight .result) (λ p. levelWord i (f t) (8 * j t + p)) (omega (arith, s t .pre .1)) (c .eight .ensures .0)
+          (λ p k. c .eight .ensures .1 p k ∙ ap (λ (x : List ℤ). levelWord i x p) (read t) ∙ ap (weightBit i) (part-at (f t) (length (f t) / 8) (j t) (whole t) (inside t) p k))
+          (λ p k. let z : 8 * l .j + p ≡ 8 * j t + (8 + p) = omega arith in l .inv .1 p (omega (arith, k)) ∙ ap (levelWord i (f t)) z) q (omega (arith, h)),
     )
 
 returns : tie.Need-returns Inv-loop μ-loop
@@ -88,8 +88,8 @@ returns c =
     let l = c .before .loop in
     let args = c .before .before .args in
     λ q h.
-    let z : l .p + q ≡ q = omega arith in
-    l .inv .2 q (omega (arith, h)) ∙ ap (levelWord (args .i) (args .frame .now)) z
+    let z : 8 * l .j + q ≡ q = omega arith in
+    l .inv .1 q (omega (arith, h)) ∙ ap (levelWord (args .i) (args .frame .now)) z
 
 pub level-word-spec : {M : Type 1} → statement M
 level-word-spec =
@@ -98,13 +98,14 @@ level-word-spec =
     Inv-loop
     μ-loop
     loop-holds
-    sub-p
-    mul-z
-    shared-slice-copy-out-z
-    mul-word
-    weight-bit-requires
-    cast-word
-    add-word
+    sub-j
+    mul-a
+    add-e
+    mul-eight
+    sub-eight
+    part-eight-start
+    part-eight-end
+    eight-requires
     loop-less
     loop-again
     returns)

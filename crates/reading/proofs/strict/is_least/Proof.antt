@@ -4,7 +4,7 @@ use mathlib.Core.Path.{_≡_, sym, ap, subst, _∙_}
 use mathlib.Core.List.{List}
 use native.Mathlib.Omega.{arith}
 use lib.IntN.{ℤ}
-use lib.ListN.{length, length-take, length-drop}
+use lib.ListN.{length}
 use lib.Pow.{pow-pos}
 use borrow.Author.Needs.{needs}
 use borrow.Author.Tests.{not-true, not-false}
@@ -12,6 +12,7 @@ use Rattle.e8.specs.Energy.{Within}
 use Rattle.e8.specs.Lattice.{part}
 use Rattle.e8.specs.Least.{leastBlock, leastFrame}
 use Rattle.frames.specs.Reading.{sameFrame}
+use Rattle.frames.proofs.Frame.{part-length}
 use Rattle.reading.proofs.Same.{leastFrom, least-first, not-least, least-here, least-all, within-part, part-is}
 use Rattle.reading.proofs.strict.is_least.Statement.{statement}
 use Rattle.reading.proofs.strict.is_least.Tie as tie
@@ -37,7 +38,7 @@ module _ (c : tie.In-loop Inv-loop μ-loop) where
   whole = sym (s .pre .1)
 
   block-8 : length (part j f) ≡ 8
-  block-8 = simp (length-take, length-drop) (omega (arith, whole))
+  block-8 = part-length f (length f / 8) j whole (c .loop-test .taken)
 
 loaded : (c : tie.After-load Inv-loop μ-loop) → c .load .result ≡ part (j (c .before .before)) (f (c .before .before))
 loaded c = c .load .ensures ∙ part-is (j (c .before .before)) (f (c .before .before))

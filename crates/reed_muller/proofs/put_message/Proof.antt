@@ -1,19 +1,17 @@
--- `read_held`: the level's bits, put in a row. Assumes nothing.
-use Prim.Native.Nat.{ℕ, _+_, _*_, _/_, _%_, _^_, _≤_}
+-- `put_message`: the bits of the masks in their order, put in a row. Assumes nothing.
+use Prim.Native.Nat.{ℕ, _+_, _*_, _≤_}
 use mathlib.Core.Path.{_≡_, ap, _∙_}
 use native.Mathlib.Omega.{arith}
-use lib.ListN.{length}
-use lib.Pow.{pow-mono}
+use lib.ListN.{length, getD}
 use borrow.Author.Needs.{needs}
-use Rattle.reed_muller.specs.Level.{dimension}
+use Rattle.reed_muller.specs.Level.{order, dimension}
 use Rattle.reed_muller.specs.Message.{messageBit, bytesOf, withBits}
-use Rattle.reed_muller.proofs.Codeword.{readBits}
 use Rattle.reed_muller.proofs.Message.{bytes-ext}
 use Rattle.reed_muller.proofs.Digits.{digit}
 use Rattle.reed_muller.proofs.Bytewise.{with-ext}
-use Rattle.reed_muller.proofs.Order.{dimension-small}
-use Rattle.reed_muller.proofs.read_held.Statement.{statement}
-use Rattle.reed_muller.proofs.read_held.Tie as tie
+use Rattle.reed_muller.proofs.MaskTables.{few-bits}
+use Rattle.reed_muller.proofs.put_message.Statement.{statement}
+use Rattle.reed_muller.proofs.put_message.Tie as tie
 
 dimension-of-requires : tie.Need-dimension-of-requires
 dimension-of-requires c κs = omega arith
@@ -26,7 +24,7 @@ put-bits-requires c κs =
     let count = c .before .before .dimension-of in
     let start = c .before .before .before .before in
     let e : count .result ≡ dimension (start .args .r) (start .args .m) = count .ensures in
-    let few : count .result ≤ 56 = omega (arith, e, pow-mono {i = start .args .m} {j = 5} (start .pre .0 .1), dimension-small (start .args .r) (start .args .m) (start .pre .1)) in
+    let few : count .result ≤ 56 = omega (arith, e, few-bits (start .pre .0) (start .pre .1)) in
     let room : start .args .from + count .result ≤ 8 * length (start .args .out .now) = omega (arith, e, start .pre .3) in
     (few, start .pre .2, room)
 
@@ -40,10 +38,10 @@ returns c =
     let args = level .before .before .before .args in
     let out = args .out .now in
     let count = level .before .dimension-of in
-    let new : ℕ → ℕ = readBits (args .m) (λ p. args .w / 2 ^ p % 2) in
+    let new : ℕ → ℕ = λ k. digit (args .bits) (getD (order (args .m)) k 0) in
     put .ensures
     ∙ ap (λ (n : ℕ). bytesOf (length out) (withBits (args .from) n (digit (level .message-of .result)) (messageBit out))) (count .ensures)
     ∙ bytes-ext (length out) _ _ (λ i l. with-ext (args .from) (dimension (args .r) (args .m)) (digit (level .message-of .result)) new (messageBit out) (level .message-of .ensures) i)
 
-pub read-held-spec : {M : Type 1} → statement M
-read-held-spec = tie.close (tie.spec dimension-of-requires message-of-requires put-bits-requires same-length returns)
+pub put-message-spec : {M : Type 1} → statement M
+put-message-spec = tie.close (tie.spec dimension-of-requires message-of-requires put-bits-requires same-length returns)

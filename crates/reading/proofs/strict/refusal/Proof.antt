@@ -1,0 +1,145 @@
+-- `refusal`: past the tests of the open reading, a strict reading takes the least member of a class or refuses by 9. Assumes nothing.
+use Prim.Native.Nat.{ℕ, _+_, _*_, _-_, _/_, _^_, _≤_}
+use mathlib.Core.Path.{_≡_, refl, sym, ap, ap₂, _∙_}
+use mathlib.Core.Bool.{Bool, true, false}
+use mathlib.Core.List.{List}
+use native.Mathlib.Omega.{arith}
+use lib.IntN.{ℤ}
+use lib.ListN.{length}
+use Rattle.e8.specs.Least.{leastFrame}
+use Rattle.e8.proofs.Within.{within-to}
+use Rattle.frames.specs.Kind.{levels, blocks}
+use Rattle.frames.specs.Frame.{half}
+use Rattle.frames.specs.Sending.{unless}
+use Rattle.frames.specs.Reading.{sameFrame, openRefusal}
+use Rattle.frames.proofs.Rows.{shape, grade-low, grade-high}
+use Rattle.frames.proofs.Refusals.{range-within, Accepted, accepted}
+use Rattle.frames.proofs.Bounds.{few-levels}
+use Rattle.frames.proofs.Reading.{strict-by-least, strict-as-open}
+use borrow.Author.Needs.{needs}
+use borrow.Author.Tests.{not-true, not-false}
+use Rattle.reading.specs.Numbers.{refusalOf}
+use Rattle.reading.proofs.strict.refusal.Statement.{statement}
+use Rattle.reading.proofs.strict.refusal.Tie as tie
+
+-- the number of either reading, by that of the open one
+module _ (k b : ℕ) (f : List ℤ) (n : ℕ) where
+  refused : (t : Bool) → (openRefusal k b f n ≡ 0 → ⊥) → openRefusal k b f n ≡ refusalOf t k b f n
+  refused true h = sym (strict-as-open k b f n h)
+  refused false h = refl
+
+  open-one : (t : Bool) → t ≡ false → openRefusal k b f n ≡ refusalOf t k b f n
+  open-one t e = ap (λ (x : Bool). refusalOf x k b f n) (sym e)
+
+  strict-one : (t : Bool) → t ≡ true → openRefusal k b f n ≡ 0 → refusalOf t k b f n ≡ unless (sameFrame f (leastFrame (half k b) (blocks k) f)) 9 0
+  strict-one t e h = ap (λ (x : Bool). refusalOf x k b f n) e ∙ strict-by-least k b f n h
+
+-- no refusal by the open reading
+module _ (c : tie.Else1) where
+  abbrev called : tie.After-open-refusal
+  called = c .before .before .before
+
+  abbrev start : tie.Start
+  start = called .before .before .before
+
+  none : openRefusal (start .args .kind) (start .args .grade) (start .args .frame .now) (start .args .n) ≡ 0
+  none = sym (called .open-refusal .ensures .0) ∙ c .if1 .left
+
+  a : Accepted (start .args .kind) (start .args .grade) (start .args .frame .now) (start .args .n)
+  a = accepted (start .args .kind) (start .args .grade) (start .args .frame .now) (start .args .n) none
+
+  small : levels (start .args .kind) + start .args .grade ≤ 6
+  small = omega (arith, few-levels (start .args .kind) (a .kind), grade-high (start .args .grade) (a .grade))
+
+  whole : 8 * (length (start .args .frame .now) / 8) ≡ length (start .args .frame .now)
+  whole = ap (λ (n : ℕ). 8 * (n / 8)) (a .coordinates) ∙ shape (start .args .kind) (a .kind) .whole ∙ sym (a .coordinates)
+
+tested : (c : tie.After-is-least) → let s = start (c .before .before .before) .args in
+    c .is-least .result ≡ sameFrame (s .frame .now) (leastFrame (half (s .kind) (s .grade)) (blocks (s .kind)) (s .frame .now))
+unfolding half
+tested c =
+    let d = c .before .before .before in
+    let s = start d .args in
+    c .is-least .ensures
+    ∙ ap₂ (λ (l n : ℕ). sameFrame (s .frame .now) (leastFrame (2 ^ (l + s .grade - 1)) (n / 8) (s .frame .now))) (c .before .levels .ensures) (a d .coordinates)
+
+-- a strict reading's number
+number : (c : tie.After-is-least) → let s = start (c .before .before .before) .args in refusalOf (s .strict) (s .kind) (s .grade) (s .frame .now) (s .n) ≡ unless (c .is-least .result) 9 0
+number c =
+    let e = c .before .before in
+    let d = e .before in
+    let s = start d .args in
+    strict-one (s .kind) (s .grade) (s .frame .now) (s .n) (s .strict) (not-false (s .strict) (e .if2 .left)) (none d) ∙ ap (λ (t : Bool). unless t 9 0) (sym (tested c))
+
+open-refusal-requires : tie.Need-open-refusal-requires
+open-refusal-requires c κs = search needs
+
+same-length : tie.Need-same-length
+same-length c = search needs
+
+returns : tie.Need-returns
+returns c =
+    let d = c .before .before .before in
+    let s = d .before .before .before .args in
+    let e = d .open-refusal .ensures .0 in
+    (e ∙ refused (s .kind) (s .grade) (s .frame .now) (s .n) (s .strict) (λ z. c .if1 .taken (e ∙ z)), λ z. absurd (c .if1 .taken z))
+
+same-length-2 : tie.Need-same-length-2
+same-length-2 c = search needs
+
+returns-2 : tie.Need-returns-2
+returns-2 c =
+    let d = c .before in
+    let s = start d .args in
+    (sym (none d) ∙ open-one (s .kind) (s .grade) (s .frame .now) (s .n) (s .strict) (not-true (s .strict) (c .if2 .taken)), λ z. called d .open-refusal .ensures .1 (d .if1 .left))
+
+levels-requires : tie.Need-levels-requires
+levels-requires c κs = a (c .before) .kind
+
+add-k : tie.Need-add-k
+add-k c = record { fits = omega (arith, c .levels .ensures, small (c .before .before)) }
+
+sub-k : tie.Need-sub-k
+sub-k c = let d = c .before .before in omega (arith, grade-low (start d .args .grade) (a d .grade))
+
+cast-is-least : tie.Need-cast-is-least
+cast-is-least c = record { fits = omega (arith, c .levels .ensures, small (c .before .before)) }
+
+is-least-requires : tie.Need-is-least-requires
+is-least-requires c κs =
+    let d = c .before .before in
+    let f = start d .args .frame .now in
+    (omega (arith, c .levels .ensures, small d), whole d, within-to 1048576 (2 ^ 24) f (omega arith) (range-within f (a d .range)))
+
+same-length-3 : tie.Need-same-length-3
+same-length-3 c = search needs
+
+returns-3 : tie.Need-returns-3
+returns-3 c =
+    let d = c .before .before .before .before in
+    (sym (number (c .before) ∙ ap (λ (t : Bool). unless t 9 0) (c .if3 .taken)), λ z. called d .open-refusal .ensures .1 (d .if1 .left))
+
+same-length-4 : tie.Need-same-length-4
+same-length-4 c = search needs
+
+returns-4 : tie.Need-returns-4
+returns-4 c = (sym (number (c .before) ∙ ap (λ (t : Bool). unless t 9 0) (c .if3 .left)), λ z. absurd (omega (arith, z)))
+
+pub refusal-spec : {M : Type 1} → statement M
+refusal-spec =
+    tie.close
+    (tie.spec
+    open-refusal-requires
+    same-length
+    returns
+    same-length-2
+    returns-2
+    levels-requires
+    add-k
+    sub-k
+    cast-is-least
+    is-least-requires
+    same-length-3
+    returns-3
+    same-length-4
+    returns-4)
