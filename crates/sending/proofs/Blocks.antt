@@ -32,11 +32,11 @@ module _ {n : ℕ} {B P : ℕ → List ℤ} (made : Made n B P) where
       ap (λ (i : ℕ). length (P i)) e ∙ ap length (made .more j) ∙ length-append (P j) (B j)
       ∙ omega (arith, made-length j (omega arith), made .eight j (omega arith))
 
-  module _ (f₀ : List ℤ) (whole : length f₀ ≡ 8 * n) where
+  module _ {f₀ : List ℤ} (whole : length f₀ ≡ 8 * n) where
     pub over-start : Over P f₀ 0 f₀
     over-start = record { inside = omega arith; frame = sym (ap (λ (p : List ℤ). p ++ drop (8 * 0) f₀) (made .none)) }
 
-    module _ (j : ℕ) (f : List ℤ) (h : Over P f₀ j f) where
+    module _ {j : ℕ} {f : List ℤ} (h : Over P f₀ j f) where
       long : length (P j) ≡ 8 * j
       long = made-length j (omega (arith, h .inside))
 
@@ -55,7 +55,7 @@ module _ {n : ℕ} {B P : ℕ → List ℤ} (made : Made n B P) where
           rw (k, h .frame, drop-at (P j) (drop (8 * j) f₀) (8 * j) long)
 
       -- block j is written, and read again
-      module _ (l : j < n) (y : List ℤ) (e : y ≡ B j) where
+      module _ (l : j < n) {y : List ℤ} (e : y ≡ B j) where
         put : putMid (8 * j) (8 * j + 8 - 8 * j) f y ≡ (P j ++ y) ++ drop (8 * (j + 1)) f₀
         put =
             let k : 8 * j + 8 - 8 * j ≡ 8 = omega arith in

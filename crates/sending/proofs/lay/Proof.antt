@@ -38,7 +38,7 @@ made s =
 same : (a : tie.At-loop Inv-loop μ-loop) → length (a .loop .frame) ≡ length (a .before .before .before .before .before .args .frame .now)
 same a =
     let s = a .before .before .before .before .before in
-    over-same (made s) (s .args .frame .now) (whole s) (a .loop .j) (a .loop .frame) (a .loop .inv)
+    over-same (made s) (whole s) (a .loop .inv)
 
 -- a turn's block is one of at most four
 record Turn (c : tie.In-loop Inv-loop μ-loop) : Type 0 where
@@ -80,7 +80,7 @@ cast-weight c =
 loop-holds : tie.Need-loop-holds Inv-loop μ-loop
 loop-holds c =
     let s = c .before .before .before .before in
-    over-start (made s) (s .args .frame .now) (whole s)
+    over-start (made s) (whole s)
 
 mul-s : tie.Need-mul-s Inv-loop μ-loop
 mul-s c = omega (arith, turn c .inside, turn c .few)
@@ -158,7 +158,7 @@ loop-again c =
     let t = c .before in
     let a = t .before .before .before .before in
     let s = a .before .before .before .before .before in
-    over-step (made s) (s .args .frame .now) (whole s) (a .loop .j) (a .loop .frame) (a .loop .inv) (turn (t .before .before .before) .inside) (t .store .last .1 .0) (t .store .ensures ∙ x-is (t .before .before))
+    over-step (made s) (whole s) (a .loop .inv) (turn (t .before .before .before) .inside) (t .store .ensures ∙ x-is (t .before .before))
 
 same-length : tie.Need-same-length Inv-loop μ-loop
 same-length c = same (c .before)
@@ -168,7 +168,7 @@ returns c =
     let a = c .before in
     let s = a .before .before .before .before .before in
     let L = leader (s .args .kind) (s .args .grade) (s .args .message .now) in
-    over-end (made s) (s .args .frame .now) (whole s) (a .loop .j) (a .loop .frame) (a .loop .inv) (omega (arith, s .pre .4))
+    over-end (made s) (whole s) (a .loop .inv) (omega (arith, s .pre .4))
     ∙ take-all (8 * blocks-of (s .args .kind)) L (omega (arith, long (s .args .kind) (s .args .grade) (s .pre .0) (s .args .message .now)))
 
 pub lay-spec : {M : Type 1} → statement M

@@ -21,7 +21,7 @@ Inv-loop k frame₀ n energy₀ j₀ frame energy j =
 abbrev μ-loop : tie.MeasureT-loop
 μ-loop k frame₀ n energy₀ j₀ frame energy j = length frame₀ / 8 - j
 
--- the frame is whole blocks, at most 128 of them, and there is one more
+-- the frame is whole blocks
 whole : (s : tie.Start Inv-loop μ-loop) → length (s .args .frame .now) ≡ 8 * (length (s .args .frame .now) / 8)
 whole s = omega arith
 
@@ -29,11 +29,11 @@ made : (s : tie.Start Inv-loop μ-loop) → Made (length (s .args .frame .now) /
 made s = least-made (s .args .k) (s .args .frame .now) (length (s .args .frame .now) / 8) (whole s)
 
 same : (a : tie.At-loop Inv-loop μ-loop) → length (a .loop .frame) ≡ length (a .before .args .frame .now)
-same a = over-same (made (a .before)) (a .before .args .frame .now) (whole (a .before)) (a .loop .j) (a .loop .frame) (a .loop .inv .0)
+same a = over-same (made (a .before)) (whole (a .before)) (a .loop .inv .0)
 
 loop-holds : tie.Need-loop-holds Inv-loop μ-loop
 loop-holds c =
-    (over-start (made c) (c .args .frame .now) (whole c), least-none (c .args .k) (c .args .frame .now), omega arith)
+    (over-start (made c) (whole c), least-none (c .args .k) (c .args .frame .now), omega arith)
 
 mul-s : tie.Need-mul-s Inv-loop μ-loop
 mul-s c = omega arith
@@ -60,7 +60,7 @@ load-requires c κs = simp (length-take, length-drop) (omega (arith, same (c .be
 x-is : (c : tie.After-load Inv-loop μ-loop) → let a = c .before .before .before .before in c .load .result ≡ part (a .loop .j) (a .before .args .frame .now)
 x-is c =
     let a = c .before .before .before .before in
-    c .load .ensures ∙ over-next (made (a .before)) (a .before .args .frame .now) (whole (a .before)) (a .loop .j) (a .loop .frame) (a .loop .inv .0)
+    c .load .ensures ∙ over-next (made (a .before)) (whole (a .before)) (a .loop .inv .0)
 
 least-requires : tie.Need-least-requires Inv-loop μ-loop
 least-requires c κs =
@@ -93,14 +93,14 @@ wrote : (c : tie.After-store Inv-loop μ-loop) → let a = c .before .before .be
     (putMid (8 * a .loop .j) (8 * a .loop .j + 8 - 8 * a .loop .j) (a .loop .frame) (c .store .last .1 .0))
 wrote c =
     let a = c .before .before .before .before .before .before .before in
-    over-step (made (a .before)) (a .before .args .frame .now) (whole (a .before)) (a .loop .j) (a .loop .frame) (a .loop .inv .0) (omega arith) (c .store .last .1 .0) (y-is c)
+    over-step (made (a .before)) (whole (a .before)) (a .loop .inv .0) (omega arith) (y-is c)
 
 again : (c : tie.After-store Inv-loop μ-loop) → let a = c .before .before .before .before .before .before .before in
     take (8 * a .loop .j + 8 - 8 * a .loop .j) (drop (8 * a .loop .j) (putMid (8 * a .loop .j) (8 * a .loop .j + 8 - 8 * a .loop .j) (a .loop .frame) (c .store .last .1 .0)))
     ≡ least-at (a .before .args .k) (a .before .args .frame .now) (a .loop .j)
 again c =
     let a = c .before .before .before .before .before .before .before in
-    over-again (made (a .before)) (a .before .args .frame .now) (whole (a .before)) (a .loop .j) (a .loop .frame) (a .loop .inv .0) (omega arith) (c .store .last .1 .0) (y-is c)
+    over-again (made (a .before)) (whole (a .before)) (a .loop .inv .0) (omega arith) (y-is c)
 
 mul-energy : tie.Need-mul-energy Inv-loop μ-loop
 mul-energy c = omega arith
@@ -115,7 +115,7 @@ part-energy-end : tie.Need-part-energy-end Inv-loop μ-loop
 part-energy-end c =
     let t = c .before .before in
     let a = t .before .before .before .before .before .before .before in
-    omega (arith, over-same (made (a .before)) (a .before .args .frame .now) (whole (a .before)) (a .loop .j + 1) _ (wrote t))
+    omega (arith, over-same (made (a .before)) (whole (a .before)) (wrote t))
 
 energy-requires : tie.Need-energy-requires Inv-loop μ-loop
 energy-requires c κs =
@@ -159,7 +159,7 @@ returns c =
     let x = a .before .args .frame .now in
     let k = a .before .args .k in
     let q : a .loop .j ≡ length x / 8 = omega (arith, a .loop .inv .0 .inside) in (
-      over-end (made (a .before)) x (whole (a .before)) (a .loop .j) (a .loop .frame) (a .loop .inv .0) (omega arith),
+      over-end (made (a .before)) (whole (a .before)) (a .loop .inv .0) (omega arith),
       a .loop .inv .1 ∙ ap (λ (n : ℕ). energy-of (least-to k x n)) q,
     )
 
