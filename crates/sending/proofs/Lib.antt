@@ -1,7 +1,8 @@
 pub mod Tests
 pub mod Bits
-pub mod Front
 pub mod Answers
 pub mod Stack
 pub mod Block
-pub mod Turn
+pub mod Blocks
+pub mod Laid
+pub mod Shaped

@@ -1,13 +1,12 @@
 // Sending: a message becomes the sent frame, with its energy.
 ghost use mathlib.Core.Path.{_≡_};
 ghost use mathlib.Core.Bool.{true};
-ghost use Prim.Native.Nat.{_*_, _≤_, _^_};
+ghost use Prim.Native.Nat.{_*_, _/_, _%_, _≤_, _^_};
 ghost use lib.ListN.{length};
-ghost use Rattle.reed_muller.specs.Level.{table};
-ghost use Rattle.reed_muller.specs.Message.{messageBit};
-ghost use Rattle.e8.specs.Energy.{energy as energyOf};
-ghost use Rattle.frames.specs.Kind.{isKind, degrees, messageBytes};
-ghost use Rattle.frames.specs.Message.{stacked};
+ghost use Rattle.e8.specs.Energy.{energy as energyOf, Within};
+ghost use Rattle.e8.specs.Least.{leastFrame};
+ghost use Rattle.frames.specs.Kind.{isKind, messageBytes};
+ghost use Rattle.frames.specs.Message.{leader};
 ghost use Rattle.frames.specs.Frame.{sentFrame};
 ghost use Rattle.frames.specs.Sending.{sendRefusal, frameAfter, energySent, LeastEnergy};
 
@@ -20,25 +19,42 @@ pub struct Outcome {
     pub energy: u64,
 }
 
-// Shapes the leader block by block into the lent frame, and gives the energy of it all; `sums` are the stacked levels.
-fn shape(kind: u8, grade: usize, message: &[u8], sums: &[u8], frame: &mut [i32]) -> u64
-    requires { ⌜ (isKind kind ≡ true) × (1 ≤ grade) × (grade ≤ 4) × (length (now message) ≡ messageBytes kind grade) ⌝ }
-    requires { ⌜ (now sums ≡ table (2 ^ kind) (stacked kind (degrees kind) (messageBit (now message)) 0 0)) × (length (now frame) ≡ 2 ^ kind) ⌝ }
-    ensures frame { λ _. ⌜ now (frame .exit) ≡ sentFrame kind grade (now (message .entry)) ⌝ }
-    ensures energy { λ r. ⌜ r ≡ energyOf (sentFrame kind grade (now (message .entry))) ⌝ }
+// Writes the coset leader of a message over the lent frame, block by block.
+fn lay(kind: u8, grade: usize, message: &[u8], frame: &mut [i32])
+    requires { ⌜ (isKind kind ≡ true) × (1 ≤ grade) × (grade ≤ 4) × (length (now message) ≡ messageBytes kind grade) × (length (now frame) ≡ 2 ^ kind) ⌝ }
+    ensures { λ _. ⌜ now (frame .exit) ≡ leader kind grade (now (message .entry)) ⌝ }
 {
-    let a = kind_table::levels(kind);
+    let words = leader::codewords(kind, message);
+    let low = words.low;
+    let high = words.high;
     let base = kind_table::level_bits(kind);
+    let weight = kind_table::levels(kind) as u32;
     let blocks = frame.len() / 8;
-    let scale = (a + grade - 1) as u32;
-    let weight = a as u32;
-    let mut energy: u64 = 0;
     let mut j: usize = 0;
     while j < blocks {
         let s = 8 * j;
         let e = s + 8;
-        let x = leader::block(message, base + 8 * grade * j, grade, weight, &sums[s..e]);
-        let y = shaping::least(scale, x);
+        let from = base + 8 * grade * j;
+        let x = leader::block(message, from, grade, weight, low >> s, high >> s);
+        shaping::store(x, &mut frame[s..e]);
+        j += 1;
+    }
+}
+
+// Shapes a frame of whole blocks in place, for half the scale 2^k, and gives the energy of it all.
+fn shape(k: u32, frame: &mut [i32]) -> u64
+    requires { ⌜ (k ≤ 6) × (length (now frame) % 8 ≡ 0) × (length (now frame) ≤ 1024) × Within (2 ^ 24) (now frame) ⌝ }
+    ensures frame { λ _. ⌜ now (frame .exit) ≡ leastFrame (2 ^ k) (length (now (frame .entry)) / 8) (now (frame .entry)) ⌝ }
+    ensures energy { λ r. ⌜ r ≡ energyOf (leastFrame (2 ^ k) (length (now (frame .entry)) / 8) (now (frame .entry))) ⌝ }
+{
+    let n = frame.len() / 8;
+    let mut energy: u64 = 0;
+    let mut j: usize = 0;
+    while j < n {
+        let s = 8 * j;
+        let e = s + 8;
+        let x = shaping::load(&frame[s..e]);
+        let y = shaping::least(k, x);
         shaping::store(y, &mut frame[s..e]);
         energy += shaping::energy(&frame[s..e]);
         j += 1;
@@ -46,17 +62,15 @@ fn shape(kind: u8, grade: usize, message: &[u8], sums: &[u8], frame: &mut [i32])
     energy
 }
 
-// Sends a message of a good kind, grade and length.
+// Sends a message of a good kind, grade and length: its leader is laid, and shaped.
 fn fill(kind: u8, grade: usize, message: &[u8], frame: &mut [i32]) -> u64
     requires { ⌜ (isKind kind ≡ true) × (1 ≤ grade) × (grade ≤ 4) × (length (now message) ≡ messageBytes kind grade) × (length (now frame) ≡ 2 ^ kind) ⌝ }
     ensures frame { λ _. ⌜ now (frame .exit) ≡ sentFrame kind grade (now (message .entry)) ⌝ }
     ensures energy { λ r. ⌜ r ≡ energyOf (sentFrame kind grade (now (message .entry))) ⌝ }
 {
-    let n = frame.len();
-    let mut word = [0u8; 64];
-    let mut sums = [0u8; 64];
-    leader::stack(kind, message, &mut word[..n], &mut sums[..n]);
-    shape(kind, grade, message, &sums[..n], frame)
+    lay(kind, grade, message, frame);
+    let k = kind_table::levels(kind) + grade - 1;
+    shape(k as u32, frame)
 }
 
 // The tests alone, for a caller that has a test of its own to make before anything is written; n coordinates are lent.

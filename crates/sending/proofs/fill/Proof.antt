@@ -1,96 +1,84 @@
--- `fill` meets its contract: the levels are stacked, and the blocks shaped. Assumes nothing.
-use Prim.Native.Nat.{ℕ, _*_, _^_, _≤_}
-use mathlib.Core.Path.{_≡_, sym, ap, _∙_, subst}
+-- `fill` meets its contract: the shaped leader is the sent frame. Assumes nothing.
+use Prim.Native.Nat.{ℕ, _+_, _-_, _/_, _^_, _≤_}
+use mathlib.Core.Path.{_≡_, sym, ap, ap₂, _∙_, subst}
+use mathlib.Core.List.{List}
 use native.Mathlib.Omega.{arith}
-use lib.ListN.{length, drop, replicate, length-append}
-use Rattle.reed_muller.specs.Level.{table}
-use Rattle.reed_muller.specs.Message.{messageBit}
-use Rattle.reed_muller.proofs.Table.{length-table}
-use Rattle.frames.specs.Kind.{degrees, levelBits}
-use Rattle.frames.specs.Message.{stacked}
+use lib.ListN.{length}
+use lib.IntN.{ℤ}
+use Rattle.e8.specs.Energy.{energy, Within}
+use Rattle.e8.specs.Least.{leastFrame}
+use Rattle.frames.specs.Kind.{levels as levels-of}
+use Rattle.frames.specs.Message.{leader}
+use Rattle.frames.specs.Frame.{half, sentFrame}
+use Rattle.frames.proofs.One.{leader-length}
+use Rattle.frames.proofs.Bounds.{few-levels}
 use Rattle.kind_table.proofs.Each.{size}
-use Rattle.sending.proofs.Turn.{zeros, zeros-length, front-again, levels-first}
+use Rattle.sending.proofs.Laid.{long, leader-within}
 use borrow.Author.Needs.{needs}
 use Rattle.sending.proofs.fill.Statement.{statement}
 use Rattle.sending.proofs.fill.Tie as tie
 
--- at most 32 coordinates
-short : (c : tie.Start) → length (c .args .frame .now) ≤ 32
-short c = omega (arith, size (c .args .kind) (c .pre .0) .positions, c .pre .4)
+-- the leader shaped by half the scale
+sent-is : (k b a : ℕ) (bytes : List ℕ) (f : List ℤ) → a ≡ levels-of k → f ≡ leader k b bytes → leastFrame (2 ^ (a + b - 1)) (length f / 8) f ≡ sentFrame k b bytes
+unfolding sentFrame half
+sent-is k b a bytes f e q =
+    ap₂ (λ (n : ℕ) (x : List ℤ). leastFrame (2 ^ (n + b - 1)) (length x / 8) x) e q
+    ∙ ap (λ (n : ℕ). leastFrame (half k b) (n / 8) (leader k b bytes)) (leader-length k b bytes)
 
--- the sums are as long as the frame
-sums-long : (c : tie.After-stack) → length (c .stack .last .1 .1 .1 .0) ≡ 2 ^ c .before .before .before .before .args .kind
-sums-long c =
-    let s = c .before .before .before .before in
-    ap length (c .stack .ensures) ∙ length-table (stacked (s .args .kind) (degrees (s .args .kind)) (messageBit (s .args .message .now)) 0 0) (2 ^ s .args .kind)
+few : (c : tie.After-levels) → c .levels .result ≤ 2
+few c =
+    let s = c .before .before .before .before .before in
+    omega (arith, c .levels .ensures, few-levels (s .args .kind) (s .pre .0))
 
-array-borrow-prefix-word : tie.Need-array-borrow-prefix-word
-array-borrow-prefix-word c = omega (arith, short (c .before))
+lay-requires : tie.Need-lay-requires
+lay-requires c κs = search needs
 
-slice-aggregate-stack : tie.Need-slice-aggregate-stack
-slice-aggregate-stack c =
-    let s = c .before .before in
-    sym (zeros-length (length (s .args .frame .now)) 64 (omega (arith, short s)))
+levels-requires : tie.Need-levels-requires
+levels-requires c κs = search needs
 
-array-borrow-prefix-sums : tie.Need-array-borrow-prefix-sums
-array-borrow-prefix-sums c = omega (arith, short (c .before .before))
+add-k : tie.Need-add-k
+add-k c = omega (arith, few c)
 
-slice-aggregate-stack-2 : tie.Need-slice-aggregate-stack-2
-slice-aggregate-stack-2 c =
-    let s = c .before .before .before in
-    sym (zeros-length (length (s .args .frame .now)) 64 (omega (arith, short s)))
+sub-k : tie.Need-sub-k
+sub-k c = search needs
 
-stack-requires : tie.Need-stack-requires
-stack-requires c κs =
-    let s = c .before .before .before in
-    let n = length (s .args .frame .now) in (
-      (s .pre .0, subst (λ (m : ℕ). levelBits (s .args .kind) ≤ 8 * m) (sym (s .pre .3)) (levels-first (s .args .kind) (s .args .grade))),
-      (
-        zeros-length n 64 (omega (arith, short s)) ∙ s .pre .4,
-        zeros n 64 (omega (arith, short s)) ∙ ap (λ (m : ℕ). table m (λ p. 0)) (s .pre .4),
-      ),
-    )
-
-array-share-prefix-sums : tie.Need-array-share-prefix-sums
-array-share-prefix-sums c =
-    let t = c .before .before in
-    let s = t .before .before .before .before in
-    simp length-append (omega (arith, sums-long t, s .pre .4))
-
-slice-aggregate-shape : tie.Need-slice-aggregate-shape
-slice-aggregate-shape c =
-    let t = c .before .before .before in
-    let s = t .before .before .before .before in
-    sym (ap length (front-again (t .stack .last .1 .1 .1 .0) (drop (length (s .args .frame .now)) (replicate 64 0)) (length (s .args .frame .now)) (sums-long t ∙ sym (s .pre .4))) ∙ sums-long t ∙ sym (s .pre .4))
+cast-shape : tie.Need-cast-shape
+cast-shape c = omega (arith, few c)
 
 shape-requires : tie.Need-shape-requires
 shape-requires c κs =
-    let t = c .before .before .before .before in
-    let s = t .before .before .before .before in (
-      (s .pre .0, s .pre .1, s .pre .2, s .pre .3),
-      (
-        front-again (t .stack .last .1 .1 .1 .0) (drop (length (s .args .frame .now)) (replicate 64 0)) (length (s .args .frame .now)) (sums-long t ∙ sym (s .pre .4)) ∙ t .stack .ensures,
-        s .pre .4,
-      ),
+    let l = c .before .before .before in
+    let s = l .before .before .before in
+    let k = s .args .kind in
+    let e = ap length (l .lay .ensures) in
+    let n = long k (s .args .grade) (s .pre .0) (s .args .message .now) in (
+      omega (arith, few (c .before)),
+      omega (arith, e, n),
+      omega (arith, e, leader-length k (s .args .grade) (s .args .message .now), size k (s .pre .0) .positions),
+      subst (Within (2 ^ 24)) (sym (l .lay .ensures)) (leader-within k (s .args .grade) (s .pre .0) (s .args .message .now) (s .pre .2)),
     )
 
 same-length : tie.Need-same-length
 same-length c = search needs
 
 returns : tie.Need-returns
-returns c = search needs
+returns c =
+    let h = c .before in
+    let v = h .before .before in
+    let l = v .before .before in
+    let s = l .before .before .before in
+    let e = sent-is (s .args .kind) (s .args .grade) (v .levels .result) (s .args .message .now) (l .lay .last .1 .1 .1 .0) (v .levels .ensures) (l .lay .ensures) in
+    (h .shape .ensures .0 ∙ e, h .shape .ensures .1 ∙ ap energy e)
 
 pub fill-spec : {M : Type 1} → statement M
 fill-spec =
     tie.close
     (tie.spec
-    array-borrow-prefix-word
-    slice-aggregate-stack
-    array-borrow-prefix-sums
-    slice-aggregate-stack-2
-    stack-requires
-    array-share-prefix-sums
-    slice-aggregate-shape
+    lay-requires
+    levels-requires
+    add-k
+    sub-k
+    cast-shape
     shape-requires
     same-length
     returns)

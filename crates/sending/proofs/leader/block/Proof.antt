@@ -1,10 +1,11 @@
 -- `leader::block` meets its contract: the coordinates passed so far are made. Assumes nothing.
-use Prim.Native.Nat.{ℕ, _+_, _-_, _*_, _^_, _≤_, _<_, _%_}
+use Prim.Native.Nat.{ℕ, suc, _+_, _-_, _*_, _/_, _%_, _^_, _≤_, _<_}
 use mathlib.Core.Path.{_≡_, refl, sym, ap, ap₂, _∙_}
 use native.Mathlib.Omega.{arith}
 use native.Mathlib.Numerals.{add-one}
 use lib.ListN.{length, getD, take, length-set}
 use lib.Seq.{take-all}
+use lib.Pow.{pow-mono, pow-pos}
 use lib.IntN.{pos}
 use mir.Syntax.{w32}
 use mir.Val.{toZ}
@@ -15,96 +16,110 @@ use Rattle.reed_muller.proofs.Parity.{message-small}
 use Rattle.e8.specs.Rows.{ints}
 use Rattle.frames.specs.Message.{widths, number, numbers}
 use Rattle.frames.proofs.Numbers.{total}
-use Rattle.sending.proofs.Bits.{number-small}
+use Rattle.sending.proofs.Bits.{number-small, number-held}
 use Rattle.sending.proofs.Block.{numbers-at, total-suc, total-le, ints-more, ints-none, width-small, widths-total, scaled-small}
 use Rattle.sending.proofs.leader.block.Statement.{statement}
 use Rattle.sending.proofs.leader.block.Tie as tie
 
 abbrev Inv-loop : tie.InvT-loop
-Inv-loop message from grade a sums x₀ at₀ c₀ x at c =
-    (c ≤ 8) × ((at ≡ from + total (take c (widths grade))) × ((length x ≡ 8) × (take c x ≡ ints (table c (λ o. getD sums o 0 + 2 ^ a * getD (numbers (messageBit message) from (widths grade)) o 0)))))
+Inv-loop message from grade a low high bits x₀ at₀ c₀ x at c =
+    (c ≤ 8) × (at ≡ total (take c (widths grade))) × (length x ≡ 8)
+    × (take c x ≡ ints (table c (λ o. low / 2 ^ o % 2 + 2 * (high / 2 ^ o % 2) + 2 ^ a * getD (numbers (messageBit message) from (widths grade)) o 0)))
 
 abbrev μ-loop : tie.MeasureT-loop
-μ-loop message from grade a sums x₀ at₀ c₀ x at c = 8 - c
+μ-loop message from grade a low high bits x₀ at₀ c₀ x at c = 8 - c
+
+mul-bits-at : tie.Need-mul-bits-at Inv-loop μ-loop
+mul-bits-at c = omega arith
+
+bits-at-requires : tie.Need-bits-at-requires Inv-loop μ-loop
+bits-at-requires c κs = (omega arith, omega arith, omega arith)
 
 loop-holds : tie.Need-loop-holds Inv-loop μ-loop
-loop-holds c = (omega arith, (omega arith, (refl, ints-none _)))
+loop-holds c = (omega arith, refl, refl, ints-none _)
 
 width-requires : tie.Need-width-requires Inv-loop μ-loop
 width-requires c κs =
     let s = c .before .before .before .before in
-    (s .pre .0 .0, s .pre .0 .1, c .loop-test .taken)
+    (s .pre .0, s .pre .1, c .loop-test .taken)
 
-number-requires : tie.Need-number-requires Inv-loop μ-loop
-number-requires c κs =
+-- a number of at most five bits, among the block's
+record Fit (c : tie.After-width Inv-loop μ-loop) : Type 0 where
+  narrow : c .width .result ≤ 5
+  inside : c .before .before .loop .at + c .width .result ≤ 8 * c .before .before .before .before .before .args .grade
+
+fit : (c : tie.After-width Inv-loop μ-loop) → Fit c
+fit c =
     let a = c .before .before in
     let s = a .before .before .before in
-    let w = c .width .ensures in (
-      omega (arith, w, width-small (s .args .grade) (a .loop .c) (s .pre .0 .1) (c .before .loop-test .taken)),
-      omega (arith, a .loop .inv .1 .0, s .pre .0 .3, s .pre .0 .1, total-le (widths (s .args .grade)) (a .loop .c), widths-total (s .args .grade) (s .pre .0 .0)),
-    )
+    let b = s .args .grade in
+    let lt : a .loop .c < 8 = c .before .loop-test .taken in record {
+      narrow = omega (arith, c .width .ensures, width-small b (a .loop .c) (s .pre .1) lt);
+      inside = omega (arith, c .width .ensures, a .loop .inv .1, total-suc (widths b) (a .loop .c) lt, total-le (widths b) (suc (a .loop .c)), widths-total b (s .pre .0));
+    }
+
+-- the number that is taken, and 2^a times it
+abbrev taken : (c : tie.After-width Inv-loop μ-loop) → ℕ
+taken c =
+    let a = c .before .before in
+    a .before .bits-at .result / 2 ^ a .loop .at % (1 * 2 ^ c .width .result % 18446744073709551616)
+
+taken-is : (c : tie.After-width Inv-loop μ-loop) → let a = c .before .before in let s = a .before .before .before in
+    taken c ≡ number (messageBit (s .args .message .now)) (s .args .from + a .loop .at) (c .width .result)
+taken-is c =
+    let a = c .before .before in
+    let s = a .before .before .before in
+    let w = c .width .result in
+    let p : 1 * 2 ^ w % 18446744073709551616 ≡ 2 ^ w = omega (arith, pow-mono {i = w} {j = 5} (fit c .narrow)) in
+    ap (λ (n : ℕ). a .before .bits-at .result / 2 ^ a .loop .at % n) p
+    ∙ number-held (messageBit (s .args .message .now)) (s .args .from) (8 * s .args .grade) (a .before .bits-at .result) (a .before .bits-at .ensures) (a .loop .at) w (fit c .inside)
+
+small : (c : tie.After-width Inv-loop μ-loop) → taken c * 2 ^ c .before .before .before .before .before .args .a ≤ 248
+small c =
+    let a = c .before .before in
+    let s = a .before .before .before in
+    scaled-small (taken c) (s .args .a)
+    (omega (arith, taken-is c, number-small (messageBit (s .args .message .now)) (s .args .from + a .loop .at) (message-small (s .args .message .now)) (c .width .result) (fit c .narrow)))
+    (s .pre .2)
+
+shr-s : tie.Need-shr-s Inv-loop μ-loop
+shr-s c = omega (arith, fit c .inside)
 
 shl-s : tie.Need-shl-s Inv-loop μ-loop
-shl-s c = omega arith
+shl-s c = omega (arith, fit c .narrow)
 
-shared-slice-read-x : tie.Need-shared-slice-read-x Inv-loop μ-loop
-shared-slice-read-x c = omega arith
+rem-s : tie.Need-rem-s Inv-loop μ-loop
+rem-s c = omega (arith, pow-mono {i = c .width .result} {j = 5} (fit c .narrow), pow-pos (c .width .result))
 
--- the number, 2^a times
-small : (c : tie.After-shared-slice-known3 Inv-loop μ-loop) → c .before .number .result * 2 ^ c .before .before .before .before .before .before .before .args .a ≤ 248
-small c =
-    let a = c .before .before .before .before in
-    let s = a .before .before .before in
-    scaled-small (c .before .number .result) (s .args .a)
-    (omega (
-      arith,
-      c .before .number .ensures,
-      number-small (messageBit (s .args .message .now)) (a .loop .at) (message-small (s .args .message .now)) (c .before .before .width .result)
-          (omega (arith, c .before .before .width .ensures, width-small (s .args .grade) (a .loop .c) (s .pre .0 .1) (c .before .before .before .loop-test .taken))),
-    ))
-    (s .pre .0 .2)
+shr-x : tie.Need-shr-x Inv-loop μ-loop
+shr-x c = omega arith
 
-value : (c : tie.After-shared-slice-known3 Inv-loop μ-loop) → let a = c .before .before .before .before in let s = a .before .before .before in
-    c .before .number .result * 2 ^ s .args .a % 4294967296 + getD (s .args .sums .now) (a .loop .c) 0
-    ≡ getD (s .args .sums .now) (a .loop .c) 0 + 2 ^ s .args .a * getD (numbers (messageBit (s .args .message .now)) (s .args .from) (widths (s .args .grade))) (a .loop .c) 0
-value c =
-    let a = c .before .before .before .before in
-    let s = a .before .before .before in
-    let e : c .before .number .result ≡ getD (numbers (messageBit (s .args .message .now)) (s .args .from) (widths (s .args .grade))) (a .loop .c) 0 =
-    c .before .number .ensures
-    ∙ ap₂ (number (messageBit (s .args .message .now))) (a .loop .inv .1 .0) (c .before .before .width .ensures)
-    ∙ sym (numbers-at (messageBit (s .args .message .now)) (s .args .from) (widths (s .args .grade)) (a .loop .c) (c .before .before .before .loop-test .taken)) in
-    omega (arith, small c, ap (λ (n : ℕ). n * 2 ^ s .args .a) e)
-
-cast-x : tie.Need-cast-x Inv-loop μ-loop
-cast-x c =
-    let a = c .before .before .before .before in
-    let s = a .before .before .before in
-    omega (arith, s .pre .1 .1 (a .loop .c))
-
-add-x : tie.Need-add-x Inv-loop μ-loop
-add-x c =
-    let a = c .before .before .before .before in
-    let s = a .before .before .before in
-    omega (arith, s .pre .1 .1 (a .loop .c), small c)
-
-cast-x-2 : tie.Need-cast-x-2 Inv-loop μ-loop
-cast-x-2 c =
-    let a = c .before .before .before .before in
-    let s = a .before .before .before in
-    record { sfits = omega (arith, s .pre .1 .1 (a .loop .c), small c) }
+shr-x-2 : tie.Need-shr-x-2 Inv-loop μ-loop
+shr-x-2 c = omega arith
 
 mul-x : tie.Need-mul-x Inv-loop μ-loop
 mul-x c = omega arith
+
+add-x : tie.Need-add-x Inv-loop μ-loop
+add-x c = omega arith
+
+shl-x : tie.Need-shl-x Inv-loop μ-loop
+shl-x c = omega arith
+
+add-x-2 : tie.Need-add-x-2 Inv-loop μ-loop
+add-x-2 c = omega (arith, small c)
+
+cast-x : tie.Need-cast-x Inv-loop μ-loop
+cast-x c = record { sfits = omega (arith, small c) }
+
+mul-x-2 : tie.Need-mul-x-2 Inv-loop μ-loop
+mul-x-2 c = omega arith
 
 array-set-from-x : tie.Need-array-set-from-x Inv-loop μ-loop
 array-set-from-x c = omega arith
 
 add-at : tie.Need-add-at Inv-loop μ-loop
-add-at c =
-    let a = c .before .before .before .before in
-    let s = a .before .before .before in
-    omega (arith, a .loop .inv .1 .0, s .pre .0 .3, s .pre .0 .1, total-le (widths (s .args .grade)) (a .loop .c), widths-total (s .args .grade) (s .pre .0 .0), c .before .before .width .ensures, width-small (s .args .grade) (a .loop .c) (s .pre .0 .1) (c .before .before .before .loop-test .taken))
+add-at c = omega (arith, fit c .inside)
 
 add-c : tie.Need-add-c Inv-loop μ-loop
 add-c c = omega arith
@@ -112,28 +127,37 @@ add-c c = omega arith
 loop-less : tie.Need-loop-less Inv-loop μ-loop
 loop-less c = omega arith
 
+-- the coordinate that is made
+value : (c : tie.After-width Inv-loop μ-loop) → let a = c .before .before in let s = a .before .before .before in
+    s .args .low / 2 ^ a .loop .c % 2 + 2 * (s .args .high / 2 ^ a .loop .c % 2) + taken c * 2 ^ s .args .a % 18446744073709551616
+    ≡ s .args .low / 2 ^ a .loop .c % 2 + 2 * (s .args .high / 2 ^ a .loop .c % 2)
+    + 2 ^ s .args .a * getD (numbers (messageBit (s .args .message .now)) (s .args .from) (widths (s .args .grade))) (a .loop .c) 0
+value c =
+    let a = c .before .before in
+    let s = a .before .before .before in
+    let e : taken c ≡ getD (numbers (messageBit (s .args .message .now)) (s .args .from) (widths (s .args .grade))) (a .loop .c) 0 =
+    taken-is c
+    ∙ ap₂ (λ (n w : ℕ). number (messageBit (s .args .message .now)) (s .args .from + n) w) (a .loop .inv .1) (c .width .ensures)
+    ∙ sym (numbers-at (messageBit (s .args .message .now)) (s .args .from) (widths (s .args .grade)) (a .loop .c) (c .before .loop-test .taken)) in
+    omega (arith, small c, ap (λ (n : ℕ). n * 2 ^ s .args .a) e)
+
 loop-again : tie.Need-loop-again Inv-loop μ-loop
 loop-again c =
-    let a = c .before .before .before .before in
+    let a = c .before .before in
     let s = a .before .before .before in
-    let lt : a .loop .c < 8 = c .before .before .before .loop-test .taken in
-    let v : ℕ = c .before .number .result * 2 ^ s .args .a % 4294967296 + getD (s .args .sums .now) (a .loop .c) 0 in (
+    let lt : a .loop .c < 8 = c .before .loop-test .taken in
+    let v : ℕ = s .args .low / 2 ^ a .loop .c % 2 + 2 * (s .args .high / 2 ^ a .loop .c % 2) + taken c * 2 ^ s .args .a % 18446744073709551616 in (
       omega arith,
-      (
-        rw add-one (omega (arith, total-suc (widths (s .args .grade)) (a .loop .c) lt, a .loop .inv .1 .0, c .before .before .width .ensures)),
-        (
-          length-set (a .loop .x) (a .loop .c) (toZ w32 v) ∙ a .loop .inv .1 .1 .0,
-          ints-more _ (a .loop .x) (a .loop .c) (toZ w32 v) (omega (arith, a .loop .inv .1 .1 .0))
-              (toZ-pos w32 {n = v} (omega (arith, s .pre .1 .1 (a .loop .c), small c)) ∙ ap pos (value c)) (a .loop .inv .1 .1 .1),
-        ),
-      ),
+      rw add-one (omega (arith, total-suc (widths (s .args .grade)) (a .loop .c) lt, a .loop .inv .1, c .width .ensures)),
+      length-set (a .loop .x) (a .loop .c) (toZ w32 v) ∙ a .loop .inv .2,
+      ints-more _ (a .loop .x) (a .loop .c) (toZ w32 v) (omega (arith, a .loop .inv .2)) (toZ-pos w32 {n = v} (omega (arith, small c)) ∙ ap pos (value c)) (a .loop .inv .3),
     )
 
 returns : tie.Need-returns Inv-loop μ-loop
 returns c =
     let l = c .before .loop in
     let q : l .c ≡ 8 = omega arith in
-    sym (take-all 8 (l .x) (omega (arith, l .inv .1 .1 .0))) ∙ (rw q at (l .inv .1 .1 .1))
+    sym (take-all 8 (l .x) (omega (arith, l .inv .2))) ∙ (rw q at (l .inv .3))
 
 pub block-spec : {M : Type 1} → statement M
 block-spec =
@@ -141,15 +165,21 @@ block-spec =
     (tie.spec
     Inv-loop
     μ-loop
+    mul-bits-at
+    bits-at-requires
     loop-holds
     width-requires
-    number-requires
+    shr-s
     shl-s
-    shared-slice-read-x
-    cast-x
-    add-x
-    cast-x-2
+    rem-s
+    shr-x
+    shr-x-2
     mul-x
+    add-x
+    shl-x
+    add-x-2
+    cast-x
+    mul-x-2
     array-set-from-x
     add-at
     add-c

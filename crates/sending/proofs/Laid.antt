@@ -1,0 +1,99 @@
+-- The coset leader, block by block, and the size of its coordinates. Assumes nothing.
+use Prim.Native.Nat.{ℕ, _+_, _-_, _*_, _/_, _%_, _^_, _≤_, _<_}
+use mathlib.Core.Path.{_≡_, sym, ap, ap₂, _∙_}
+use mathlib.Core.Bool.{true}
+use mathlib.Core.List.{List}
+use native.Mathlib.Nat.{mul-le-mul, mul-le-mul-left}
+use native.Mathlib.Omega.{arith}
+use lib.ListN.{length, getD, take}
+use lib.Seq.{ext-getD}
+use lib.Pow.{pow-mono}
+use lib.IntN.{ℤ, pos}
+use Rattle.reed_muller.specs.Level.{table}
+use Rattle.reed_muller.specs.Message.{messageBit}
+use Rattle.reed_muller.proofs.Parity.{message-small}
+use Rattle.reed_muller.proofs.Table.{length-table, table-at}
+use Rattle.reed_muller.proofs.Digits.{digit-from}
+use Rattle.e8.specs.Energy.{Within}
+use Rattle.e8.specs.Lattice.{part}
+use Rattle.e8.specs.Rows.{ints}
+use Rattle.frames.specs.Kind.{isKind, degrees, levels, blocks, levelBits, messageBits, messageBytes}
+use Rattle.frames.specs.Message.{widths, numbers, blockNumbers, stacked, coordinate, leader}
+use Rattle.frames.proofs.Frame.{at, ints-at, ints-length, part-length, part-at}
+use Rattle.frames.proofs.One.{leader-length, leader-at}
+use Rattle.frames.proofs.Rows.{shape}
+use Rattle.frames.proofs.Numbers.{total}
+use Rattle.frames.proofs.Bounds.{few-levels}
+use Rattle.sending.proofs.Bits.{number-small}
+use Rattle.sending.proofs.Block.{numbers-at, width-small}
+use Rattle.sending.proofs.Stack.{stacked-below}
+use Rattle.sending.proofs.Blocks.{within-below}
+
+-- `low` and `high` hold the codewords of the levels
+abbrev Stacks : ℕ → List ℕ → ℕ → ℕ → Type 0
+Stacks k bytes low high = (p s : ℕ) → p < 2 ^ k → stacked k (degrees k) (messageBit bytes) 0 s p ≡ low / 2 ^ p % 2 + 2 * (high / 2 ^ p % 2) + 2 ^ levels k * s
+
+module _ (k b : ℕ) (kind : isKind k ≡ true) (bytes : List ℕ) where
+  pub long : length (leader k b bytes) ≡ 8 * blocks k
+  long = leader-length k b bytes ∙ sym (shape k kind .whole)
+
+  -- the code's block of the leader
+  pub block-is : (low high : ℕ) → Stacks k bytes low high → (j : ℕ) → j < blocks k
+      → ints (table 8 (λ o. low / 2 ^ (8 * j) / 2 ^ o % 2 + 2 * (high / 2 ^ (8 * j) / 2 ^ o % 2) + 2 ^ levels k * getD (numbers (messageBit bytes) (levelBits k + 8 * b * j) (widths b)) o 0)) ≡ part j (leader k b bytes)
+  unfolding coordinate blockNumbers
+  block-is low high stacks j h =
+      ext-getD (pos 0) _ (part j L) (ints-length (table 8 F) ∙ length-table F 8 ∙ sym (part-length L (blocks k) j long h)) (λ o l. at-o o (omega (arith, l, ints-length (table 8 F), length-table F 8)))
+    where
+      L : List ℤ
+      L = leader k b bytes
+
+      N : ℕ → ℕ
+      N o = getD (numbers (messageBit bytes) (levelBits k + 8 * b * j) (widths b)) o 0
+
+      F : ℕ → ℕ
+      F o = low / 2 ^ (8 * j) / 2 ^ o % 2 + 2 * (high / 2 ^ (8 * j) / 2 ^ o % 2) + 2 ^ levels k * N o
+
+      at-o : (o : ℕ) → o < 8 → at (ints (table 8 F)) o ≡ at (part j L) o
+      at-o o ho =
+          let w : 8 * blocks k ≡ 2 ^ k = shape k kind .whole in
+          let p : 8 * j + o < 2 ^ k = omega arith in
+          let ej : (8 * j + o) / 8 ≡ j = omega arith in
+          let eo : (8 * j + o) % 8 ≡ o = omega arith in
+          ints-at (table 8 F) o ∙ ap pos (table-at F 8 o ho
+          ∙ ap₂ (λ (x y : ℕ). x + 2 * y + 2 ^ levels k * N o) (digit-from low (8 * j) o) (digit-from high (8 * j) o)
+          ∙ sym (stacks (8 * j + o) (N o) p)
+          ∙ ap₂ (λ (i r : ℕ). stacked k (degrees k) (messageBit bytes) 0 (getD (blockNumbers k b bytes i) r 0) (8 * j + o)) (sym ej) (sym eo))
+          ∙ sym (leader-at k b bytes (8 * j + o) p) ∙ sym (part-at L (blocks k) j long h o ho)
+
+  -- the bits of block j are in the message
+  pub block-room : (j : ℕ) → j < blocks k → length bytes ≡ messageBytes k b → levelBits k + 8 * b * j + 8 * b ≤ 8 * length bytes
+  unfolding messageBytes messageBits
+  block-room j h e = omega (arith, mul-le-mul-left (8 * b) h, ap (λ (n : ℕ). n * b) (shape k kind .whole))
+
+  -- ---- the leader's coordinates are small
+
+  module _ (high : b ≤ 4) where
+    number-below : (j r : ℕ) → r < 8 → getD (blockNumbers k b bytes j) r 0 < 32
+    unfolding blockNumbers
+    number-below j r h = rw (numbers-at (messageBit bytes) (levelBits k + 8 * b * j) (widths b) r h)
+        (number-small (messageBit bytes) (levelBits k + 8 * b * j + total (take r (widths b))) (message-small bytes) (getD (widths b) r 0) (width-small b r high h))
+
+    coordinate-below : (p : ℕ) → coordinate k b bytes p ≤ 127
+    unfolding coordinate levels
+    coordinate-below p =
+        let r : p % 8 < 8 = omega arith in
+        let s : getD (blockNumbers k b bytes (p / 8)) (p % 8) 0 < 32 = number-below (p / 8) (p % 8) r in
+        let f : 2 ^ length (degrees k) * (getD (blockNumbers k b bytes (p / 8)) (p % 8) 0 + 1) ≤ 4 * 32 = mul-le-mul {n₁ = 2 ^ length (degrees k)} {m₁ = getD (blockNumbers k b bytes (p / 8)) (p % 8) 0 + 1} {n₂ = 4} {m₂ = 32} (pow-mono {j = 2} (few-levels k kind)) (omega arith) in
+        omega (arith, stacked-below k (degrees k) (messageBit bytes) 0 (getD (blockNumbers k b bytes (p / 8)) (p % 8) 0) p)
+
+    pub leader-within : Within (2 ^ 24) (leader k b bytes)
+    leader-within =
+        within-below (2 ^ 24) (2 ^ k) (leader k b bytes) (omega (arith, leader-length k b bytes)) (λ p l. rw (leader-at k b bytes p l) (omega (arith, coordinate-below p)))
+
+-- the offset of a block's bits among those of all blocks
+pub offset-small : (b j : ℕ) → b ≤ 4 → j ≤ 4 → 8 * b * j ≤ 128
+offset-small b j h g = mul-le-mul {n₂ = 32} (omega arith) g
+
+pub levels-first : (k b : ℕ) → levelBits k ≤ 8 * messageBytes k b
+unfolding messageBytes messageBits
+levels-first k b = omega arith
