@@ -388,14 +388,6 @@ pub fn clear_above(bits: u64, m: usize, r: usize) -> bool
     heavies << (64 - positions(m)) == 0
 }
 
-// Whether a word held in a number belongs to RM(r,m).
-pub fn holds_codeword(w: u64, m: usize, r: usize) -> bool
-    requires { ⌜ Tabled m × (r ≤ m) ⌝ }
-    ensures { λ b. ⌜ b ≡ belongs r m (λ p. w / 2 ^ p % 2) ⌝ }
-{
-    clear_above(transformed(w), m, r)
-}
-
 // Whether a word belongs to RM(r,m).
 pub fn is_codeword(word: &[u8], m: usize, r: usize) -> bool
     requires { ⌜ Tabled m × (r ≤ m) × (2 ^ m ≤ length (now word)) ⌝ }
@@ -441,15 +433,6 @@ pub fn put_message(bits: u64, m: usize, r: usize, out: &mut [u8], from: usize)
     let count = dimension_of(m, r);
     let message = message_of(bits, m, r);
     put_bits(message, count, out, from);
-}
-
-// The same of a level's word held in a number.
-pub fn read_held(w: u64, m: usize, r: usize, out: &mut [u8], from: usize)
-    requires { ⌜ Tabled m × (r ≤ m) × (from ≤ 1000) × (from + dimension r m ≤ 8 * length (now out)) ⌝ }
-    ensures { λ _. ⌜ now (out .exit) ≡ bytesOf (length (now (out .entry)))
-        (withBits from (dimension r m) (λ k. backwards m (λ p. w / 2 ^ p % 2) (getD (order m) k 0)) (messageBit (now (out .entry)))) ⌝ }
-{
-    put_message(transformed(w), m, r, out, from);
 }
 
 // The same of a level's word.
