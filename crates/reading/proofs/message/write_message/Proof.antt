@@ -40,7 +40,7 @@ slice-write-out c = let s = c .before .before in omega (arith, some s)
 write-levels-requires : tie.Need-write-levels-requires
 write-levels-requires c κs =
     let s = c .before .before .before in
-    (s .pre .0, s .pre .4 .room, omega (arith, length-set (out s) (length (out s) - 1) 0, s .pre .5, levels-hold (s .args .kind) (s .args .grade)))
+    (s .pre .0, s .pre .4 .room, simp length-set (omega (arith, s .pre .5, levels-hold (s .args .kind) (s .args .grade))))
 
 write-blocks-requires : tie.Need-write-blocks-requires
 write-blocks-requires c κs =
@@ -52,7 +52,7 @@ write-blocks-requires c κs =
       grade-high (s .args .grade) (s .pre .1),
       s .pre .2,
       within-to 1048576 (2 ^ 24) f (omega arith) (range-within f (s .pre .3)),
-      omega (arith, w .write-levels .ensures f (s .pre .4) .long, length-set (out s) (length (out s) - 1) 0, s .pre .5, bytes-hold (s .args .kind) (s .args .grade)),
+      omega (arith, simp length-set at (w .write-levels .ensures f (s .pre .4) .long), s .pre .5, bytes-hold (s .args .kind) (s .args .grade)),
     )
 
 same-length : tie.Need-same-length
@@ -60,7 +60,7 @@ same-length c =
     let v = c .before .before in
     let w = v .before .before .before .before in
     let s = w .before .before .before .before in
-    v .write-blocks .ensures .long ∙ w .write-levels .ensures (s .args .frame .now) (s .pre .4) .long ∙ length-set (out s) (length (out s) - 1) 0
+    v .write-blocks .ensures .long ∙ simp length-set at (w .write-levels .ensures (s .args .frame .now) (s .pre .4) .long)
 
 returns : tie.Need-returns
 returns c =
