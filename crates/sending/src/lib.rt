@@ -55,8 +55,8 @@ fn shape(k: u32, frame: &mut [i32]) -> u64
         let e = s + 8;
         let x = shaping::load(&frame[s..e]);
         let y = shaping::least(k, x);
+        energy += shaping::block_energy(y);
         shaping::store(y, &mut frame[s..e]);
-        energy += shaping::energy(&frame[s..e]);
         j += 1;
     }
     energy

@@ -9,7 +9,7 @@ use Rattle.e8.specs.Energy.{energy as energy-of, Within}
 use Rattle.e8.proofs.Within.{within-to}
 use Rattle.e8.specs.Lattice.{part}
 use Rattle.e8.specs.Least.{leastBlock}
-use Rattle.sending.proofs.Blocks.{Made, Over, over-start, over-same, over-end, over-next, over-step, over-again, within-part}
+use Rattle.sending.proofs.Blocks.{Made, Over, over-start, over-same, over-end, over-next, over-step, within-part}
 use Rattle.sending.proofs.Shaped.{least-at, least-to, least-made, least-none, least-energy, least-within, least-small}
 use Rattle.sending.proofs.shape.Statement.{statement}
 use Rattle.sending.proofs.shape.Tie as tie
@@ -67,6 +67,29 @@ least-requires c κs =
     let a = c .before .before .before .before in
     (a .before .pre .0, subst (Within (2 ^ 24)) (sym (x-is c)) (within-part (2 ^ 24) (a .loop .j) (a .before .args .frame .now) (a .before .pre .3)))
 
+-- the least member is small, and its energy is taken
+least-is : (c : tie.After-least Inv-loop μ-loop) → let a = c .before .before .before .before .before in c .least .result ≡ least-at (a .before .args .k) (a .before .args .frame .now) (a .loop .j)
+least-is c =
+    let a = c .before .before .before .before .before in
+    c .least .ensures ∙ ap (leastBlock (2 ^ a .before .args .k)) (x-is (c .before))
+
+block-energy-requires : tie.Need-block-energy-requires Inv-loop μ-loop
+block-energy-requires c κs =
+    let a = c .before .before .before .before .before in
+    let k = a .before .args .k in
+    let x = a .before .args .frame .now in
+    subst (Within (2 ^ 10)) (sym (least-is c)) (within-to 128 (2 ^ 10) (least-at k x (a .loop .j)) (omega arith) (least-within k x (a .before .pre .0) (a .loop .j)))
+
+energy-is : (c : tie.After-block-energy Inv-loop μ-loop) → let a = c .before .before .before .before .before .before in
+    (c .block-energy .result ≡ energy-of (least-at (a .before .args .k) (a .before .args .frame .now) (a .loop .j))) × (c .block-energy .result ≤ 131072)
+energy-is c =
+    let a = c .before .before .before .before .before .before in
+    let e = c .block-energy .ensures ∙ ap energy-of (least-is (c .before)) in
+    (e, omega (arith, e, least-small (a .before .args .k) (a .before .args .frame .now) (a .before .pre .0) (a .loop .j) (made (a .before) .eight (a .loop .j) (omega arith))))
+
+add-energy : tie.Need-add-energy Inv-loop μ-loop
+add-energy c = omega (arith, energy-is c)
+
 mul-store : tie.Need-mul-store Inv-loop μ-loop
 mul-store c = omega arith
 
@@ -77,66 +100,23 @@ part-store-start : tie.Need-part-store-start Inv-loop μ-loop
 part-store-start c = search needs
 
 part-store-end : tie.Need-part-store-end Inv-loop μ-loop
-part-store-end c = omega (arith, same (c .before .before .before .before .before))
+part-store-end c = omega (arith, same (c .before .before .before .before .before .before))
 
 store-requires : tie.Need-store-requires Inv-loop μ-loop
-store-requires c κs = simp (length-take, length-drop) (omega (arith, same (c .before .before .before .before .before .before)))
+store-requires c κs = simp (length-take, length-drop) (omega (arith, same (c .before .before .before .before .before .before .before)))
 
 -- one block more is shaped
-y-is : (c : tie.After-store Inv-loop μ-loop) → let a = c .before .before .before .before .before .before .before in c .store .last .1 .0 ≡ least-at (a .before .args .k) (a .before .args .frame .now) (a .loop .j)
+y-is : (c : tie.After-store Inv-loop μ-loop) → let a = c .before .before .before .before .before .before .before .before in c .store .last .1 .0 ≡ least-at (a .before .args .k) (a .before .args .frame .now) (a .loop .j)
 y-is c =
-    let a = c .before .before .before .before .before .before .before in
-    c .store .ensures ∙ c .before .before .least .ensures ∙ ap (leastBlock (2 ^ a .before .args .k)) (x-is (c .before .before .before))
+    let a = c .before .before .before .before .before .before .before .before in
+    c .store .ensures ∙ least-is (c .before .before .before)
 
-wrote : (c : tie.After-store Inv-loop μ-loop) → let a = c .before .before .before .before .before .before .before in
+wrote : (c : tie.After-store Inv-loop μ-loop) → let a = c .before .before .before .before .before .before .before .before in
     Over (least-to (a .before .args .k) (a .before .args .frame .now)) (a .before .args .frame .now) (a .loop .j + 1)
     (putMid (8 * a .loop .j) (8 * a .loop .j + 8 - 8 * a .loop .j) (a .loop .frame) (c .store .last .1 .0))
 wrote c =
-    let a = c .before .before .before .before .before .before .before in
+    let a = c .before .before .before .before .before .before .before .before in
     over-step (made (a .before)) (whole (a .before)) (a .loop .inv .0) (omega arith) (y-is c)
-
-again : (c : tie.After-store Inv-loop μ-loop) → let a = c .before .before .before .before .before .before .before in
-    take (8 * a .loop .j + 8 - 8 * a .loop .j) (drop (8 * a .loop .j) (putMid (8 * a .loop .j) (8 * a .loop .j + 8 - 8 * a .loop .j) (a .loop .frame) (c .store .last .1 .0)))
-    ≡ least-at (a .before .args .k) (a .before .args .frame .now) (a .loop .j)
-again c =
-    let a = c .before .before .before .before .before .before .before in
-    over-again (made (a .before)) (whole (a .before)) (a .loop .inv .0) (omega arith) (y-is c)
-
-mul-energy : tie.Need-mul-energy Inv-loop μ-loop
-mul-energy c = omega arith
-
-sub-energy : tie.Need-sub-energy Inv-loop μ-loop
-sub-energy c = omega arith
-
-part-energy-start : tie.Need-part-energy-start Inv-loop μ-loop
-part-energy-start c = search needs
-
-part-energy-end : tie.Need-part-energy-end Inv-loop μ-loop
-part-energy-end c =
-    let t = c .before .before in
-    let a = t .before .before .before .before .before .before .before in
-    omega (arith, over-same (made (a .before)) (whole (a .before)) (wrote t))
-
-energy-requires : tie.Need-energy-requires Inv-loop μ-loop
-energy-requires c κs =
-    let t = c .before .before .before in
-    let a = t .before .before .before .before .before .before .before in
-    let k = a .before .args .k in
-    let x = a .before .args .frame .now in (
-      omega (arith, ap length (again t), made (a .before) .eight (a .loop .j) (omega arith)),
-      subst (Within (2 ^ 24)) (sym (again t)) (within-to 128 (2 ^ 24) (least-at k x (a .loop .j)) (omega arith) (least-within k x (a .before .pre .0) (a .loop .j))),
-    )
-
-energy-is : (c : tie.After-energy Inv-loop μ-loop) → let a = c .before .before .before .before .before .before .before .before .before .before .before in
-    (c .energy .result ≡ energy-of (least-at (a .before .args .k) (a .before .args .frame .now) (a .loop .j))) × (c .energy .result ≤ 131072)
-energy-is c =
-    let t = c .before .before .before .before in
-    let a = t .before .before .before .before .before .before .before in
-    let e = c .energy .ensures ∙ ap energy-of (again t) in
-    (e, omega (arith, e, least-small (a .before .args .k) (a .before .args .frame .now) (a .before .pre .0) (a .loop .j) (made (a .before) .eight (a .loop .j) (omega arith))))
-
-add-energy : tie.Need-add-energy Inv-loop μ-loop
-add-energy c = omega (arith, energy-is c)
 
 add-j : tie.Need-add-j Inv-loop μ-loop
 add-j c = omega arith
@@ -146,9 +126,10 @@ loop-less c = omega arith
 
 loop-again : tie.Need-loop-again Inv-loop μ-loop
 loop-again c =
-    let t = c .before .before .before .before in
-    let a = t .before .before .before .before .before .before .before in
-    (wrote t, omega (arith, energy-is c, least-energy (a .before .args .k) (a .before .args .frame .now) (a .loop .j)), omega (arith, energy-is c))
+    let t = c .before in
+    let b = t .before .before in
+    let a = b .before .before .before .before .before .before in
+    (wrote t, omega (arith, energy-is b, least-energy (a .before .args .k) (a .before .args .frame .now) (a .loop .j)), omega (arith, energy-is b))
 
 same-length : tie.Need-same-length Inv-loop μ-loop
 same-length c = same (c .before)
@@ -178,17 +159,13 @@ shape-spec =
     part-load-end
     load-requires
     least-requires
+    block-energy-requires
+    add-energy
     mul-store
     sub-store
     part-store-start
     part-store-end
     store-requires
-    mul-energy
-    sub-energy
-    part-energy-start
-    part-energy-end
-    energy-requires
-    add-energy
     add-j
     loop-less
     loop-again
