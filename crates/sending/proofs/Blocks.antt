@@ -68,12 +68,6 @@ module _ {n : ℕ} {B P : ℕ → List ℤ} (made : Made n B P) where
           frame = put ∙ ap (λ (p : List ℤ). p ++ drop (8 * (j + 1)) f₀) (ap (λ (b : List ℤ). P j ++ b) e ∙ sym (made .more j));
         }
 
-        pub over-again : take (8 * j + 8 - 8 * j) (drop (8 * j) (putMid (8 * j) (8 * j + 8 - 8 * j) f y)) ≡ B j
-        over-again =
-            let k : 8 * j + 8 - 8 * j ≡ 8 = omega arith in
-            ap (λ (x : List ℤ). take (8 * j + 8 - 8 * j) (drop (8 * j) x)) put
-            ∙ rw (k, append-assoc, drop-at (P j) (y ++ drop (8 * (j + 1)) f₀) (8 * j) long, take-at y (drop (8 * (j + 1)) f₀) 8 (ap length e ∙ made .eight j l)) e
-
 -- a frame is its blocks
 pub taken-made : (n : ℕ) (x : List ℤ) → length x ≡ 8 * n → Made n (λ j. part j x) (λ j. take (8 * j) x)
 taken-made n x long = record {
