@@ -41,11 +41,27 @@ fn lay(kind: u8, grade: usize, message: &[u8], frame: &mut [i32])
     }
 }
 
-// Shapes a frame of whole blocks in place, for half the scale 2^k, and gives the energy of it all.
-fn shape(k: u32, frame: &mut [i32]) -> u64
+// Shapes a frame in place, block by block, for the scale M = 2^(k + 1).
+fn shape(k: u32, frame: &mut [i32])
     requires { ⌜ (k ≤ 6) × (length (now frame) % 8 ≡ 0) × (length (now frame) ≤ 1024) × Within (2 ^ 24) (now frame) ⌝ }
-    ensures frame { λ _. ⌜ now (frame .exit) ≡ leastFrame (2 ^ k) (length (now (frame .entry)) / 8) (now (frame .entry)) ⌝ }
-    ensures energy { λ r. ⌜ r ≡ energyOf (leastFrame (2 ^ k) (length (now (frame .entry)) / 8) (now (frame .entry))) ⌝ }
+    ensures { λ _. ⌜ now (frame .exit) ≡ leastFrame (2 ^ k) (length (now (frame .entry)) / 8) (now (frame .entry)) ⌝ }
+{
+    let n = frame.len() / 8;
+    let mut j: usize = 0;
+    while j < n {
+        let s = 8 * j;
+        let e = s + 8;
+        let x = shaping::load(&frame[s..e]);
+        let y = shaping::least(k, x);
+        shaping::store(y, &mut frame[s..e]);
+        j += 1;
+    }
+}
+
+// The energy of a shaped frame, block by block.
+fn total(frame: &[i32]) -> u64
+    requires { ⌜ (length (now frame) % 8 ≡ 0) × (length (now frame) ≤ 1024) × Within (2 ^ 10) (now frame) ⌝ }
+    ensures { λ r. ⌜ r ≡ energyOf (now (frame .entry)) ⌝ }
 {
     let n = frame.len() / 8;
     let mut energy: u64 = 0;
@@ -53,10 +69,7 @@ fn shape(k: u32, frame: &mut [i32]) -> u64
     while j < n {
         let s = 8 * j;
         let e = s + 8;
-        let x = shaping::load(&frame[s..e]);
-        let y = shaping::least(k, x);
-        energy += shaping::block_energy(y);
-        shaping::store(y, &mut frame[s..e]);
+        energy += shaping::block_energy(&frame[s..e]);
         j += 1;
     }
     energy
@@ -70,7 +83,8 @@ fn fill(kind: u8, grade: usize, message: &[u8], frame: &mut [i32]) -> u64
 {
     lay(kind, grade, message, frame);
     let k = kind_table::levels(kind) + grade - 1;
-    shape(k as u32, frame)
+    shape(k as u32, frame);
+    total(frame)
 }
 
 // The tests alone, for a caller that has a test of its own to make before anything is written; n coordinates are lent.

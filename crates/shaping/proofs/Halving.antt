@@ -133,17 +133,17 @@ energy-half H (c ∷ cs) r = omega (arith, cost-one H c (across (pos H) c) (half
 
 -- ---- the candidates, coordinate by coordinate
 
-none-left : (by : ℤ) (top i : ℕ) (cs : List ℤ) → i + length cs ≤ 8 → placeOf top < i → members (pos 0) by top i cs ≡ cs
+none-left : (by : ℤ) (top i : ℕ) (cs : List ℤ) → i + length cs ≤ 8 → placeOf top < i → members by (pos 0) top i cs ≡ cs
 none-left by top i [] l p = refl
 none-left by top i (c ∷ cs) l p = ap₂ _∷_ (go (eqb (rankOf c i) top) refl) (none-left by top (suc i) cs (omega arith) (omega arith))
   where
-    go : (t : Bool) → eqb (rankOf c i) top ≡ t → cond t (across by (across (pos 0) c)) (across (pos 0) c) ≡ c
+    go : (t : Bool) → eqb (rankOf c i) top ≡ t → across (cond t by (pos 0)) c ≡ c
     go true e = absurd (omega (arith, ranked (ltZ c (pos 0)) (natAbs c) i (omega arith) .place, ap placeOf (eqb-true (rankOf c i) top e)))
     go false e = across-none c
 
 -- one coordinate is changed: the one that has the rank
 members-changed : (by : ℤ) (top i : ℕ) (cs : List ℤ) → i + length cs ≤ 8 → i ≤ placeOf top → top ≡ rankOf (getD cs (placeOf top - i) (pos 0)) (placeOf top)
-    → members (pos 0) by top i cs ≡ changed by cs (placeOf top - i)
+    → members by (pos 0) top i cs ≡ changed by cs (placeOf top - i)
 members-changed by top i [] l p t = go (placeOf top - i)
   where
     go : (j : ℕ) → [] ≡ changed by [] j
@@ -152,22 +152,37 @@ members-changed by top i [] l p t = go (placeOf top - i)
 members-changed by top i (c ∷ cs) l p t = go (eqb (rankOf c i) top) refl (members-changed by top (suc i) cs (omega arith))
   where
     go : (s : Bool) → eqb (rankOf c i) top ≡ s
-        → (suc i ≤ placeOf top → top ≡ rankOf (getD cs (placeOf top - suc i) (pos 0)) (placeOf top) → members (pos 0) by top (suc i) cs ≡ changed by cs (placeOf top - suc i))
-        → cond s (across by (across (pos 0) c)) (across (pos 0) c) ∷ members (pos 0) by top (suc i) cs ≡ changed by (c ∷ cs) (placeOf top - i)
+        → (suc i ≤ placeOf top → top ≡ rankOf (getD cs (placeOf top - suc i) (pos 0)) (placeOf top) → members by (pos 0) top (suc i) cs ≡ changed by cs (placeOf top - suc i))
+        → across (cond s by (pos 0)) c ∷ members by (pos 0) top (suc i) cs ≡ changed by (c ∷ cs) (placeOf top - i)
     go true e w =
         let here : placeOf top ≡ i = sym (ap placeOf (eqb-true (rankOf c i) top e)) ∙ ranked (ltZ c (pos 0)) (natAbs c) i (omega arith) .place in
-        ap₂ _∷_ (ap (across by) (across-none c)) (none-left by top (suc i) cs (omega arith) (omega (arith, here)))
+        ap (λ l. across by c ∷ l) (none-left by top (suc i) cs (omega arith) (omega (arith, here)))
         ∙ ap (changed by (c ∷ cs)) {x = 0} {y = placeOf top - i} (omega (arith, here))
     go false e w = elim (eq-or-lt-of-le p) [ inl q ↦ absurd (eqb-false (rankOf c i) top e (sym (t ∙ at q))) | inr q ↦ later q ]
       where
         at : i ≡ placeOf top → rankOf (getD (c ∷ cs) (placeOf top - i) (pos 0)) (placeOf top) ≡ rankOf c i
         at q = let z : placeOf top - i ≡ 0 = omega arith in λ j. rankOf (getD (c ∷ cs) (z j) (pos 0)) (sym q j)
 
-        later : i < placeOf top → across (pos 0) c ∷ members (pos 0) by top (suc i) cs ≡ changed by (c ∷ cs) (placeOf top - i)
+        later : i < placeOf top → across (pos 0) c ∷ members by (pos 0) top (suc i) cs ≡ changed by (c ∷ cs) (placeOf top - i)
         later q =
             let z : placeOf top - i ≡ suc (placeOf top - suc i) = omega arith in
             ap₂ _∷_ (across-none c) (w q (t ∙ ap (λ (j : ℕ). rankOf (getD (c ∷ cs) j (pos 0)) (placeOf top)) z))
             ∙ ap (changed by (c ∷ cs)) (sym z)
+
+-- H across 0 and back by some of it
+across-back : (H : ℕ) (by c : ℤ) → Range H c → across (pos H -ℤ by) c ≡ across by (across (pos H) c)
+across-back H by c r = go c (ltZ c (pos 0)) refl r
+  where
+    go : (c : ℤ) (t : Bool) → ltZ c (pos 0) ≡ t → Range H c → cond t (c +ℤ (pos H -ℤ by)) (c -ℤ (pos H -ℤ by)) ≡ across by (cond t (c +ℤ pos H) (c -ℤ pos H))
+    go (pos a) true l r = absurd (omega (arith, ltb-true a 0 l))
+    go (pos a) false l r =
+        let e : pos a -ℤ pos H ≡ negsuc (H - suc a) = eq! (# a ⊖ # H) (` (negsuc (H - suc a))) (omega (arith, r .high)) in
+        eq! (# a ⊖ (# H ⊖ ` by)) (` (negsuc (H - suc a)) ⊕ ` by) (omega (arith, r .high)) ∙ sym (ap (across by) e)
+    go (negsuc a) true l r =
+        let n : ℕ = H - suc a in
+        let e : negsuc a +ℤ pos H ≡ pos n = eq! (` (negsuc a) ⊕ # H) (# n) (omega (arith, r .low)) in
+        eq! (` (negsuc a) ⊕ (# H ⊖ ` by)) (# n ⊖ ` by) (omega (arith, r .low)) ∙ sym (ap (across by) e ∙ ap (λ t. cond t (pos n +ℤ by) (pos n -ℤ by)) (le-ltb n 0 (omega arith)))
+    go (negsuc a) false l r = absurd (true≢false l)
 
 eqb-turn : (n m t u K : ℕ) → n + m ≡ K → t + u ≡ K → eqb n t ≡ eqb m u
 eqb-turn n m t u K a b = go (eqb n t) refl
@@ -176,21 +191,27 @@ eqb-turn n m t u K a b = go (eqb n t) refl
     go true e = sym (eq-eqb m u (omega (arith, eqb-true n t e)))
     go false e = sym (ne-eqb m u (λ q. eqb-false n t e (omega (arith, q))))
 
-members-half : (H : ℕ) (by : ℤ) (t u i : ℕ) (cs : List ℤ) → All (Range H) cs → t + u ≡ 16 * H + 15 → i + length cs ≤ 8 → members (pos H) by t i cs ≡ members (pos 0) by u i (acrossed (pos H) cs)
+members-half : (H : ℕ) (by : ℤ) (t u i : ℕ) (cs : List ℤ) → All (Range H) cs → t + u ≡ 16 * H + 15 → i + length cs ≤ 8 → members (pos H -ℤ by) (pos H) t i cs ≡ members by (pos 0) u i (acrossed (pos H) cs)
 members-half H by t u i [] r e l = refl
 members-half H by t u i (c ∷ cs) r e l =
-    let d : ℤ = across (pos H) c in
-    ap₂ _∷_ (ap₂ (λ s (z : ℤ). cond s (across by z) z) (eqb-turn (rankOf c i) (rankOf d i) t u (16 * H + 15) (half H c (r .0) .rank i (omega arith)) e) (sym (across-none d)))
+    ap₂ _∷_ (go (eqb (rankOf c i) t) (eqb (rankOf (across (pos H) c) i) u) (eqb-turn (rankOf c i) (rankOf (across (pos H) c) i) t u (16 * H + 15) (half H c (r .0) .rank i (omega arith)) e))
     (members-half H by t u (suc i) cs (r .1) e (omega arith))
+  where
+    one : (p : Bool) → across (cond p (pos H -ℤ by) (pos H)) c ≡ across (cond p by (pos 0)) (across (pos H) c)
+    one true = across-back H by c (r .0)
+    one false = sym (across-none (across (pos H) c))
 
-pub members-length : (shift by : ℤ) (t i : ℕ) (cs : List ℤ) → length (members shift by t i cs) ≡ length cs
-members-length shift by t i [] = refl
-members-length shift by t i (c ∷ cs) = ap suc (members-length shift by t (suc i) cs)
+    go : (p q : Bool) → p ≡ q → across (cond p (pos H -ℤ by) (pos H)) c ≡ across (cond q by (pos 0)) (across (pos H) c)
+    go p q h = one p ∙ ap (λ b. across (cond b by (pos 0)) (across (pos H) c)) h
 
-pub members-at : (shift by : ℤ) (t i : ℕ) (cs : List ℤ) (j : ℕ) → j < length cs → getD (members shift by t i cs) j (pos 0) ≡ memberOf shift by t (getD cs j (pos 0)) (j + i)
-members-at shift by t i [] j l = absurd (omega arith)
-members-at shift by t i (c ∷ cs) zero l = ap (memberOf shift by t c) {x = i} {y = 0 + i} (omega arith)
-members-at shift by t i (c ∷ cs) (suc j) l = members-at shift by t (suc i) cs j (omega arith) ∙ ap (memberOf shift by t (getD cs j (pos 0))) {x = j + suc i} {y = suc j + i} (omega arith)
+pub members-length : (at elsewhere : ℤ) (t i : ℕ) (cs : List ℤ) → length (members at elsewhere t i cs) ≡ length cs
+members-length at elsewhere t i [] = refl
+members-length at elsewhere t i (c ∷ cs) = ap suc (members-length at elsewhere t (suc i) cs)
+
+pub members-at : (at elsewhere : ℤ) (t i : ℕ) (cs : List ℤ) (j : ℕ) → j < length cs → getD (members at elsewhere t i cs) j (pos 0) ≡ memberOf at elsewhere t (getD cs j (pos 0)) (j + i)
+members-at at elsewhere t i [] j l = absurd (omega arith)
+members-at at elsewhere t i (c ∷ cs) zero l = ap (memberOf at elsewhere t c) {x = i} {y = 0 + i} (omega arith)
+members-at at elsewhere t i (c ∷ cs) (suc j) l = members-at at elsewhere t (suc i) cs j (omega arith) ∙ ap (memberOf at elsewhere t (getD cs j (pos 0))) {x = j + suc i} {y = suc j + i} (omega arith)
 
 -- ---- the two parts of a block of at most eight
 
@@ -263,39 +284,32 @@ module _ (H : ℕ) (xs : List ℤ) (h : 0 < H) (s : H ≤ 64) (l : length xs ≡
       go true e = omega (arith, e, energy-half H rs r, ap (λ (n : ℕ). n * (H * H)) eight, ap (λ (n : ℕ). 2 * H * n) g)
 
   -- the candidates
-  whole-is : members (pos 0) (pos (bit (whole .odd) * (2 * H))) (highest rs 0) 0 rs ≡ best (2 * H) false xs
-  whole-is = members-changed (pos (bit (whole .odd) * (2 * H))) (highest rs 0) 0 rs (omega (arith, eight)) (omega arith) (whole .taken) ∙ whole .is
+  abbrev pub odd : ℤ
+  odd = pos (bit (whole .odd) * (2 * H))
 
-  half-is : members (pos H) (pos (bit (halved .odd) * (2 * H))) (lowest rs 0) 0 rs ≡ best (2 * H) false (lowered (pos H) xs)
+  abbrev pub half-odd : ℤ
+  half-odd = pos (bit (halved .odd) * (2 * H))
+
+  whole-is : members odd (pos 0) (highest rs 0) 0 rs ≡ best (2 * H) false xs
+  whole-is = members-changed odd (highest rs 0) 0 rs (omega (arith, eight)) (omega arith) (whole .taken) ∙ whole .is
+
+  half-is : members (pos H -ℤ half-odd) (pos H) (lowest rs 0) 0 rs ≡ best (2 * H) false (lowered (pos H) xs)
   half-is =
-      let by : ℤ = pos (bit (halved .odd) * (2 * H)) in
       let top : ℕ = highest (acrossed (pos H) rs) 0 in
-      members-half H by (lowest rs 0) top 0 rs r turned (omega (arith, eight))
-      ∙ members-changed by top 0 (acrossed (pos H) rs) (omega (arith, acrossed-eight)) (omega arith) (halved .taken) ∙ halved .is
-
-  -- what the sums leave
-  pub whole-left : modZ (off H xs) (2 * (2 * H)) ≡ bit (whole .odd) * (2 * H)
-  whole-left = whole .left
-
-  pub half-left : modZ (floors H xs) (2 * (2 * H)) ≡ bit (halved .odd) * (2 * H)
-  half-left = halved .left
+      members-half H half-odd (lowest rs 0) top 0 rs r turned (omega (arith, eight))
+      ∙ members-changed half-odd top 0 (acrossed (pos H) rs) (omega (arith, acrossed-eight)) (omega arith) (halved .taken) ∙ halved .is
 
   -- the first by cost and first coordinate is the least block
-  pub chosen : (t : Bool) → t ≡ sooner (pos whole-cost) (memberOf (pos 0) (pos (bit (whole .odd) * (2 * H))) (highest rs 0) (getD rs 0 (pos 0)) 0) (pos half-cost) (memberOf (pos H) (pos (bit (halved .odd) * (2 * H))) (lowest rs 0) (getD rs 0 (pos 0)) 0)
-      → members (cond t (pos 0) (pos H)) (cond t (pos (bit (whole .odd) * (2 * H))) (pos (bit (halved .odd) * (2 * H)))) (cond t (highest rs 0) (lowest rs 0)) 0 rs ≡ leastBlock H xs
-  chosen t e =
+  pub chosen-is : (t : Bool) → t ≡ sooner (pos whole-cost) (memberOf odd (pos 0) (highest rs 0) (getD rs 0 (pos 0)) 0) (pos half-cost) (memberOf (pos H -ℤ half-odd) (pos H) (lowest rs 0) (getD rs 0 (pos 0)) 0)
+      → cond t (members odd (pos 0) (highest rs 0) 0 rs) (members (pos H -ℤ half-odd) (pos H) (lowest rs 0) 0 rs) ≡ leastBlock H xs
+  chosen-is t e =
       let a : List ℤ = best (2 * H) false xs in
       let b : List ℤ = best (2 * H) false (lowered (pos H) xs) in
-      let c : getD a 0 (pos 0) ≡ memberOf (pos 0) (pos (bit (whole .odd) * (2 * H))) (highest rs 0) (getD rs 0 (pos 0)) 0 =
-      ap (λ v. getD v 0 (pos 0)) (sym whole-is) ∙ members-at (pos 0) (pos (bit (whole .odd) * (2 * H))) (highest rs 0) 0 rs 0 (omega (arith, eight)) in
-      let d : getD b 0 (pos 0) ≡ memberOf (pos H) (pos (bit (halved .odd) * (2 * H))) (lowest rs 0) (getD rs 0 (pos 0)) 0 =
-      ap (λ v. getD v 0 (pos 0)) (sym half-is) ∙ members-at (pos H) (pos (bit (halved .odd) * (2 * H))) (lowest rs 0) 0 rs 0 (omega (arith, eight)) in
+      let c : getD a 0 (pos 0) ≡ memberOf odd (pos 0) (highest rs 0) (getD rs 0 (pos 0)) 0 =
+      ap (λ v. getD v 0 (pos 0)) (sym whole-is) ∙ members-at odd (pos 0) (highest rs 0) 0 rs 0 (omega (arith, eight)) in
+      let d : getD b 0 (pos 0) ≡ memberOf (pos H -ℤ half-odd) (pos H) (lowest rs 0) (getD rs 0 (pos 0)) 0 =
+      ap (λ v. getD v 0 (pos 0)) (sym half-is) ∙ members-at (pos H -ℤ half-odd) (pos H) (lowest rs 0) 0 rs 0 (omega (arith, eight)) in
       let g = compare (2 * H) whole-cost half-cost (energy a) (energy b) (2 * H * sizes rs) (energy rs) (omega arith) whole-energy half-energy in
       let f : sooner (pos (energy a)) (getD a 0 (pos 0)) (pos (energy b)) (getD b 0 (pos 0)) ≡ t =
       (λ j. cond (ltZ (c j) (d j)) (g .0 j) (g .1 j)) ∙ sym e in
-      go t ∙ ap (λ u. cond u a b) (sym f) ∙ least-is H xs (energy a) (energy b) h (omega arith) refl refl
-    where
-      go : (u : Bool) → members (cond u (pos 0) (pos H)) (cond u (pos (bit (whole .odd) * (2 * H))) (pos (bit (halved .odd) * (2 * H)))) (cond u (highest rs 0) (lowest rs 0)) 0 rs
-          ≡ cond u (best (2 * H) false xs) (best (2 * H) false (lowered (pos H) xs))
-      go true = whole-is
-      go false = half-is
+      ap₂ (cond t) whole-is half-is ∙ ap (λ u. cond u a b) (sym f) ∙ least-is H xs (energy a) (energy b) h (omega arith) refl refl

@@ -61,11 +61,11 @@ pub record Rounded (H : ℕ) (xs rs : List ℤ) (s t n u v : ℤ) (i : ℕ) : Ty
   pub top : u ≡ pos (highest rs i)
   pub low : v ≡ pos (lowest rs i)
 
--- coordinate c at place i, `shift` across 0, and `by` back across where its rank is t
+-- coordinate c at place i, across 0 by `at` where its rank is t, and by `elsewhere` where it is not
 abbrev pub memberOf : ℤ → ℤ → ℕ → ℤ → ℕ → ℤ
-memberOf shift by t c i = cond (eqb (rankOf c i) t) (across by (across shift c)) (across shift c)
+memberOf at elsewhere t c i = across (cond (eqb (rankOf c i) t) at elsewhere) c
 
 -- so for each coordinate, from place i on
 abbrev pub members : ℤ → ℤ → ℕ → ℕ → List ℤ → List ℤ
-members shift by t i [] = []
-members shift by t i (c ∷ cs) = memberOf shift by t c i ∷ members shift by t (suc i) cs
+members at elsewhere t i [] = []
+members at elsewhere t i (c ∷ cs) = memberOf at elsewhere t c i ∷ members at elsewhere t (suc i) cs

@@ -215,25 +215,43 @@ fn quantize(k: u32, h: i32, x: [i32; 8]) -> Quantized
     }
 }
 
-// Coordinate i of a candidate: the rounded one, `shift` across 0, and `by` back across where its rank is t.
-fn member(shift: i32, by: i32, t: i32, c: i32, i: usize) -> i32
-    requires { ⌜ (natAbs shift ≤ 2 ^ 7) × (natAbs by ≤ 2 ^ 7) × (natAbs c ≤ 2 ^ 7) × (i < 8) ⌝ }
-    ensures { λ r. ⌜ ((n : ℕ) → t ≡ pos n → r ≡ memberOf shift by n c i) ⌝ }
+// Coordinate i of a candidate: the rounded one, across 0 by `at` where its rank is t, and by `elsewhere` where it is not.
+fn member(at: i32, elsewhere: i32, t: i32, c: i32, i: usize) -> i32
+    requires { ⌜ (natAbs at ≤ 2 ^ 7) × (natAbs elsewhere ≤ 2 ^ 7) × (natAbs c ≤ 2 ^ 7) × (i < 8) ⌝ }
+    ensures { λ r. ⌜ ((n : ℕ) → t ≡ pos n → r ≡ memberOf at elsewhere n c i) ⌝ }
 {
-    let z = other(shift, c);
-    if rank(c, i) == t { other(by, z) } else { z }
+    if rank(c, i) == t {
+        other(at, c)
+    } else {
+        other(elsewhere, c)
+    }
 }
 
 // A candidate for the least member.
-fn candidate(shift: i32, by: i32, t: i32, c: [i32; 8]) -> [i32; 8]
-    requires { ⌜ (natAbs shift ≤ 2 ^ 7) × (natAbs by ≤ 2 ^ 7) × Within (2 ^ 7) c ⌝ }
-    ensures { λ r. ⌜ ((n : ℕ) → t ≡ pos n → r ≡ members shift by n 0 c) ⌝ }
+fn candidate(at: i32, elsewhere: i32, t: i32, c: [i32; 8]) -> [i32; 8]
+    requires { ⌜ (natAbs at ≤ 2 ^ 7) × (natAbs elsewhere ≤ 2 ^ 7) × Within (2 ^ 7) c ⌝ }
+    ensures { λ r. ⌜ ((n : ℕ) → t ≡ pos n → r ≡ members at elsewhere n 0 c) ⌝ }
 {
     let mut r = c;
     let mut i: usize = 0;
     while i < 8 {
         let z = c[i];
-        r[i] = member(shift, by, t, z, i);
+        r[i] = member(at, elsewhere, t, z, i);
+        i += 1;
+    }
+    r
+}
+
+// One of two blocks.
+fn chosen(t: bool, a: [i32; 8], b: [i32; 8]) -> [i32; 8]
+    ensures { λ r. ⌜ r ≡ cond t a b ⌝ }
+{
+    let mut r = a;
+    let mut i: usize = 0;
+    while i < 8 {
+        let x = a[i];
+        let y = b[i];
+        r[i] = choose(t, x, y);
         i += 1;
     }
     r
@@ -248,22 +266,20 @@ pub fn least(k: u32, x: [i32; 8]) -> [i32; 8]
     let q = quantize(k, h, x);
     let odd = remainder(k + 2, q.sum);
     let half_odd = remainder(k + 2, q.halves);
+    let at = h - half_odd;
     let b = q.block;
     let c = b[0];
+    let whole = candidate(odd, 0, q.top, b);
+    let half = candidate(at, h, q.low, b);
     let e = whole_cost(h, q.sizes, odd, q.top);
     let f = half_cost(h, half_odd, q.low);
     let t = first(
         e,
-        member(0, odd, q.top, c, 0),
+        member(odd, 0, q.top, c, 0),
         f,
-        member(h, half_odd, q.low, c, 0),
+        member(at, h, q.low, c, 0),
     );
-    candidate(
-        choose(t, 0, h),
-        choose(t, odd, half_odd),
-        choose(t, q.top, q.low),
-        b,
-    )
+    chosen(t, whole, half)
 }
 
 // The square of a coordinate of a sent block, which i16 has room for.
@@ -275,15 +291,15 @@ fn square(z: i32) -> u32
     (y * y) as u32
 }
 
-// The energy of a sent block.
-pub fn block_energy(x: [i32; 8]) -> u64
-    requires { ⌜ Within (2 ^ 10) x ⌝ }
-    ensures { λ r. ⌜ r ≡ squares x ⌝ }
+// The energy of a sent block, a part of the lent coordinates.
+pub fn block_energy(part: &[i32]) -> u64
+    requires { ⌜ (length (now part) ≡ 8) × Within (2 ^ 10) (now part) ⌝ }
+    ensures { λ r. ⌜ r ≡ squares (now (part .entry)) ⌝ }
 {
     let mut sum: u32 = 0;
     let mut i: usize = 0;
     while i < 8 {
-        let z = x[i];
+        let z = part[i];
         sum += square(z);
         i += 1;
     }

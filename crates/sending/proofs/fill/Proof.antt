@@ -1,17 +1,21 @@
 -- `fill` meets its contract: the shaped leader is the sent frame. Assumes nothing.
 use Prim.Native.Nat.{ℕ, _+_, _-_, _/_, _^_, _≤_}
 use mathlib.Core.Path.{_≡_, sym, ap, ap₂, _∙_, subst}
+use mathlib.Core.Bool.{true}
 use mathlib.Core.List.{List}
 use native.Mathlib.Omega.{arith}
 use lib.ListN.{length}
 use lib.IntN.{ℤ}
+use lib.Pow.{pow-mono}
+use Rattle.e8.proofs.Within.{within-to}
 use Rattle.e8.specs.Energy.{energy, Within}
 use Rattle.e8.specs.Least.{leastFrame}
-use Rattle.frames.specs.Kind.{levels as levels-of}
+use Rattle.frames.specs.Kind.{isKind, scale, levels as levels-of}
 use Rattle.frames.specs.Message.{leader}
 use Rattle.frames.specs.Frame.{half, sentFrame}
 use Rattle.frames.proofs.One.{leader-length}
 use Rattle.frames.proofs.Bounds.{few-levels}
+use Rattle.frames.proofs.Demands.{sent-length, sent-within}
 use Rattle.kind_table.proofs.Each.{size}
 use Rattle.sending.proofs.Laid.{long, leader-within}
 use borrow.Author.Needs.{needs}
@@ -58,17 +62,34 @@ shape-requires c κs =
       subst (Within (2 ^ 24)) (sym (l .lay .ensures)) (leader-within k (s .args .grade) (s .pre .0) (s .args .message .now) (s .pre .2)),
     )
 
+-- what is shaped is the sent frame, and small
+shaped : (h : tie.After-shape) → let s = h .before .before .before .before .before .before .before in h .shape .last .1 .0 ≡ sentFrame (s .args .kind) (s .args .grade) (s .args .message .now)
+shaped h =
+    let v = h .before .before in
+    let l = v .before .before in
+    let s = l .before .before .before in
+    h .shape .ensures ∙ sent-is (s .args .kind) (s .args .grade) (v .levels .result) (s .args .message .now) (l .lay .last .1 .1 .1 .0) (v .levels .ensures) (l .lay .ensures)
+
+near : (k b : ℕ) (bytes : List ℕ) → isKind k ≡ true → 1 ≤ b → b ≤ 4 → Within (2 ^ 10) (sentFrame k b bytes)
+unfolding scale
+near k b bytes kind low high = within-to (scale k b) (2 ^ 10) (sentFrame k b bytes) (pow-mono {j = 10} (omega (arith, few-levels k kind))) (sent-within k b kind low bytes)
+
+total-requires : tie.Need-total-requires
+total-requires c κs =
+    let h = c .before .before in
+    let s = h .before .before .before .before .before .before .before in
+    let k = s .args .kind in
+    let e = ap length (shaped h) ∙ sent-length k (s .args .grade) (s .pre .0) (s .pre .1) (s .args .message .now) in (
+      omega (arith, e, long k (s .args .grade) (s .pre .0) (s .args .message .now), leader-length k (s .args .grade) (s .args .message .now)),
+      omega (arith, e, size k (s .pre .0) .positions),
+      subst (Within (2 ^ 10)) (sym (shaped h)) (near k (s .args .grade) (s .args .message .now) (s .pre .0) (s .pre .1) (s .pre .2)),
+    )
+
 same-length : tie.Need-same-length
 same-length c = search needs
 
 returns : tie.Need-returns
-returns c =
-    let h = c .before in
-    let v = h .before .before in
-    let l = v .before .before in
-    let s = l .before .before .before in
-    let e = sent-is (s .args .kind) (s .args .grade) (v .levels .result) (s .args .message .now) (l .lay .last .1 .1 .1 .0) (v .levels .ensures) (l .lay .ensures) in
-    (h .shape .ensures .0 ∙ e, h .shape .ensures .1 ∙ ap energy e)
+returns c = let h = c .before .before .before in (shaped h, c .total .ensures ∙ ap energy (shaped h))
 
 pub fill-spec : {M : Type 1} → statement M
 fill-spec =
@@ -80,5 +101,6 @@ fill-spec =
     sub-k
     cast-shape
     shape-requires
+    total-requires
     same-length
     returns)

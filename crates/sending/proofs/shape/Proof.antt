@@ -5,21 +5,19 @@ use native.Mathlib.Omega.{arith}
 use lib.ListN.{length, take, drop, length-take, length-drop}
 use borrow.Author.Needs.{needs}
 use borrow.Rule.Slice.PartMut.{putMid}
-use Rattle.e8.specs.Energy.{energy as energy-of, Within}
-use Rattle.e8.proofs.Within.{within-to}
+use Rattle.e8.specs.Energy.{Within}
 use Rattle.e8.specs.Lattice.{part}
 use Rattle.e8.specs.Least.{leastBlock}
 use Rattle.sending.proofs.Blocks.{Made, Over, over-start, over-same, over-end, over-next, over-step, within-part}
-use Rattle.sending.proofs.Shaped.{least-at, least-to, least-made, least-none, least-energy, least-within, least-small}
+use Rattle.sending.proofs.Shaped.{least-at, least-to, least-made}
 use Rattle.sending.proofs.shape.Statement.{statement}
 use Rattle.sending.proofs.shape.Tie as tie
 
 abbrev Inv-loop : tie.InvT-loop
-Inv-loop k frame₀ n energy₀ j₀ frame energy j =
-    Over (least-to k frame₀) frame₀ j frame × (energy ≡ energy-of (least-to k frame₀ j)) × (energy ≤ 131072 * j)
+Inv-loop k frame₀ n j₀ frame j = Over (least-to k frame₀) frame₀ j frame
 
 abbrev μ-loop : tie.MeasureT-loop
-μ-loop k frame₀ n energy₀ j₀ frame energy j = length frame₀ / 8 - j
+μ-loop k frame₀ n j₀ frame j = length frame₀ / 8 - j
 
 -- the frame is whole blocks
 whole : (s : tie.Start Inv-loop μ-loop) → length (s .args .frame .now) ≡ 8 * (length (s .args .frame .now) / 8)
@@ -29,11 +27,10 @@ made : (s : tie.Start Inv-loop μ-loop) → Made (length (s .args .frame .now) /
 made s = least-made (s .args .k) (s .args .frame .now) (length (s .args .frame .now) / 8) (whole s)
 
 same : (a : tie.At-loop Inv-loop μ-loop) → length (a .loop .frame) ≡ length (a .before .args .frame .now)
-same a = over-same (made (a .before)) (whole (a .before)) (a .loop .inv .0)
+same a = over-same (made (a .before)) (whole (a .before)) (a .loop .inv)
 
 loop-holds : tie.Need-loop-holds Inv-loop μ-loop
-loop-holds c =
-    (over-start (made c) (whole c), least-none (c .args .k) (c .args .frame .now), omega arith)
+loop-holds c = over-start (made c) (whole c)
 
 mul-s : tie.Need-mul-s Inv-loop μ-loop
 mul-s c = omega arith
@@ -60,35 +57,12 @@ load-requires c κs = simp (length-take, length-drop) (omega (arith, same (c .be
 x-is : (c : tie.After-load Inv-loop μ-loop) → let a = c .before .before .before .before in c .load .result ≡ part (a .loop .j) (a .before .args .frame .now)
 x-is c =
     let a = c .before .before .before .before in
-    c .load .ensures ∙ over-next (made (a .before)) (whole (a .before)) (a .loop .inv .0)
+    c .load .ensures ∙ over-next (made (a .before)) (whole (a .before)) (a .loop .inv)
 
 least-requires : tie.Need-least-requires Inv-loop μ-loop
 least-requires c κs =
     let a = c .before .before .before .before in
     (a .before .pre .0, subst (Within (2 ^ 24)) (sym (x-is c)) (within-part (2 ^ 24) (a .loop .j) (a .before .args .frame .now) (a .before .pre .3)))
-
--- the least member is small, and its energy is taken
-least-is : (c : tie.After-least Inv-loop μ-loop) → let a = c .before .before .before .before .before in c .least .result ≡ least-at (a .before .args .k) (a .before .args .frame .now) (a .loop .j)
-least-is c =
-    let a = c .before .before .before .before .before in
-    c .least .ensures ∙ ap (leastBlock (2 ^ a .before .args .k)) (x-is (c .before))
-
-block-energy-requires : tie.Need-block-energy-requires Inv-loop μ-loop
-block-energy-requires c κs =
-    let a = c .before .before .before .before .before in
-    let k = a .before .args .k in
-    let x = a .before .args .frame .now in
-    subst (Within (2 ^ 10)) (sym (least-is c)) (within-to 128 (2 ^ 10) (least-at k x (a .loop .j)) (omega arith) (least-within k x (a .before .pre .0) (a .loop .j)))
-
-energy-is : (c : tie.After-block-energy Inv-loop μ-loop) → let a = c .before .before .before .before .before .before in
-    (c .block-energy .result ≡ energy-of (least-at (a .before .args .k) (a .before .args .frame .now) (a .loop .j))) × (c .block-energy .result ≤ 131072)
-energy-is c =
-    let a = c .before .before .before .before .before .before in
-    let e = c .block-energy .ensures ∙ ap energy-of (least-is (c .before)) in
-    (e, omega (arith, e, least-small (a .before .args .k) (a .before .args .frame .now) (a .before .pre .0) (a .loop .j) (made (a .before) .eight (a .loop .j) (omega arith))))
-
-add-energy : tie.Need-add-energy Inv-loop μ-loop
-add-energy c = omega (arith, energy-is c)
 
 mul-store : tie.Need-mul-store Inv-loop μ-loop
 mul-store c = omega arith
@@ -100,23 +74,23 @@ part-store-start : tie.Need-part-store-start Inv-loop μ-loop
 part-store-start c = search needs
 
 part-store-end : tie.Need-part-store-end Inv-loop μ-loop
-part-store-end c = omega (arith, same (c .before .before .before .before .before .before))
+part-store-end c = omega (arith, same (c .before .before .before .before .before))
 
 store-requires : tie.Need-store-requires Inv-loop μ-loop
-store-requires c κs = simp (length-take, length-drop) (omega (arith, same (c .before .before .before .before .before .before .before)))
+store-requires c κs = simp (length-take, length-drop) (omega (arith, same (c .before .before .before .before .before .before)))
 
 -- one block more is shaped
-y-is : (c : tie.After-store Inv-loop μ-loop) → let a = c .before .before .before .before .before .before .before .before in c .store .last .1 .0 ≡ least-at (a .before .args .k) (a .before .args .frame .now) (a .loop .j)
+y-is : (c : tie.After-store Inv-loop μ-loop) → let a = c .before .before .before .before .before .before .before in c .store .last .1 .0 ≡ least-at (a .before .args .k) (a .before .args .frame .now) (a .loop .j)
 y-is c =
-    let a = c .before .before .before .before .before .before .before .before in
-    c .store .ensures ∙ least-is (c .before .before .before)
+    let a = c .before .before .before .before .before .before .before in
+    c .store .ensures ∙ c .before .before .least .ensures ∙ ap (leastBlock (2 ^ a .before .args .k)) (x-is (c .before .before .before))
 
-wrote : (c : tie.After-store Inv-loop μ-loop) → let a = c .before .before .before .before .before .before .before .before in
+wrote : (c : tie.After-store Inv-loop μ-loop) → let a = c .before .before .before .before .before .before .before in
     Over (least-to (a .before .args .k) (a .before .args .frame .now)) (a .before .args .frame .now) (a .loop .j + 1)
     (putMid (8 * a .loop .j) (8 * a .loop .j + 8 - 8 * a .loop .j) (a .loop .frame) (c .store .last .1 .0))
 wrote c =
-    let a = c .before .before .before .before .before .before .before .before in
-    over-step (made (a .before)) (whole (a .before)) (a .loop .inv .0) (omega arith) (y-is c)
+    let a = c .before .before .before .before .before .before .before in
+    over-step (made (a .before)) (whole (a .before)) (a .loop .inv) (omega arith) (y-is c)
 
 add-j : tie.Need-add-j Inv-loop μ-loop
 add-j c = omega arith
@@ -125,24 +99,13 @@ loop-less : tie.Need-loop-less Inv-loop μ-loop
 loop-less c = omega arith
 
 loop-again : tie.Need-loop-again Inv-loop μ-loop
-loop-again c =
-    let t = c .before in
-    let b = t .before .before in
-    let a = b .before .before .before .before .before .before in
-    (wrote t, omega (arith, energy-is b, least-energy (a .before .args .k) (a .before .args .frame .now) (a .loop .j)), omega (arith, energy-is b))
+loop-again c = wrote (c .before)
 
 same-length : tie.Need-same-length Inv-loop μ-loop
 same-length c = same (c .before)
 
 returns : tie.Need-returns Inv-loop μ-loop
-returns c =
-    let a = c .before in
-    let x = a .before .args .frame .now in
-    let k = a .before .args .k in
-    let q : a .loop .j ≡ length x / 8 = omega (arith, a .loop .inv .0 .inside) in (
-      over-end (made (a .before)) (whole (a .before)) (a .loop .inv .0) (omega arith),
-      a .loop .inv .1 ∙ ap (λ (n : ℕ). energy-of (least-to k x n)) q,
-    )
+returns c = over-end (made (c .before .before)) (whole (c .before .before)) (c .before .loop .inv) (omega arith)
 
 pub shape-spec : {M : Type 1} → statement M
 shape-spec =
@@ -159,8 +122,6 @@ shape-spec =
     part-load-end
     load-requires
     least-requires
-    block-energy-requires
-    add-energy
     mul-store
     sub-store
     part-store-start

@@ -13,24 +13,24 @@ use Rattle.shaping.proofs.block_energy.Statement.{statement}
 use Rattle.shaping.proofs.block_energy.Tie as tie
 
 abbrev Inv-loop : tie.InvT-loop
-Inv-loop x sum₀ i₀ sum i = (i ≤ 8) × ((sum + energy (drop i x) ≡ energy x) × (sum ≤ 2 ^ 20 * i))
+Inv-loop part sum₀ i₀ sum i = (i ≤ 8) × ((sum + energy (drop i part) ≡ energy part) × (sum ≤ 2 ^ 20 * i))
 
 abbrev μ-loop : tie.MeasureT-loop
-μ-loop x sum₀ i₀ sum i = 8 - i
+μ-loop part sum₀ i₀ sum i = 8 - i
 
 module _ (s : tie.Start Inv-loop μ-loop) where
-  eight : length (s .args .t1) ≡ 8
-  eight = search needs
+  eight : length (s .args .part .now) ≡ 8
+  eight = s .pre .0
 
-  small : (i : ℕ) → natAbs (getD (s .args .t1) i (pos 0)) ≤ 2 ^ 10
-  small i = within-at (2 ^ 10) (s .args .t1) i (s .pre)
+  small : (i : ℕ) → natAbs (getD (s .args .part .now) i (pos 0)) ≤ 2 ^ 10
+  small i = within-at (2 ^ 10) (s .args .part .now) i (s .pre .1)
 
 module _ (c : tie.After-square Inv-loop μ-loop) where
   abbrev l : tie.At-loop Inv-loop μ-loop
   l = c .before .before .before
 
   abbrev z : ℤ
-  z = getD (l .before .args .t1) (l .loop .i) (pos 0)
+  z = getD (l .before .args .part .now) (l .loop .i) (pos 0)
 
   square-is : c .square .result ≡ sq z
   square-is = c .square .ensures ∙ ap sq (plain z (omega (arith, small (l .before) (l .loop .i))))
@@ -45,11 +45,11 @@ loop-holds c = (omega arith, (omega arith, omega arith))
 mul-z : tie.Need-mul-z Inv-loop μ-loop
 mul-z c = search needs
 
-array-copy-out-z : tie.Need-array-copy-out-z Inv-loop μ-loop
-array-copy-out-z c = search needs
+shared-slice-copy-out-z : tie.Need-shared-slice-copy-out-z Inv-loop μ-loop
+shared-slice-copy-out-z c = search needs
 
 square-requires : tie.Need-square-requires Inv-loop μ-loop
-square-requires c κs = let l = c .before .before in plain-size (getD (l .before .args .t1) (l .loop .i) (pos 0)) (2 ^ 10) (small (l .before) (l .loop .i)) (omega arith)
+square-requires c κs = let l = c .before .before in plain-size (getD (l .before .args .part .now) (l .loop .i) (pos 0)) (2 ^ 10) (small (l .before) (l .loop .i)) (omega arith)
 
 add-sum : tie.Need-add-sum Inv-loop μ-loop
 add-sum c = record { fits = omega (arith, square-low c, l c .loop .inv .1 .1, c .before .before .loop-test .taken) }
@@ -63,7 +63,7 @@ loop-less c = search needs
 loop-again : tie.Need-loop-again Inv-loop μ-loop
 loop-again c =
     let p = l c in
-    (omega (arith, c .before .before .loop-test .taken), (omega (arith, energy-drop (p .before .args .t1) (p .loop .i) (omega (arith, eight (p .before), c .before .before .loop-test .taken)), square-is c, p .loop .inv .1 .0), omega (arith, square-low c, p .loop .inv .1 .1)))
+    (omega (arith, c .before .before .loop-test .taken), (omega (arith, energy-drop (p .before .args .part .now) (p .loop .i) (omega (arith, eight (p .before), c .before .before .loop-test .taken)), square-is c, p .loop .inv .1 .0), omega (arith, square-low c, p .loop .inv .1 .1)))
 
 cast-result : tie.Need-cast-result Inv-loop μ-loop
 cast-result c = search needs
@@ -71,7 +71,7 @@ cast-result c = search needs
 returns : tie.Need-returns Inv-loop μ-loop
 unfolding energy
 returns c =
-    let x = c .before .before .args .t1 in
+    let x = c .before .before .args .part .now in
     let e : energy (drop (c .before .loop .i) x) ≡ 0 = ap energy (drop-of-length-le x {i = c .before .loop .i} (omega (arith, eight (c .before .before), c .loop-test .left))) in
     omega (arith, e, c .before .loop .inv .1 .0)
 
@@ -83,7 +83,7 @@ block-energy-spec =
     μ-loop
     loop-holds
     mul-z
-    array-copy-out-z
+    shared-slice-copy-out-z
     square-requires
     add-sum
     add-i

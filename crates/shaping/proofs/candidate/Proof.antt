@@ -18,20 +18,20 @@ use Rattle.shaping.proofs.candidate.Statement.{statement}
 use Rattle.shaping.proofs.candidate.Tie as tie
 
 abbrev Inv-loop : tie.InvT-loop
-Inv-loop shift by t c r₀ i₀ r i = (i ≤ 8) × ((n : ℕ) → toZ w32 t ≡ pos n → Filled (members (toZ w32 shift) (toZ w32 by) n 0 c) r i)
+Inv-loop at elsewhere t c r₀ i₀ r i = (i ≤ 8) × ((n : ℕ) → toZ w32 t ≡ pos n → Filled (members (toZ w32 at) (toZ w32 elsewhere) n 0 c) r i)
 
 abbrev μ-loop : tie.MeasureT-loop
-μ-loop shift by t c r₀ i₀ r i = 8 - i
+μ-loop at elsewhere t c r₀ i₀ r i = 8 - i
 
 module _ (s : tie.Start Inv-loop μ-loop) where
   abbrev target : ℕ → List ℤ
-  target n = members (read (s .args .shift)) (read (s .args .by)) n 0 (s .args .t4)
+  target n = members (read (s .args .at)) (read (s .args .elsewhere)) n 0 (s .args .t4)
 
   eight : length (s .args .t4) ≡ 8
   eight = search needs
 
   long : (n : ℕ) → length (target n) ≡ 8
-  long n = members-length (read (s .args .shift)) (read (s .args .by)) n 0 (s .args .t4) ∙ eight
+  long n = members-length (read (s .args .at)) (read (s .args .elsewhere)) n 0 (s .args .t4) ∙ eight
 
   small : (i : ℕ) → natAbs (getD (s .args .t4) i (pos 0)) ≤ 2 ^ 7
   small i = within-at (2 ^ 7) (s .args .t4) i (s .pre .2)
@@ -49,8 +49,8 @@ member-requires : tie.Need-member-requires Inv-loop μ-loop
 member-requires c κs =
     let l = c .before .before in
     let s = l .before in (
-      plain-size (s .args .shift) (2 ^ 7) (s .pre .0) (omega arith),
-      plain-size (s .args .by) (2 ^ 7) (s .pre .1) (omega arith),
+      plain-size (s .args .at) (2 ^ 7) (s .pre .0) (omega arith),
+      plain-size (s .args .elsewhere) (2 ^ 7) (s .pre .1) (omega arith),
       plain-size (getD (s .args .t4) (l .loop .i) (pos 0)) (2 ^ 7) (small s (l .loop .i)) (omega arith),
       omega arith,
     )
@@ -75,8 +75,8 @@ loop-again c =
       omega arith,
       λ n e. filled-next (target s n) (l .loop .r) i _ (l .loop .inv .1 n e) (omega (arith, long s n))
           (tz refl (record { sfits = c .member .ok }) ∙ c .member .ensures n e
-          ∙ ap (λ (z : ℤ). memberOf (read (s .args .shift)) (read (s .args .by)) n z i) (plain (getD (s .args .t4) i (pos 0)) (omega (arith, small s i)))
-          ∙ sym (members-at (read (s .args .shift)) (read (s .args .by)) n 0 (s .args .t4) i (omega (arith, eight s)) ∙ ap (memberOf (read (s .args .shift)) (read (s .args .by)) n (getD (s .args .t4) i (pos 0))) {x = i + 0} {y = i} (omega arith))),
+          ∙ ap (λ (z : ℤ). memberOf (read (s .args .at)) (read (s .args .elsewhere)) n z i) (plain (getD (s .args .t4) i (pos 0)) (omega (arith, small s i)))
+          ∙ sym (members-at (read (s .args .at)) (read (s .args .elsewhere)) n 0 (s .args .t4) i (omega (arith, eight s)) ∙ ap (memberOf (read (s .args .at)) (read (s .args .elsewhere)) n (getD (s .args .t4) i (pos 0))) {x = i + 0} {y = i} (omega arith))),
     )
 
 returns : tie.Need-returns Inv-loop μ-loop
@@ -84,7 +84,7 @@ returns c n e =
     let l = c .before in
     let s = l .before in
     filled-all (target s n) (l .loop .r) (l .loop .i) (l .loop .inv .1 n (tz refl (s .fits .t) ∙ e)) (omega (arith, long s n))
-    ∙ ap₂ (λ a b. members a b n 0 (s .args .t4)) (tz refl (s .fits .shift)) (tz refl (s .fits .by))
+    ∙ ap₂ (λ a b. members a b n 0 (s .args .t4)) (tz refl (s .fits .at)) (tz refl (s .fits .elsewhere))
 
 pub candidate-spec : {M : Type 1} → statement M
 candidate-spec =

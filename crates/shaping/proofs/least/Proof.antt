@@ -11,15 +11,16 @@ use lib.Signed.{ltZ, shrZ}
 use borrow.Author.Needs.{needs}
 use borrow.Author.Tests.{lt-ltb}
 use Rattle.integers.specs.Integer.{modZ}
-use Rattle.integers.proofs.Zed.{#_, _⊖_, _⊕_, _⊗_, eq!, tz}
+use Rattle.integers.proofs.Zed.{#_, _⊖_, _⊗_, eq!, tz, sfits-to}
 use Rattle.e8.specs.Energy.{Within}
 use Rattle.e8.specs.Lattice.{bit}
 use Rattle.e8.specs.Least.{leastBlock}
 use Rattle.e8.proofs.Within.{within-at}
+use Rattle.shaping.proofs.Size.{fits, abs!, less-abs}
 use Rattle.shaping.proofs.Rest.{double}
 use Rattle.shaping.proofs.Reading.{read, plain, plain-size, power-read, power-size}
-use Rattle.shaping.proofs.Halving.{whole, halved, whole-cost, half-cost, turned, ranged, rounded-length, highest-low, chosen}
-use Rattle.shaping.proofs.Figures.{pos-where, off-size, floors-size, sizes-low, rounded-within}
+use Rattle.shaping.proofs.Halving.{whole, halved, odd as whole-odd, half-odd as halved-odd, whole-cost, half-cost, turned, ranged, rounded-length, highest-low, chosen-is}
+use Rattle.shaping.proofs.Figures.{off-size, floors-size, sizes-low, rounded-within}
 use Rattle.shaping.specs.Rounded.{sooner, rounded, off, floors, sizes, highest, lowest, memberOf, members, Rounded}
 use Rattle.shaping.proofs.least.Statement.{statement}
 use Rattle.shaping.proofs.least.Tie as tie
@@ -44,10 +45,10 @@ module _ (k : ℕ) (x rs : List ℤ) (s t n u v : ℤ) (low : k ≤ 6) (w : With
   cs = rounded H x
 
   abbrev odd : ℤ
-  odd = pos (bit (whole H x H-pos H-small eight .odd) * (2 * H))
+  odd = whole-odd H x H-pos H-small eight
 
   abbrev half-odd : ℤ
-  half-odd = pos (bit (halved H x H-pos H-small eight .odd) * (2 * H))
+  half-odd = halved-odd H x H-pos H-small eight
 
   top-is : u ≡ pos (highest cs 0)
   top-is = q .top ∙ ap (λ l. pos (highest l 0)) (q .block)
@@ -104,11 +105,16 @@ module _ (k : ℕ) (x rs : List ℤ) (s t n u v : ℤ) (low : k ≤ 6) (w : With
       ap (λ (z : ℤ). pos 4 *ℤ pos H +ℤ cond (ltZ (pos 0) half-odd) (pos 2 *ℤ shrZ z 16) (pos 0)) low-is
       ∙ ap₂ _+ℤ_ (eq! (# 4 ⊗ # H) (# (2 * H + 2 * H)) (omega arith)) (costed (halved H x H-pos H-small eight .odd) (2 * H) (2 * a) (pos 2 *ℤ pos a) (omega (arith, H-pos)) (eq! (# 2 ⊗ # a) (# (2 * a)) (omega arith)))
 
+  -- across 0 and back by the one or the other
+  back-low : (b : Bool) → natAbs (pos H -ℤ pos (bit b * (2 * H))) ≤ 2 ^ 7
+  back-low false = omega (arith, less-abs (pos H) (pos (0 * (2 * H))) (2 ^ 6) 0 H-small (omega arith))
+  back-low true = abs! (# H ⊖ # (1 * (2 * H))) (2 ^ 7) (omega (arith, H-small)) (omega (arith, H-small))
+
   -- the choice
-  least-is : (b : Bool) → b ≡ sooner (pos (whole-cost H x H-pos H-small eight)) (memberOf (pos 0) odd (highest cs 0) (getD rs 0 (pos 0)) 0) (pos (half-cost H x H-pos H-small eight)) (memberOf (pos H) half-odd (lowest cs 0) (getD rs 0 (pos 0)) 0)
-      → members (cond b (pos 0) (pos H)) (cond b odd half-odd) (cond b (highest cs 0) (lowest cs 0)) 0 rs ≡ leastBlock H x
-  least-is b e = ap (members (cond b (pos 0) (pos H)) (cond b odd half-odd) (cond b (highest cs 0) (lowest cs 0)) 0) (q .block)
-      ∙ chosen H x H-pos H-small eight b (e ∙ ap (λ l. sooner (pos (whole-cost H x H-pos H-small eight)) (memberOf (pos 0) odd (highest cs 0) (getD l 0 (pos 0)) 0) (pos (half-cost H x H-pos H-small eight)) (memberOf (pos H) half-odd (lowest cs 0) (getD l 0 (pos 0)) 0)) (q .block))
+  least-is : (b : Bool) → b ≡ sooner (pos (whole-cost H x H-pos H-small eight)) (memberOf odd (pos 0) (highest cs 0) (getD rs 0 (pos 0)) 0) (pos (half-cost H x H-pos H-small eight)) (memberOf (pos H -ℤ half-odd) (pos H) (lowest cs 0) (getD rs 0 (pos 0)) 0)
+      → cond b (members odd (pos 0) (highest cs 0) 0 rs) (members (pos H -ℤ half-odd) (pos H) (lowest cs 0) 0 rs) ≡ leastBlock H x
+  least-is b e = ap (λ l. cond b (members odd (pos 0) (highest cs 0) 0 l) (members (pos H -ℤ half-odd) (pos H) (lowest cs 0) 0 l)) (q .block)
+      ∙ chosen-is H x H-pos H-small eight b (e ∙ ap (λ l. sooner (pos (whole-cost H x H-pos H-small eight)) (memberOf odd (pos 0) (highest cs 0) (getD l 0 (pos 0)) 0) (pos (half-cost H x H-pos H-small eight)) (memberOf (pos H -ℤ half-odd) (pos H) (lowest cs 0) (getD l 0 (pos 0)) 0)) (q .block))
 
 -- the facts at a place after `quantize`
 module _ (c : tie.After-quantize) where
@@ -184,63 +190,62 @@ module _ (c : tie.After-quantize) where
   h-size : natAbs (read (p .power .result)) ≤ 2 ^ 7
   h-size = power-size (st .args .k) (p .power .result) (st .pre .0) (p .power .ensures)
 
+  abbrev ba : ℤ
+  ba = pos M -ℤ ho
+
+  ba-size : natAbs ba ≤ 2 ^ 7
+  ba-size = back-low (st .args .k) (st .args .x) (c .quantize .result .block) (c .quantize .result .sum) (c .quantize .result .halves) (c .quantize .result .sizes) (c .quantize .result .top) (c .quantize .result .low) (st .pre .0) (st .pre .1) long (c .quantize .ensures) (halved M (st .args .x) (H-pos (st .args .k) (st .args .x) (c .quantize .result .block) (c .quantize .result .sum) (c .quantize .result .halves) (c .quantize .result .sizes) (c .quantize .result .top) (c .quantize .result .low) (st .pre .0) (st .pre .1) long (c .quantize .ensures)) (H-small (st .args .k) (st .args .x) (c .quantize .result .block) (c .quantize .result .sum) (c .quantize .result .halves) (c .quantize .result .sizes) (c .quantize .result .top) (c .quantize .result .low) (st .pre .0) (st .pre .1) long (c .quantize .ensures)) long .odd)
+
 o-read : (c : tie.After-remainder) → read (c .remainder .result) ≡ o (c .before .before)
 o-read c = let z = c .before .before in tz refl (record { sfits = c .remainder .ok }) ∙ c .remainder .ensures ∙ ap (λ (y : ℤ). pos (modZ y (2 ^ (st z .args .k + 2)))) (sum-read z) ∙ odd-is (st z .args .k) (st z .args .x) (z .quantize .result .block) (z .quantize .result .sum) (z .quantize .result .halves) (z .quantize .result .sizes) (z .quantize .result .top) (z .quantize .result .low) (st z .pre .0) (st z .pre .1) (long z) (z .quantize .ensures)
 
-ho-read : (c : tie.After-remainder2) → read (c .remainder2 .result) ≡ ho (c .before .before .before .before)
-ho-read c = let z = c .before .before .before .before in tz refl (record { sfits = c .remainder2 .ok }) ∙ c .remainder2 .ensures ∙ ap (λ (y : ℤ). pos (modZ y (2 ^ (st z .args .k + 2)))) (halves-read z) ∙ half-odd-is (st z .args .k) (st z .args .x) (z .quantize .result .block) (z .quantize .result .sum) (z .quantize .result .halves) (z .quantize .result .sizes) (z .quantize .result .top) (z .quantize .result .low) (st z .pre .0) (st z .pre .1) (long z) (z .quantize .ensures)
+module _ (c : tie.After-remainder2) where
+  abbrev zz : tie.After-quantize
+  zz = c .before .before .before .before
 
-we-read : (c : tie.After-whole-cost) → read (c .whole-cost .result) ≡ we (c .before .before .before .before .before .before .before .before .before)
+  ho-read : read (c .remainder2 .result) ≡ ho zz
+  ho-read = tz refl (record { sfits = c .remainder2 .ok }) ∙ c .remainder2 .ensures ∙ ap (λ (y : ℤ). pos (modZ y (2 ^ (st zz .args .k + 2)))) (halves-read zz) ∙ half-odd-is (st zz .args .k) (st zz .args .x) (zz .quantize .result .block) (zz .quantize .result .sum) (zz .quantize .result .halves) (zz .quantize .result .sizes) (zz .quantize .result .top) (zz .quantize .result .low) (st zz .pre .0) (st zz .pre .1) (long zz) (zz .quantize .ensures)
+
+  back : read (p zz .power .result) -ℤ read (c .remainder2 .result) ≡ ba zz
+  back = ap₂ _-ℤ_ (height zz) ho-read
+
+  back-read : read (read (p zz .power .result) -ℤ read (c .remainder2 .result)) ≡ ba zz
+  back-read = tz back (fits (ba zz) (omega (arith, ba-size zz)))
+
+  back-size : natAbs (read (read (p zz .power .result) -ℤ read (c .remainder2 .result))) ≤ 2 ^ 7
+  back-size = subst (λ (y : ℤ). natAbs y ≤ 2 ^ 7) (sym back-read) (ba-size zz)
+
+whole-block : (c : tie.After-candidate) → c .candidate .result ≡ members (o (c .before .before .before .before .before .before .before .before)) (pos 0) (hi (c .before .before .before .before .before .before .before .before)) 0 (block (c .before .before .before .before .before .before .before .before))
+whole-block c = let z = c .before .before .before .before .before .before .before .before in c .candidate .ensures (hi z) (top-rank z) ∙ ap (λ (y : ℤ). members y (pos 0) (hi z) 0 (block z)) (o-read (c .before .before .before .before .before .before))
+
+half-block : (c : tie.After-candidate2) → c .candidate2 .result ≡ members (ba (c .before .before .before .before .before .before .before .before .before .before)) (pos (M (c .before .before .before .before .before .before .before .before .before .before))) (lo (c .before .before .before .before .before .before .before .before .before .before)) 0 (block (c .before .before .before .before .before .before .before .before .before .before))
+half-block c = let z = c .before .before .before .before .before .before .before .before .before .before in c .candidate2 .ensures (lo z) (low-rank z) ∙ ap₂ (λ (y w : ℤ). members y w (lo z) 0 (block z)) (back-read (c .before .before .before .before .before .before)) (height z)
+
+we-read : (c : tie.After-whole-cost) → read (c .whole-cost .result) ≡ we (c .before .before .before .before .before .before .before .before .before .before .before .before .before)
 we-read c =
-    let z = c .before .before .before .before .before .before .before .before .before in
-    tz refl (record { sfits = c .whole-cost .ok }) ∙ c .whole-cost .ensures
-    ∙ (λ j. sizes-read z j +ℤ cond (ltZ (pos 0) (o-read (c .before .before .before .before .before .before .before) j)) (pos 2 *ℤ (height z j -ℤ shrZ (top-read z j) 16)) (pos 0)) ∙ whole-is (st z .args .k) (st z .args .x) (z .quantize .result .block) (z .quantize .result .sum) (z .quantize .result .halves) (z .quantize .result .sizes) (z .quantize .result .top) (z .quantize .result .low) (st z .pre .0) (st z .pre .1) (long z) (z .quantize .ensures)
-
-he-read : (c : tie.After-half-cost) → read (c .half-cost .result) ≡ he (c .before .before .before .before .before .before .before .before .before .before .before)
-he-read c =
-    let z = c .before .before .before .before .before .before .before .before .before .before .before in
-    tz refl (record { sfits = c .half-cost .ok }) ∙ c .half-cost .ensures
-    ∙ (λ j. pos 4 *ℤ height z j +ℤ cond (ltZ (pos 0) (ho-read (c .before .before .before .before .before .before .before) j)) (pos 2 *ℤ shrZ (low-read z j) 16) (pos 0)) ∙ half-is (st z .args .k) (st z .args .x) (z .quantize .result .block) (z .quantize .result .sum) (z .quantize .result .halves) (z .quantize .result .sizes) (z .quantize .result .top) (z .quantize .result .low) (st z .pre .0) (st z .pre .1) (long z) (z .quantize .ensures)
-
-whole-first : (c : tie.After-member) → read (c .member .result) ≡ memberOf (pos 0) (o (c .before .before .before .before .before .before .before .before .before .before .before .before .before)) (hi (c .before .before .before .before .before .before .before .before .before .before .before .before .before)) (getD (block (c .before .before .before .before .before .before .before .before .before .before .before .before .before)) 0 (pos 0)) 0
-whole-first c =
     let z = c .before .before .before .before .before .before .before .before .before .before .before .before .before in
-    tz refl (record { sfits = c .member .ok }) ∙ c .member .ensures (hi z) (top-rank z) ∙ (λ j. memberOf (pos 0) (o-read (c .before .before .before .before .before .before .before .before .before .before .before) j) (hi z) (head-read z j) 0)
+    tz refl (record { sfits = c .whole-cost .ok }) ∙ c .whole-cost .ensures
+    ∙ (λ j. sizes-read z j +ℤ cond (ltZ (pos 0) (o-read (c .before .before .before .before .before .before .before .before .before .before .before) j)) (pos 2 *ℤ (height z j -ℤ shrZ (top-read z j) 16)) (pos 0)) ∙ whole-is (st z .args .k) (st z .args .x) (z .quantize .result .block) (z .quantize .result .sum) (z .quantize .result .halves) (z .quantize .result .sizes) (z .quantize .result .top) (z .quantize .result .low) (st z .pre .0) (st z .pre .1) (long z) (z .quantize .ensures)
 
-half-first : (c : tie.After-member2) → read (c .member2 .result) ≡ memberOf (pos (M (c .before .before .before .before .before .before .before .before .before .before .before .before .before .before .before))) (ho (c .before .before .before .before .before .before .before .before .before .before .before .before .before .before .before)) (lo (c .before .before .before .before .before .before .before .before .before .before .before .before .before .before .before)) (getD (block (c .before .before .before .before .before .before .before .before .before .before .before .before .before .before .before)) 0 (pos 0)) 0
-half-first c =
+he-read : (c : tie.After-half-cost) → read (c .half-cost .result) ≡ he (c .before .before .before .before .before .before .before .before .before .before .before .before .before .before .before)
+he-read c =
     let z = c .before .before .before .before .before .before .before .before .before .before .before .before .before .before .before in
-    tz refl (record { sfits = c .member2 .ok }) ∙ c .member2 .ensures (lo z) (low-rank z) ∙ (λ j. memberOf (height z j) (ho-read (c .before .before .before .before .before .before .before .before .before .before .before) j) (lo z) (head-read z j) 0)
+    tz refl (record { sfits = c .half-cost .ok }) ∙ c .half-cost .ensures
+    ∙ (λ j. pos 4 *ℤ height z j +ℤ cond (ltZ (pos 0) (ho-read (c .before .before .before .before .before .before .before .before .before .before .before) j)) (pos 2 *ℤ shrZ (low-read z j) 16) (pos 0)) ∙ half-is (st z .args .k) (st z .args .x) (z .quantize .result .block) (z .quantize .result .sum) (z .quantize .result .halves) (z .quantize .result .sizes) (z .quantize .result .top) (z .quantize .result .low) (st z .pre .0) (st z .pre .1) (long z) (z .quantize .ensures)
+
+whole-first : (c : tie.After-member) → read (c .member .result) ≡ memberOf (o (c .before .before .before .before .before .before .before .before .before .before .before .before .before .before .before .before .before)) (pos 0) (hi (c .before .before .before .before .before .before .before .before .before .before .before .before .before .before .before .before .before)) (getD (block (c .before .before .before .before .before .before .before .before .before .before .before .before .before .before .before .before .before)) 0 (pos 0)) 0
+whole-first c =
+    let z = c .before .before .before .before .before .before .before .before .before .before .before .before .before .before .before .before .before in
+    tz refl (record { sfits = c .member .ok }) ∙ c .member .ensures (hi z) (top-rank z) ∙ (λ j. memberOf (o-read (c .before .before .before .before .before .before .before .before .before .before .before .before .before .before .before) j) (pos 0) (hi z) (head-read z j) 0)
+
+half-first : (c : tie.After-member2) → read (c .member2 .result) ≡ memberOf (ba (c .before .before .before .before .before .before .before .before .before .before .before .before .before .before .before .before .before .before .before)) (pos (M (c .before .before .before .before .before .before .before .before .before .before .before .before .before .before .before .before .before .before .before))) (lo (c .before .before .before .before .before .before .before .before .before .before .before .before .before .before .before .before .before .before .before)) (getD (block (c .before .before .before .before .before .before .before .before .before .before .before .before .before .before .before .before .before .before .before)) 0 (pos 0)) 0
+half-first c =
+    let z = c .before .before .before .before .before .before .before .before .before .before .before .before .before .before .before .before .before .before .before in
+    tz refl (record { sfits = c .member2 .ok }) ∙ c .member2 .ensures (lo z) (low-rank z) ∙ (λ j. memberOf (back-read (c .before .before .before .before .before .before .before .before .before .before .before .before .before .before .before) j) (height z j) (lo z) (head-read z j) 0)
 
 -- the choice
-choice : (c : tie.After-first) → c .first .result ≡ sooner (we (c .before .before .before .before .before .before .before .before .before .before .before .before .before .before .before .before)) (memberOf (pos 0) (o (c .before .before .before .before .before .before .before .before .before .before .before .before .before .before .before .before)) (hi (c .before .before .before .before .before .before .before .before .before .before .before .before .before .before .before .before)) (getD (block (c .before .before .before .before .before .before .before .before .before .before .before .before .before .before .before .before)) 0 (pos 0)) 0) (he (c .before .before .before .before .before .before .before .before .before .before .before .before .before .before .before .before)) (memberOf (pos (M (c .before .before .before .before .before .before .before .before .before .before .before .before .before .before .before .before))) (ho (c .before .before .before .before .before .before .before .before .before .before .before .before .before .before .before .before)) (lo (c .before .before .before .before .before .before .before .before .before .before .before .before .before .before .before .before)) (getD (block (c .before .before .before .before .before .before .before .before .before .before .before .before .before .before .before .before)) 0 (pos 0)) 0)
+choice : (c : tie.After-first) → c .first .result ≡ sooner (we (c .before .before .before .before .before .before .before .before .before .before .before .before .before .before .before .before .before .before .before .before)) (memberOf (o (c .before .before .before .before .before .before .before .before .before .before .before .before .before .before .before .before .before .before .before .before)) (pos 0) (hi (c .before .before .before .before .before .before .before .before .before .before .before .before .before .before .before .before .before .before .before .before)) (getD (block (c .before .before .before .before .before .before .before .before .before .before .before .before .before .before .before .before .before .before .before .before)) 0 (pos 0)) 0) (he (c .before .before .before .before .before .before .before .before .before .before .before .before .before .before .before .before .before .before .before .before)) (memberOf (ba (c .before .before .before .before .before .before .before .before .before .before .before .before .before .before .before .before .before .before .before .before)) (pos (M (c .before .before .before .before .before .before .before .before .before .before .before .before .before .before .before .before .before .before .before .before))) (lo (c .before .before .before .before .before .before .before .before .before .before .before .before .before .before .before .before .before .before .before .before)) (getD (block (c .before .before .before .before .before .before .before .before .before .before .before .before .before .before .before .before .before .before .before .before)) 0 (pos 0)) 0)
 choice c = c .first .ensures ∙ (λ j. sooner (we-read (c .before .before .before .before .before .before .before) j) (whole-first (c .before .before .before) j) (he-read (c .before .before .before .before .before) j) (half-first (c .before) j))
-
-either : (t : Bool) (a b : ℤ) → natAbs a ≤ 2 ^ 7 → natAbs b ≤ 2 ^ 7 → natAbs (cond t a b) ≤ 2 ^ 7
-either true a b l m = l
-either false a b l m = m
-
-module _ (c : tie.After-choose3) where
-  abbrev z : tie.After-quantize
-  z = c .before .before .before .before .before .before .before .before .before .before .before .before .before .before .before .before .before .before .before .before .before
-
-  abbrev t : Bool
-  t = c .before .before .before .before .before .first .result
-
-  shift-is : c .before .before .before .before .choose .result ≡ cond t (pos 0) (pos (M z))
-  shift-is = c .before .before .before .before .choose .ensures ∙ ap (cond t (pos 0)) (height z)
-
-  shift-size : natAbs (c .before .before .before .before .choose .result) ≤ 2 ^ 7
-  shift-size = subst (λ (y : ℤ). natAbs y ≤ 2 ^ 7) (sym shift-is) (either t (pos 0) (pos (M z)) (omega arith) (omega (arith, H-small (st z .args .k) (st z .args .x) (z .quantize .result .block) (z .quantize .result .sum) (z .quantize .result .halves) (z .quantize .result .sizes) (z .quantize .result .top) (z .quantize .result .low) (st z .pre .0) (st z .pre .1) (long z) (z .quantize .ensures))))
-
-  by-is : c .before .before .before .choose2 .result ≡ cond t (o z) (ho z)
-  by-is = c .before .before .before .choose2 .ensures ∙ ap₂ (cond t) (o-read (c .before .before .before .before .before .before .before .before .before .before .before .before .before .before .before .before .before .before .before)) (ho-read (c .before .before .before .before .before .before .before .before .before .before .before .before .before .before .before .before .before))
-
-  by-size : natAbs (c .before .before .before .choose2 .result) ≤ 2 ^ 7
-  by-size = subst (λ (y : ℤ). natAbs y ≤ 2 ^ 7) (sym by-is) (either t (o z) (ho z) (o-size z) (ho-size z))
-
-  rank-is : read (c .choose3 .result) ≡ pos (cond t (hi z) (lo z))
-  rank-is = tz refl (record { sfits = c .choose3 .ok }) ∙ c .choose3 .ensures ∙ ap₂ (cond t) (top-rank z) (low-rank z) ∙ pos-where t (hi z) (lo z)
 
 power-requires : tie.Need-power-requires
 power-requires c κs = search needs
@@ -260,49 +265,44 @@ add-remainder-2 c = search needs
 remainder-requires-2 : tie.Need-remainder-requires-2
 remainder-requires-2 c κs = let z = c .before .before .before in (omega (arith, st z .pre .0), plain-size (z .quantize .result .halves) (2 ^ 30) (omega (arith, halves-size (st z .args .k) (st z .args .x) (z .quantize .result .block) (z .quantize .result .sum) (z .quantize .result .halves) (z .quantize .result .sizes) (z .quantize .result .top) (z .quantize .result .low) (st z .pre .0) (st z .pre .1) (long z) (z .quantize .ensures))) (omega arith))
 
+sub-at : tie.Need-sub-at
+sub-at c = sfits-to (back c) (fits (ba (zz c)) (omega (arith, ba-size (zz c))))
+
 array-copy-out-c : tie.Need-array-copy-out-c
 array-copy-out-c c = search needs
 
+candidate-requires : tie.Need-candidate-requires
+candidate-requires c κs = let z = c .before .before .before .before .before .before .before in (subst (λ (y : ℤ). natAbs y ≤ 2 ^ 7) (sym (o-read (c .before .before .before .before .before))) (o-size z), omega arith, within (st z .args .k) (st z .args .x) (z .quantize .result .block) (z .quantize .result .sum) (z .quantize .result .halves) (z .quantize .result .sizes) (z .quantize .result .top) (z .quantize .result .low) (st z .pre .0) (st z .pre .1) (long z) (z .quantize .ensures))
+
+candidate-requires-2 : tie.Need-candidate-requires-2
+candidate-requires-2 c κs = let z = c .before .before .before .before .before .before .before .before .before in (back-size (c .before .before .before .before .before), h-size z, within (st z .args .k) (st z .args .x) (z .quantize .result .block) (z .quantize .result .sum) (z .quantize .result .halves) (z .quantize .result .sizes) (z .quantize .result .top) (z .quantize .result .low) (st z .pre .0) (st z .pre .1) (long z) (z .quantize .ensures))
+
 whole-cost-requires : tie.Need-whole-cost-requires
 whole-cost-requires c κs =
-    let z = c .before .before .before .before .before .before .before .before in
+    let z = c .before .before .before .before .before .before .before .before .before .before .before .before in
     (h-size z, plain-size (z .quantize .result .sizes) (2 ^ 10) (sizes-size (st z .args .k) (st z .args .x) (z .quantize .result .block) (z .quantize .result .sum) (z .quantize .result .halves) (z .quantize .result .sizes) (z .quantize .result .top) (z .quantize .result .low) (st z .pre .0) (st z .pre .1) (long z) (z .quantize .ensures)) (omega arith), plain-size (z .quantize .result .top) (2 ^ 12) (top-size (st z .args .k) (st z .args .x) (z .quantize .result .block) (z .quantize .result .sum) (z .quantize .result .halves) (z .quantize .result .sizes) (z .quantize .result .top) (z .quantize .result .low) (st z .pre .0) (st z .pre .1) (long z) (z .quantize .ensures)) (omega arith))
 
 half-cost-requires : tie.Need-half-cost-requires
-half-cost-requires c κs = let z = c .before .before .before .before .before .before .before .before .before .before in (h-size z, plain-size (z .quantize .result .low) (2 ^ 12) (low-size (st z .args .k) (st z .args .x) (z .quantize .result .block) (z .quantize .result .sum) (z .quantize .result .halves) (z .quantize .result .sizes) (z .quantize .result .top) (z .quantize .result .low) (st z .pre .0) (st z .pre .1) (long z) (z .quantize .ensures)) (omega arith))
+half-cost-requires c κs = let z = c .before .before .before .before .before .before .before .before .before .before .before .before .before .before in (h-size z, plain-size (z .quantize .result .low) (2 ^ 12) (low-size (st z .args .k) (st z .args .x) (z .quantize .result .block) (z .quantize .result .sum) (z .quantize .result .halves) (z .quantize .result .sizes) (z .quantize .result .top) (z .quantize .result .low) (st z .pre .0) (st z .pre .1) (long z) (z .quantize .ensures)) (omega arith))
 
 member-requires : tie.Need-member-requires
 member-requires c κs =
-    let z = c .before .before .before .before .before .before .before .before .before .before .before .before in
-    (omega arith, subst (λ (y : ℤ). natAbs y ≤ 2 ^ 7) (sym (o-read (c .before .before .before .before .before .before .before .before .before .before))) (o-size z), plain-size (getD (block z) 0 (pos 0)) (2 ^ 7) (head-size z) (omega arith), omega arith)
+    let z = c .before .before .before .before .before .before .before .before .before .before .before .before .before .before .before .before in
+    (subst (λ (y : ℤ). natAbs y ≤ 2 ^ 7) (sym (o-read (c .before .before .before .before .before .before .before .before .before .before .before .before .before .before))) (o-size z), omega arith, plain-size (getD (block z) 0 (pos 0)) (2 ^ 7) (head-size z) (omega arith), omega arith)
 
 member-requires-2 : tie.Need-member-requires-2
-member-requires-2 c κs =
-    let z = c .before .before .before .before .before .before .before .before .before .before .before .before .before .before in
-    (h-size z, subst (λ (y : ℤ). natAbs y ≤ 2 ^ 7) (sym (ho-read (c .before .before .before .before .before .before .before .before .before .before))) (ho-size z), plain-size (getD (block z) 0 (pos 0)) (2 ^ 7) (head-size z) (omega arith), omega arith)
+member-requires-2 c κs = let z = c .before .before .before .before .before .before .before .before .before .before .before .before .before .before .before .before .before .before in (back-size (c .before .before .before .before .before .before .before .before .before .before .before .before .before .before), h-size z, plain-size (getD (block z) 0 (pos 0)) (2 ^ 7) (head-size z) (omega arith), omega arith)
 
 first-requires : tie.Need-first-requires
 first-requires c κs = search needs
 
-choose-requires : tie.Need-choose-requires
-choose-requires c κs = search needs
-
-choose-requires-2 : tie.Need-choose-requires-2
-choose-requires-2 c κs = search needs
-
-choose-requires-3 : tie.Need-choose-requires-3
-choose-requires-3 c κs = search needs
-
-candidate-requires : tie.Need-candidate-requires
-candidate-requires c κs =
-    (plain-size (c .before .before .before .before .choose .result) (2 ^ 7) (shift-size c) (omega arith), plain-size (c .before .before .before .choose2 .result) (2 ^ 7) (by-size c) (omega arith), within (st (z c) .args .k) (st (z c) .args .x) ((z c) .quantize .result .block) ((z c) .quantize .result .sum) ((z c) .quantize .result .halves) ((z c) .quantize .result .sizes) ((z c) .quantize .result .top) ((z c) .quantize .result .low) (st (z c) .pre .0) (st (z c) .pre .1) (long (z c)) ((z c) .quantize .ensures))
+chosen-requires : tie.Need-chosen-requires
+chosen-requires c κs = search needs
 
 returns : tie.Need-returns
 returns c =
-    let d = c .before in
-    c .candidate .ensures (cond (t d) (hi (z d)) (lo (z d))) (rank-is d)
-    ∙ ap₂ (λ a e. members a e (cond (t d) (hi (z d)) (lo (z d))) 0 (block (z d))) (plain (d .before .before .before .before .choose .result) (omega (arith, shift-size d)) ∙ shift-is d) (plain (d .before .before .before .choose2 .result) (omega (arith, by-size d)) ∙ by-is d)
-    ∙ least-is (st (z d) .args .k) (st (z d) .args .x) ((z d) .quantize .result .block) ((z d) .quantize .result .sum) ((z d) .quantize .result .halves) ((z d) .quantize .result .sizes) ((z d) .quantize .result .top) ((z d) .quantize .result .low) (st (z d) .pre .0) (st (z d) .pre .1) (long (z d)) ((z d) .quantize .ensures) (t d) (choice (d .before .before .before .before .before))
+    let z = c .before .before .before .before .before .before .before .before .before .before .before .before .before .before .before .before .before .before .before .before .before in
+    c .chosen .ensures ∙ ap₂ (cond (c .before .first .result)) (whole-block (c .before .before .before .before .before .before .before .before .before .before .before .before .before)) (half-block (c .before .before .before .before .before .before .before .before .before .before .before)) ∙ least-is (st z .args .k) (st z .args .x) (z .quantize .result .block) (z .quantize .result .sum) (z .quantize .result .halves) (z .quantize .result .sizes) (z .quantize .result .top) (z .quantize .result .low) (st z .pre .0) (st z .pre .1) (long z) (z .quantize .ensures) (c .before .first .result) (choice (c .before))
 
 pub least-spec : {M : Type 1} → statement M
 least-spec =
@@ -314,14 +314,14 @@ least-spec =
     remainder-requires
     add-remainder-2
     remainder-requires-2
+    sub-at
     array-copy-out-c
+    candidate-requires
+    candidate-requires-2
     whole-cost-requires
     half-cost-requires
     member-requires
     member-requires-2
     first-requires
-    choose-requires
-    choose-requires-2
-    choose-requires-3
-    candidate-requires
+    chosen-requires
     returns)

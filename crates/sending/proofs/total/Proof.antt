@@ -1,0 +1,106 @@
+-- `total` meets its contract: the energy of the blocks passed so far. Assumes nothing.
+use Prim.Native.Nat.{ℕ, _+_, _-_, _*_, _/_, _%_, _^_, _<_, _≤_}
+use mathlib.Core.Path.{_≡_, refl, sym, ap, _∙_, subst}
+use native.Mathlib.Omega.{arith}
+use lib.ListN.{length, take, drop, length-take, length-drop}
+use lib.Seq.{take-all}
+use borrow.Author.Needs.{needs}
+use Rattle.e8.specs.Energy.{energy as energy-of, Within}
+use Rattle.e8.specs.Lattice.{part}
+use Rattle.e8.proofs.Order.{energy-append}
+use Rattle.e8.proofs.Within.{energy-within}
+use Rattle.sending.proofs.Blocks.{taken-made, within-part}
+use Rattle.sending.proofs.total.Statement.{statement}
+use Rattle.sending.proofs.total.Tie as tie
+
+abbrev Inv-loop : tie.InvT-loop
+Inv-loop frame n energy₀ j₀ energy j = (8 * j ≤ length frame) × (energy ≡ energy-of (take (8 * j) frame)) × (energy ≤ 8388608 * j)
+
+abbrev μ-loop : tie.MeasureT-loop
+μ-loop frame n energy₀ j₀ energy j = length frame / 8 - j
+
+-- block j, its length and its size
+module _ (a : tie.At-loop Inv-loop μ-loop) (inside : a .loop .j < length (a .before .args .frame .now) / 8) where
+  part-is : take (8 * a .loop .j + 8 - 8 * a .loop .j) (drop (8 * a .loop .j) (a .before .args .frame .now)) ≡ part (a .loop .j) (a .before .args .frame .now)
+  part-is = ap (λ (m : ℕ). take m (drop (8 * a .loop .j) (a .before .args .frame .now))) {x = 8 * a .loop .j + 8 - 8 * a .loop .j} {y = 8} (omega arith)
+
+  eight : length (part (a .loop .j) (a .before .args .frame .now)) ≡ 8
+  eight = simp (length-take, length-drop) (omega (arith, inside))
+
+  near : Within (2 ^ 10) (part (a .loop .j) (a .before .args .frame .now))
+  near = within-part (2 ^ 10) (a .loop .j) (a .before .args .frame .now) (a .before .pre .2)
+
+  block-low : energy-of (part (a .loop .j) (a .before .args .frame .now)) ≤ 8388608
+  block-low = omega (arith, energy-within (2 ^ 10) (part (a .loop .j) (a .before .args .frame .now)) near, ap (λ (m : ℕ). m * (2 ^ 10 * 2 ^ 10)) eight)
+
+loop-holds : tie.Need-loop-holds Inv-loop μ-loop
+unfolding energy-of
+loop-holds c = (omega arith, refl, omega arith)
+
+mul-s : tie.Need-mul-s Inv-loop μ-loop
+mul-s c = omega arith
+
+add-e : tie.Need-add-e Inv-loop μ-loop
+add-e c = omega arith
+
+mul-block-energy : tie.Need-mul-block-energy Inv-loop μ-loop
+mul-block-energy c = omega arith
+
+sub-block-energy : tie.Need-sub-block-energy Inv-loop μ-loop
+sub-block-energy c = omega arith
+
+part-block-energy-start : tie.Need-part-block-energy-start Inv-loop μ-loop
+part-block-energy-start c = search needs
+
+part-block-energy-end : tie.Need-part-block-energy-end Inv-loop μ-loop
+part-block-energy-end c = omega arith
+
+block-energy-requires : tie.Need-block-energy-requires Inv-loop μ-loop
+block-energy-requires c κs = let a = c .before .before in let t = c .before .loop-test .taken in (ap length (part-is a t) ∙ eight a t, subst (Within (2 ^ 10)) (sym (part-is a t)) (near a t))
+
+energy-is : (c : tie.After-block-energy Inv-loop μ-loop) → let a = c .before .before .before in c .block-energy .result ≡ energy-of (part (a .loop .j) (a .before .args .frame .now))
+energy-is c = c .block-energy .ensures ∙ ap energy-of (part-is (c .before .before .before) (c .before .before .loop-test .taken))
+
+add-energy : tie.Need-add-energy Inv-loop μ-loop
+add-energy c = omega (arith, energy-is c, block-low (c .before .before .before) (c .before .before .loop-test .taken))
+
+add-j : tie.Need-add-j Inv-loop μ-loop
+add-j c = omega arith
+
+loop-less : tie.Need-loop-less Inv-loop μ-loop
+loop-less c = omega arith
+
+loop-again : tie.Need-loop-again Inv-loop μ-loop
+loop-again c =
+    let a = c .before .before .before in
+    let f = a .before .args .frame .now in
+    let j = a .loop .j in
+    let t = c .before .before .loop-test .taken in
+    let e : energy-of (take (8 * (j + 1)) f) ≡ energy-of (take (8 * j) f) + energy-of (part j f) = ap energy-of (taken-made (length f / 8) f (omega arith) .more j) ∙ energy-append (take (8 * j) f) (part j f) in
+    (omega (arith, t), omega (arith, e, energy-is c, a .loop .inv .1), omega (arith, energy-is c, block-low a t, a .loop .inv .2))
+
+returns : tie.Need-returns Inv-loop μ-loop
+returns c =
+    let a = c .before in
+    let f = a .before .args .frame .now in
+    a .loop .inv .1 ∙ ap energy-of (take-all (8 * a .loop .j) f (omega (arith, c .loop-test .left)))
+
+pub total-spec : {M : Type 1} → statement M
+total-spec =
+    tie.close
+    (tie.spec
+    Inv-loop
+    μ-loop
+    loop-holds
+    mul-s
+    add-e
+    mul-block-energy
+    sub-block-energy
+    part-block-energy-start
+    part-block-energy-end
+    block-energy-requires
+    add-energy
+    add-j
+    loop-less
+    loop-again
+    returns)
