@@ -410,18 +410,15 @@ fn in_order(bits: u64, m: usize, r: usize, masks: &[u8]) -> u64
     b
 }
 
-// The same, by the table of masks of its length.
-fn message_of(bits: u64, m: usize, r: usize) -> u64
-    requires { ⌜ Tabled m × (r ≤ m) ⌝ }
-    ensures { λ b. ⌜ ((k : ℕ) → k < dimension r m → b / 2 ^ k % 2 ≡ bits / 2 ^ getD (order m) k 0 % 2) ⌝ }
+// Puts the bits of the masks in their order into `out` from bit `from` on, by the table of masks of their length.
+fn put_by(bits: u64, m: usize, r: usize, masks: &[u8], out: &mut [u8], from: usize)
+    requires { ⌜ Tabled m × (r ≤ m) × (from ≤ 1000) × (from + dimension r m ≤ 8 * length (now out)) × (now masks ≡ order m) ⌝ }
+    ensures { λ _. ⌜ now (out .exit) ≡ bytesOf (length (now (out .entry)))
+        (withBits from (dimension r m) (λ k. bits / 2 ^ getD (order m) k 0 % 2) (messageBit (now (out .entry)))) ⌝ }
 {
-    if m == 3 {
-        return in_order(bits, m, r, &ORDER_8);
-    }
-    if m == 4 {
-        return in_order(bits, m, r, &ORDER_16);
-    }
-    in_order(bits, m, r, &ORDER_32)
+    let count = dimension_of(m, r);
+    let message = in_order(bits, m, r, masks);
+    put_bits(message, count, out, from);
 }
 
 // Writes the message bits of a level into `out` from bit `from` on, given the bits of its masks held in a number, and leaves every other bit as it was.
@@ -430,9 +427,15 @@ pub fn put_message(bits: u64, m: usize, r: usize, out: &mut [u8], from: usize)
     ensures { λ _. ⌜ now (out .exit) ≡ bytesOf (length (now (out .entry)))
         (withBits from (dimension r m) (λ k. bits / 2 ^ getD (order m) k 0 % 2) (messageBit (now (out .entry)))) ⌝ }
 {
-    let count = dimension_of(m, r);
-    let message = message_of(bits, m, r);
-    put_bits(message, count, out, from);
+    if m == 3 {
+        put_by(bits, m, r, &ORDER_8, out, from);
+        return;
+    }
+    if m == 4 {
+        put_by(bits, m, r, &ORDER_16, out, from);
+        return;
+    }
+    put_by(bits, m, r, &ORDER_32, out, from);
 }
 
 // The same of a level's word.
