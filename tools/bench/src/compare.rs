@@ -1,27 +1,23 @@
 //! Compares every answer of the library with the hand-tuned coder's.
 
+use std::fmt::Debug;
+
 use crate::{dense, lengths};
-use bench::hand;
 use bench::random::Random;
+use bench::{block, hand};
 use link_rs::Refusal;
 
-/// The comparisons made, by answer (0 for success), and those that differ.
+/// The comparisons made, by answer (0 for success; for a block alone, refused and shaped), and
+/// those that differ.
 struct Tally {
     answers: [u64; 13],
+    blocks: [u64; 2],
     different: u64,
 }
 
 impl Tally {
-    /// Counts one comparison; tells of the first few differences.
-    fn count<T: PartialEq + std::fmt::Debug>(
-        &mut self,
-        what: &str,
-        input: &dyn std::fmt::Debug,
-        library: (Result<u64, Refusal>, T),
-        by_hand: (Result<u64, u8>, T),
-    ) {
-        let library = (library.0.map_err(Refusal::number), library.1);
-        self.answers[by_hand.0.err().unwrap_or(0) as usize] += 1;
+    /// Tells of the first few differences.
+    fn compare<T: PartialEq + Debug>(&mut self, what: &str, input: &dyn Debug, library: T, by_hand: T) {
         if library != by_hand {
             self.different += 1;
             if self.different <= 10 {
@@ -29,7 +25,22 @@ impl Tally {
             }
         }
     }
+
+    /// Counts one comparison of frames or messages.
+    fn count<T: PartialEq + Debug>(
+        &mut self,
+        what: &str,
+        input: &dyn Debug,
+        library: (Result<u64, Refusal>, T),
+        by_hand: (Result<u64, u8>, T),
+    ) {
+        self.answers[by_hand.0.err().unwrap_or(0) as usize] += 1;
+        self.compare(what, input, (library.0.map_err(Refusal::number), library.1), by_hand);
+    }
 }
+
+/// The largest size of a coordinate of a block that is shaped by itself.
+const FURTHEST: i32 = 1 << 24;
 
 /// A message that has several frames of least energy, often: read from a frame on a coarse grid.
 fn edge(kind: u8, grade: u8, random: &mut Random) -> Vec<u8> {
@@ -138,11 +149,49 @@ fn misfits(random: &mut Random, tally: &mut Tally) {
     readings(kind, grade, &frame, bytes, tally);
 }
 
-/// Compares on so many frames; gives the number of differences.
+/// Eight coordinates, up to the scale in size or up to all that is shaped, in steps of 1, or of a
+/// quarter or a half of the scale, where the least members are often several; at times one of them
+/// at the ends of the range or past them.
+fn coordinates(scale: i32, random: &mut Random) -> Vec<i32> {
+    let step = [1, (scale / 4).max(1), scale / 2][random.below(3) as usize];
+    let far = [scale, FURTHEST][random.below(2) as usize] / step;
+    let mut block: Vec<i32> = (0..8).map(|_| step * (random.below(2 * far as u64 + 1) as i32 - far)).collect();
+    let place = random.below(8) as usize;
+    match random.below(16) {
+        0 => block[place] = [-1, 1][random.below(2) as usize] * (FURTHEST - 1 + random.below(3) as i32),
+        1 => block[place] = [i32::MIN, i32::MAX][random.below(2) as usize],
+        _ => {}
+    }
+    block
+}
+
+/// A block shaped by itself, and at times one that is refused.
+fn shaping(random: &mut Random, tally: &mut Tally) {
+    let mut k = random.below(7) as u32;
+    let mut x = coordinates(2 << k, random);
+    let mut one = vec![77; 8];
+    match random.below(16) {
+        0 => k = [7, 8, 31, 32, u32::MAX][random.below(5) as usize],
+        1 => x.resize(random.below(17) as usize, 0),
+        2 => one.resize(random.below(17) as usize, 77),
+        _ => {}
+    }
+    let by_hand = match <&[i32; 8]>::try_from(&x[..]) {
+        Ok(x) if k <= 6 && one.len() == 8 && x.iter().all(|x| x.unsigned_abs() <= FURTHEST as u32) => {
+            (true, hand::shape(k + 1, x).to_vec())
+        }
+        _ => (false, one.clone()),
+    };
+    let answer = block::least(k, &x, &mut one);
+    tally.blocks[by_hand.0 as usize] += 1;
+    tally.compare("block_least", &(k, x), (answer, one), by_hand);
+}
+
+/// Compares on so many frames, and as many blocks; gives the number of differences.
 pub fn run(frames: u64, seed: u64) -> u64 {
     let mut random = Random(seed);
     let random = &mut random;
-    let mut tally = Tally { answers: [0; 13], different: 0 };
+    let mut tally = Tally { answers: [0; 13], blocks: [0; 2], different: 0 };
     for _ in 0..frames {
         let (kind, grade) = (3 + random.below(3) as u8, 1 + random.below(4) as u8);
         let (length, bytes) = lengths(kind, grade);
@@ -157,6 +206,7 @@ pub fn run(frames: u64, seed: u64) -> u64 {
         if random.below(8) == 0 {
             misfits(random, &mut tally);
         }
+        shaping(random, &mut tally);
     }
     for (number, count) in tally.answers.iter().enumerate().filter(|(_, &count)| count > 0) {
         match number {
@@ -164,6 +214,9 @@ pub fn run(frames: u64, seed: u64) -> u64 {
             _ => println!("refused {number} ({:?}): {count}", Refusal::ALL[number - 1]),
         }
     }
-    println!("{frames} frames, {} comparisons, {} different", tally.answers.iter().sum::<u64>(), tally.different);
+    let [refused, shaped] = tally.blocks;
+    println!("blocks shaped: {shaped}\nblocks refused: {refused}");
+    let all = tally.answers.iter().chain(&tally.blocks).sum::<u64>();
+    println!("{frames} frames, {all} comparisons, {} different", tally.different);
     tally.different
 }

@@ -307,7 +307,7 @@ fn fold(x: [i32; 8], f: impl Fn(i32, i32) -> i32) -> i32 {
     f(f(x[0], x[2]), f(x[1], x[3]))
 }
 
-/// The sent block of the class of x, at scale M = 2^k, k from 2 to 6; x is any eight numbers.
+/// The sent block of the class of x, at scale M = 2^k, k from 1 to 7; x is any eight numbers.
 #[inline(always)]
 pub fn shape(k: u32, x: &[i32; 8]) -> [i32; 8] {
     let (scale, half) = (1i32 << k, 1i32 << (k - 1));

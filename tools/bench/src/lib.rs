@@ -1,4 +1,6 @@
-//! The hand-tuned coder, the yardstick for the library's speed.
+//! The hand-tuned coder, the yardstick for the library's speed, and the library's shaping of a block.
 
+#[cfg(feature = "library")]
+pub mod block;
 pub mod hand;
 pub mod random;

@@ -1,7 +1,7 @@
 //! Measures the library beside the hand-tuned coder, and compares their answers.
 //!
 //!     bench                        the tables of times, per frame and per block
-//!     bench compare FRAMES [SEED]  compares all answers on fresh messages and frames
+//!     bench compare FRAMES [SEED]  compares all answers on fresh messages, frames and blocks
 
 mod compare;
 mod table;

@@ -5,8 +5,8 @@ use std::hint::black_box;
 use std::time::{Duration, Instant};
 
 use crate::{dense, lengths};
-use bench::hand;
 use bench::random::Random;
+use bench::{block, hand};
 
 const FRAMES: usize = 1024;
 const TURNS: usize = 200;
@@ -89,31 +89,28 @@ fn frames(random: &mut Random) {
     }
 }
 
+/// One block, each coder called by itself. The library's call includes its tests of scale, lengths
+/// and range.
 fn blocks(random: &mut Random) {
-    println!("| shape a block alone | by hand, called alone, ns | library, ns a block | by hand, ns a block | ratio |");
-    println!("|---|---|---|---|---|");
-    for grade in [1, 4] {
-        let bytes = lengths(5, grade).1;
-        let (_, frames) = sent(5, grade, random);
-        let k = grade as u32 + 2;
+    println!("| shape a block alone | library, ns a block | by hand, ns a block | ratio |");
+    println!("|---|---|---|---|");
+    for k in [3, 6] {
         let blocks: [[i32; 8]; FRAMES] = from_fn(|_| from_fn(|_| random.below(2 << k) as i32));
-        let [open, strict, hand_open, hand_strict, alone] = measure([
-            &mut pass!(link_rs::read_open, 5, grade, &frames, vec![0; bytes]),
-            &mut pass!(link_rs::read_strict, 5, grade, &frames, vec![0; bytes]),
-            &mut pass!(hand::read_open, 5, grade, &frames, vec![0; bytes]),
-            &mut pass!(hand::read_strict, 5, grade, &frames, vec![0; bytes]),
+        let mut least = [0; 8];
+        let [library, hand] = measure([
+            &mut || {
+                for block in &blocks {
+                    black_box(block::least(black_box(k - 1), black_box(block), black_box(&mut least)));
+                }
+            },
             &mut || {
                 for block in &blocks {
                     black_box(hand::shape(black_box(k), black_box(block)));
                 }
             },
         ]);
-        let row = format!("scale {} | {alone:.1}", 1 << k);
-        line(&row, (strict - open) / 4.0, (hand_strict - hand_open) / 4.0);
+        line(&format!("scale {}", 1 << k), library, hand);
     }
-    println!();
-    println!("The library exports no shaping of a block. The last three columns are a fourth of what the strict");
-    println!("reading of kind 5, four blocks, takes over the open one: shaping each block and comparing it.");
 }
 
 pub fn print() {

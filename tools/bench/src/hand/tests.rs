@@ -28,6 +28,12 @@ fn member(mut number: u64, k: u32) -> [i64; 8] {
 }
 
 #[test]
+fn every_class_at_scale_2() {
+    let tied = (0..1 << 8).filter(|&number| check(&member(number, 1), 1)).count();
+    println!("scale 2: 256 classes, {tied} with ties");
+}
+
+#[test]
 fn every_class_at_scale_4() {
     let tied = (0..1 << 16).filter(|&number| check(&member(number, 2), 2)).count();
     println!("scale 4: 65536 classes, {tied} with ties");
@@ -86,7 +92,7 @@ fn random_blocks(k: u32, count: usize, seed: u64) {
 
 #[test]
 fn random_and_tied_blocks() {
-    for k in 2..=6 {
+    for k in 2..=7 {
         random_blocks(k, 100_000, k as u64);
     }
 }
@@ -95,7 +101,7 @@ fn random_and_tied_blocks() {
 #[test]
 #[ignore]
 fn millions_of_random_and_tied_blocks() {
-    for k in 2..=6 {
+    for k in 2..=7 {
         random_blocks(k, 2_000_000, 100 + k as u64);
     }
 }

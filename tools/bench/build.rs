@@ -1,0 +1,22 @@
+//! Points the linker to the archive of a block's shaping, libblock.a: in target/staticlib of the
+//! repository, or in the folder that LINK_DIR names. The hand-tuned coder alone does not need it.
+
+use std::path::{Path, PathBuf};
+
+fn main() {
+    println!("cargo:rerun-if-env-changed=LINK_DIR");
+    if std::env::var_os("CARGO_FEATURE_LIBRARY").is_none() {
+        return;
+    }
+    let folder = match std::env::var_os("LINK_DIR") {
+        Some(folder) => PathBuf::from(folder),
+        None => Path::new(env!("CARGO_MANIFEST_DIR")).join("../../target/staticlib"),
+    };
+    let archive = folder.join("libblock.a");
+    println!("cargo:rerun-if-changed={}", archive.display());
+    println!("cargo:rustc-link-search=native={}", folder.display());
+    println!("cargo:rustc-link-lib=static=block");
+    if !archive.exists() {
+        println!("cargo:warning=no {}: make the static library first", archive.display());
+    }
+}
