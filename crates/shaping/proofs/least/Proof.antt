@@ -31,7 +31,7 @@ costed false M y z m e = ap (λ (n : ℕ). cond (ltZ (pos 0) (pos n)) z (pos 0))
 costed true M y z m e = ap (λ t. cond t z (pos 0)) (lt-ltb 0 (1 * M) (omega arith)) ∙ e ∙ ap pos {x = y} {y = 1 * y} (omega arith)
 
 -- what the code computes from the rounded block and its figures
-module _ (k : ℕ) (x rs : List ℤ) (s t n u v : ℤ) (low : k ≤ 6) (w : Within (2 ^ 24) x) (eight : length x ≡ 8) (q : Rounded (2 ^ k) x rs s t n u v 0) where
+module _ {k : ℕ} {x rs : List ℤ} {s t n u v : ℤ} (low : k ≤ 6) (w : Within (2 ^ 24) x) (eight : length x ≡ 8) (q : Rounded (2 ^ k) x rs s t n u v 0) where
   abbrev H : ℕ
   H = 2 ^ k
 
@@ -143,46 +143,64 @@ module _ (c : tie.After-quantize) where
   lo = lowest (rounded M (st .args .x)) 0
 
   abbrev o : ℤ
-  o = odd (st .args .k) (st .args .x) (c .quantize .result .block) (c .quantize .result .sum) (c .quantize .result .halves) (c .quantize .result .sizes) (c .quantize .result .top) (c .quantize .result .low) (st .pre .0) (st .pre .1) long (c .quantize .ensures)
+  o = odd (st .pre .0) (st .pre .1) long (c .quantize .ensures)
 
   abbrev ho : ℤ
-  ho = half-odd (st .args .k) (st .args .x) (c .quantize .result .block) (c .quantize .result .sum) (c .quantize .result .halves) (c .quantize .result .sizes) (c .quantize .result .top) (c .quantize .result .low) (st .pre .0) (st .pre .1) long (c .quantize .ensures)
+  ho = half-odd (st .pre .0) (st .pre .1) long (c .quantize .ensures)
 
   o-size : natAbs o ≤ 2 ^ 7
-  o-size = bit-low (st .args .k) (st .args .x) (c .quantize .result .block) (c .quantize .result .sum) (c .quantize .result .halves) (c .quantize .result .sizes) (c .quantize .result .top) (c .quantize .result .low) (st .pre .0) (st .pre .1) long (c .quantize .ensures) (whole M (st .args .x) (H-pos (st .args .k) (st .args .x) (c .quantize .result .block) (c .quantize .result .sum) (c .quantize .result .halves) (c .quantize .result .sizes) (c .quantize .result .top) (c .quantize .result .low) (st .pre .0) (st .pre .1) long (c .quantize .ensures)) (H-small (st .args .k) (st .args .x) (c .quantize .result .block) (c .quantize .result .sum) (c .quantize .result .halves) (c .quantize .result .sizes) (c .quantize .result .top) (c .quantize .result .low) (st .pre .0) (st .pre .1) long (c .quantize .ensures)) long .odd)
+  o-size = bit-low (st .pre .0) (st .pre .1) long (c .quantize .ensures) (whole M (st .args .x) (H-pos (st .pre .0) (st .pre .1) long (c .quantize .ensures)) (H-small (st .pre .0) (st .pre .1) long (c .quantize .ensures)) long .odd)
 
   ho-size : natAbs ho ≤ 2 ^ 7
-  ho-size = bit-low (st .args .k) (st .args .x) (c .quantize .result .block) (c .quantize .result .sum) (c .quantize .result .halves) (c .quantize .result .sizes) (c .quantize .result .top) (c .quantize .result .low) (st .pre .0) (st .pre .1) long (c .quantize .ensures) (halved M (st .args .x) (H-pos (st .args .k) (st .args .x) (c .quantize .result .block) (c .quantize .result .sum) (c .quantize .result .halves) (c .quantize .result .sizes) (c .quantize .result .top) (c .quantize .result .low) (st .pre .0) (st .pre .1) long (c .quantize .ensures)) (H-small (st .args .k) (st .args .x) (c .quantize .result .block) (c .quantize .result .sum) (c .quantize .result .halves) (c .quantize .result .sizes) (c .quantize .result .top) (c .quantize .result .low) (st .pre .0) (st .pre .1) long (c .quantize .ensures)) long .odd)
+  ho-size = bit-low (st .pre .0) (st .pre .1) long (c .quantize .ensures) (halved M (st .args .x) (H-pos (st .pre .0) (st .pre .1) long (c .quantize .ensures)) (H-small (st .pre .0) (st .pre .1) long (c .quantize .ensures)) long .odd)
 
   abbrev we : ℤ
-  we = pos (whole-cost M (st .args .x) (H-pos (st .args .k) (st .args .x) (c .quantize .result .block) (c .quantize .result .sum) (c .quantize .result .halves) (c .quantize .result .sizes) (c .quantize .result .top) (c .quantize .result .low) (st .pre .0) (st .pre .1) long (c .quantize .ensures)) (H-small (st .args .k) (st .args .x) (c .quantize .result .block) (c .quantize .result .sum) (c .quantize .result .halves) (c .quantize .result .sizes) (c .quantize .result .top) (c .quantize .result .low) (st .pre .0) (st .pre .1) long (c .quantize .ensures)) long)
+  we = pos (whole-cost M (st .args .x) (H-pos (st .pre .0) (st .pre .1) long (c .quantize .ensures)) (H-small (st .pre .0) (st .pre .1) long (c .quantize .ensures)) long)
 
   abbrev he : ℤ
-  he = pos (half-cost M (st .args .x) (H-pos (st .args .k) (st .args .x) (c .quantize .result .block) (c .quantize .result .sum) (c .quantize .result .halves) (c .quantize .result .sizes) (c .quantize .result .top) (c .quantize .result .low) (st .pre .0) (st .pre .1) long (c .quantize .ensures)) (H-small (st .args .k) (st .args .x) (c .quantize .result .block) (c .quantize .result .sum) (c .quantize .result .halves) (c .quantize .result .sizes) (c .quantize .result .top) (c .quantize .result .low) (st .pre .0) (st .pre .1) long (c .quantize .ensures)) long)
+  he = pos (half-cost M (st .args .x) (H-pos (st .pre .0) (st .pre .1) long (c .quantize .ensures)) (H-small (st .pre .0) (st .pre .1) long (c .quantize .ensures)) long)
+
+  sum-size-here : natAbs (c .quantize .result .sum) ≤ 2 ^ 28
+  sum-size-here = sum-size (st .pre .0) (st .pre .1) long (c .quantize .ensures)
+
+  halves-size-here : natAbs (c .quantize .result .halves) ≤ 2 ^ 28
+  halves-size-here = halves-size (st .pre .0) (st .pre .1) long (c .quantize .ensures)
+
+  sizes-size-here : natAbs (c .quantize .result .sizes) ≤ 2 ^ 10
+  sizes-size-here = sizes-size (st .pre .0) (st .pre .1) long (c .quantize .ensures)
+
+  top-size-here : natAbs (c .quantize .result .top) ≤ 2 ^ 12
+  top-size-here = top-size (st .pre .0) (st .pre .1) long (c .quantize .ensures)
+
+  low-size-here : natAbs (c .quantize .result .low) ≤ 2 ^ 12
+  low-size-here = low-size (st .pre .0) (st .pre .1) long (c .quantize .ensures)
+
+  within-here : Within (2 ^ 7) block
+  within-here = within (st .pre .0) (st .pre .1) long (c .quantize .ensures)
 
   sum-read : read (c .quantize .result .sum) ≡ c .quantize .result .sum
-  sum-read = plain (c .quantize .result .sum) (omega (arith, sum-size (st .args .k) (st .args .x) (c .quantize .result .block) (c .quantize .result .sum) (c .quantize .result .halves) (c .quantize .result .sizes) (c .quantize .result .top) (c .quantize .result .low) (st .pre .0) (st .pre .1) long (c .quantize .ensures)))
+  sum-read = plain (c .quantize .result .sum) (omega (arith, sum-size-here))
 
   halves-read : read (c .quantize .result .halves) ≡ c .quantize .result .halves
-  halves-read = plain (c .quantize .result .halves) (omega (arith, halves-size (st .args .k) (st .args .x) (c .quantize .result .block) (c .quantize .result .sum) (c .quantize .result .halves) (c .quantize .result .sizes) (c .quantize .result .top) (c .quantize .result .low) (st .pre .0) (st .pre .1) long (c .quantize .ensures)))
+  halves-read = plain (c .quantize .result .halves) (omega (arith, halves-size-here))
 
   sizes-read : read (c .quantize .result .sizes) ≡ c .quantize .result .sizes
-  sizes-read = plain (c .quantize .result .sizes) (omega (arith, sizes-size (st .args .k) (st .args .x) (c .quantize .result .block) (c .quantize .result .sum) (c .quantize .result .halves) (c .quantize .result .sizes) (c .quantize .result .top) (c .quantize .result .low) (st .pre .0) (st .pre .1) long (c .quantize .ensures)))
+  sizes-read = plain (c .quantize .result .sizes) (omega (arith, sizes-size-here))
 
   top-read : read (c .quantize .result .top) ≡ c .quantize .result .top
-  top-read = plain (c .quantize .result .top) (omega (arith, top-size (st .args .k) (st .args .x) (c .quantize .result .block) (c .quantize .result .sum) (c .quantize .result .halves) (c .quantize .result .sizes) (c .quantize .result .top) (c .quantize .result .low) (st .pre .0) (st .pre .1) long (c .quantize .ensures)))
+  top-read = plain (c .quantize .result .top) (omega (arith, top-size-here))
 
   low-read : read (c .quantize .result .low) ≡ c .quantize .result .low
-  low-read = plain (c .quantize .result .low) (omega (arith, low-size (st .args .k) (st .args .x) (c .quantize .result .block) (c .quantize .result .sum) (c .quantize .result .halves) (c .quantize .result .sizes) (c .quantize .result .top) (c .quantize .result .low) (st .pre .0) (st .pre .1) long (c .quantize .ensures)))
+  low-read = plain (c .quantize .result .low) (omega (arith, low-size-here))
 
   top-rank : read (c .quantize .result .top) ≡ pos hi
-  top-rank = top-read ∙ top-is (st .args .k) (st .args .x) (c .quantize .result .block) (c .quantize .result .sum) (c .quantize .result .halves) (c .quantize .result .sizes) (c .quantize .result .top) (c .quantize .result .low) (st .pre .0) (st .pre .1) long (c .quantize .ensures)
+  top-rank = top-read ∙ top-is (st .pre .0) (st .pre .1) long (c .quantize .ensures)
 
   low-rank : read (c .quantize .result .low) ≡ pos lo
-  low-rank = low-read ∙ low-is (st .args .k) (st .args .x) (c .quantize .result .block) (c .quantize .result .sum) (c .quantize .result .halves) (c .quantize .result .sizes) (c .quantize .result .top) (c .quantize .result .low) (st .pre .0) (st .pre .1) long (c .quantize .ensures)
+  low-rank = low-read ∙ low-is (st .pre .0) (st .pre .1) long (c .quantize .ensures)
 
   head-size : natAbs (getD block 0 (pos 0)) ≤ 2 ^ 7
-  head-size = within-at (2 ^ 7) block 0 (within (st .args .k) (st .args .x) (c .quantize .result .block) (c .quantize .result .sum) (c .quantize .result .halves) (c .quantize .result .sizes) (c .quantize .result .top) (c .quantize .result .low) (st .pre .0) (st .pre .1) long (c .quantize .ensures))
+  head-size = within-at (2 ^ 7) block 0 within-here
 
   head-read : read (getD block 0 (pos 0)) ≡ getD block 0 (pos 0)
   head-read = plain (getD block 0 (pos 0)) (omega (arith, head-size))
@@ -194,17 +212,32 @@ module _ (c : tie.After-quantize) where
   ba = pos M -ℤ ho
 
   ba-size : natAbs ba ≤ 2 ^ 7
-  ba-size = back-low (st .args .k) (st .args .x) (c .quantize .result .block) (c .quantize .result .sum) (c .quantize .result .halves) (c .quantize .result .sizes) (c .quantize .result .top) (c .quantize .result .low) (st .pre .0) (st .pre .1) long (c .quantize .ensures) (halved M (st .args .x) (H-pos (st .args .k) (st .args .x) (c .quantize .result .block) (c .quantize .result .sum) (c .quantize .result .halves) (c .quantize .result .sizes) (c .quantize .result .top) (c .quantize .result .low) (st .pre .0) (st .pre .1) long (c .quantize .ensures)) (H-small (st .args .k) (st .args .x) (c .quantize .result .block) (c .quantize .result .sum) (c .quantize .result .halves) (c .quantize .result .sizes) (c .quantize .result .top) (c .quantize .result .low) (st .pre .0) (st .pre .1) long (c .quantize .ensures)) long .odd)
+  ba-size = back-low (st .pre .0) (st .pre .1) long (c .quantize .ensures) (halved M (st .args .x) (H-pos (st .pre .0) (st .pre .1) long (c .quantize .ensures)) (H-small (st .pre .0) (st .pre .1) long (c .quantize .ensures)) long .odd)
+
+  odd-is-here : pos (modZ (c .quantize .result .sum) (2 ^ (st .args .k + 2))) ≡ o
+  odd-is-here = odd-is (st .pre .0) (st .pre .1) long (c .quantize .ensures)
+
+  half-odd-is-here : pos (modZ (c .quantize .result .halves) (2 ^ (st .args .k + 2))) ≡ ho
+  half-odd-is-here = half-odd-is (st .pre .0) (st .pre .1) long (c .quantize .ensures)
+
+  whole-is-here : c .quantize .result .sizes +ℤ cond (ltZ (pos 0) o) (pos 2 *ℤ (pos M -ℤ shrZ (c .quantize .result .top) 16)) (pos 0) ≡ we
+  whole-is-here = whole-is (st .pre .0) (st .pre .1) long (c .quantize .ensures)
+
+  half-is-here : pos 4 *ℤ pos M +ℤ cond (ltZ (pos 0) ho) (pos 2 *ℤ shrZ (c .quantize .result .low) 16) (pos 0) ≡ he
+  half-is-here = half-is (st .pre .0) (st .pre .1) long (c .quantize .ensures)
+
+  least-is-here : (b : Bool) → b ≡ sooner we (memberOf o (pos 0) hi (getD block 0 (pos 0)) 0) he (memberOf ba (pos M) lo (getD block 0 (pos 0)) 0) → cond b (members o (pos 0) hi 0 block) (members ba (pos M) lo 0 block) ≡ leastBlock M (st .args .x)
+  least-is-here = least-is (st .pre .0) (st .pre .1) long (c .quantize .ensures)
 
 o-read : (c : tie.After-remainder) → read (c .remainder .result) ≡ o (c .before .before)
-o-read c = let z = c .before .before in tz refl (record { sfits = c .remainder .ok }) ∙ c .remainder .ensures ∙ ap (λ (y : ℤ). pos (modZ y (2 ^ (st z .args .k + 2)))) (sum-read z) ∙ odd-is (st z .args .k) (st z .args .x) (z .quantize .result .block) (z .quantize .result .sum) (z .quantize .result .halves) (z .quantize .result .sizes) (z .quantize .result .top) (z .quantize .result .low) (st z .pre .0) (st z .pre .1) (long z) (z .quantize .ensures)
+o-read c = let z = c .before .before in tz refl (record { sfits = c .remainder .ok }) ∙ c .remainder .ensures ∙ ap (λ (y : ℤ). pos (modZ y (2 ^ (st z .args .k + 2)))) (sum-read z) ∙ odd-is-here z
 
 module _ (c : tie.After-remainder2) where
   abbrev zz : tie.After-quantize
   zz = c .before .before .before .before
 
   ho-read : read (c .remainder2 .result) ≡ ho zz
-  ho-read = tz refl (record { sfits = c .remainder2 .ok }) ∙ c .remainder2 .ensures ∙ ap (λ (y : ℤ). pos (modZ y (2 ^ (st zz .args .k + 2)))) (halves-read zz) ∙ half-odd-is (st zz .args .k) (st zz .args .x) (zz .quantize .result .block) (zz .quantize .result .sum) (zz .quantize .result .halves) (zz .quantize .result .sizes) (zz .quantize .result .top) (zz .quantize .result .low) (st zz .pre .0) (st zz .pre .1) (long zz) (zz .quantize .ensures)
+  ho-read = tz refl (record { sfits = c .remainder2 .ok }) ∙ c .remainder2 .ensures ∙ ap (λ (y : ℤ). pos (modZ y (2 ^ (st zz .args .k + 2)))) (halves-read zz) ∙ half-odd-is-here zz
 
   back : read (p zz .power .result) -ℤ read (c .remainder2 .result) ≡ ba zz
   back = ap₂ _-ℤ_ (height zz) ho-read
@@ -225,13 +258,13 @@ we-read : (c : tie.After-whole-cost) → read (c .whole-cost .result) ≡ we (c 
 we-read c =
     let z = c .before .before .before .before .before .before .before .before .before .before .before .before .before in
     tz refl (record { sfits = c .whole-cost .ok }) ∙ c .whole-cost .ensures
-    ∙ (λ j. sizes-read z j +ℤ cond (ltZ (pos 0) (o-read (c .before .before .before .before .before .before .before .before .before .before .before) j)) (pos 2 *ℤ (height z j -ℤ shrZ (top-read z j) 16)) (pos 0)) ∙ whole-is (st z .args .k) (st z .args .x) (z .quantize .result .block) (z .quantize .result .sum) (z .quantize .result .halves) (z .quantize .result .sizes) (z .quantize .result .top) (z .quantize .result .low) (st z .pre .0) (st z .pre .1) (long z) (z .quantize .ensures)
+    ∙ (λ j. sizes-read z j +ℤ cond (ltZ (pos 0) (o-read (c .before .before .before .before .before .before .before .before .before .before .before) j)) (pos 2 *ℤ (height z j -ℤ shrZ (top-read z j) 16)) (pos 0)) ∙ whole-is-here z
 
 he-read : (c : tie.After-half-cost) → read (c .half-cost .result) ≡ he (c .before .before .before .before .before .before .before .before .before .before .before .before .before .before .before)
 he-read c =
     let z = c .before .before .before .before .before .before .before .before .before .before .before .before .before .before .before in
     tz refl (record { sfits = c .half-cost .ok }) ∙ c .half-cost .ensures
-    ∙ (λ j. pos 4 *ℤ height z j +ℤ cond (ltZ (pos 0) (ho-read (c .before .before .before .before .before .before .before .before .before .before .before) j)) (pos 2 *ℤ shrZ (low-read z j) 16) (pos 0)) ∙ half-is (st z .args .k) (st z .args .x) (z .quantize .result .block) (z .quantize .result .sum) (z .quantize .result .halves) (z .quantize .result .sizes) (z .quantize .result .top) (z .quantize .result .low) (st z .pre .0) (st z .pre .1) (long z) (z .quantize .ensures)
+    ∙ (λ j. pos 4 *ℤ height z j +ℤ cond (ltZ (pos 0) (ho-read (c .before .before .before .before .before .before .before .before .before .before .before) j)) (pos 2 *ℤ shrZ (low-read z j) 16) (pos 0)) ∙ half-is-here z
 
 whole-first : (c : tie.After-member) → read (c .member .result) ≡ memberOf (o (c .before .before .before .before .before .before .before .before .before .before .before .before .before .before .before .before .before)) (pos 0) (hi (c .before .before .before .before .before .before .before .before .before .before .before .before .before .before .before .before .before)) (getD (block (c .before .before .before .before .before .before .before .before .before .before .before .before .before .before .before .before .before)) 0 (pos 0)) 0
 whole-first c =
@@ -257,13 +290,13 @@ add-remainder : tie.Need-add-remainder
 add-remainder c = search needs
 
 remainder-requires : tie.Need-remainder-requires
-remainder-requires c κs = let z = c .before in (omega (arith, st z .pre .0), plain-size (z .quantize .result .sum) (2 ^ 30) (omega (arith, sum-size (st z .args .k) (st z .args .x) (z .quantize .result .block) (z .quantize .result .sum) (z .quantize .result .halves) (z .quantize .result .sizes) (z .quantize .result .top) (z .quantize .result .low) (st z .pre .0) (st z .pre .1) (long z) (z .quantize .ensures))) (omega arith))
+remainder-requires c κs = let z = c .before in (omega (arith, st z .pre .0), plain-size (z .quantize .result .sum) (2 ^ 30) (omega (arith, sum-size-here z)) (omega arith))
 
 add-remainder-2 : tie.Need-add-remainder-2
 add-remainder-2 c = search needs
 
 remainder-requires-2 : tie.Need-remainder-requires-2
-remainder-requires-2 c κs = let z = c .before .before .before in (omega (arith, st z .pre .0), plain-size (z .quantize .result .halves) (2 ^ 30) (omega (arith, halves-size (st z .args .k) (st z .args .x) (z .quantize .result .block) (z .quantize .result .sum) (z .quantize .result .halves) (z .quantize .result .sizes) (z .quantize .result .top) (z .quantize .result .low) (st z .pre .0) (st z .pre .1) (long z) (z .quantize .ensures))) (omega arith))
+remainder-requires-2 c κs = let z = c .before .before .before in (omega (arith, st z .pre .0), plain-size (z .quantize .result .halves) (2 ^ 30) (omega (arith, halves-size-here z)) (omega arith))
 
 sub-at : tie.Need-sub-at
 sub-at c = sfits-to (back c) (fits (ba (zz c)) (omega (arith, ba-size (zz c))))
@@ -272,18 +305,18 @@ array-copy-out-c : tie.Need-array-copy-out-c
 array-copy-out-c c = search needs
 
 candidate-requires : tie.Need-candidate-requires
-candidate-requires c κs = let z = c .before .before .before .before .before .before .before in (subst (λ (y : ℤ). natAbs y ≤ 2 ^ 7) (sym (o-read (c .before .before .before .before .before))) (o-size z), omega arith, within (st z .args .k) (st z .args .x) (z .quantize .result .block) (z .quantize .result .sum) (z .quantize .result .halves) (z .quantize .result .sizes) (z .quantize .result .top) (z .quantize .result .low) (st z .pre .0) (st z .pre .1) (long z) (z .quantize .ensures))
+candidate-requires c κs = let z = c .before .before .before .before .before .before .before in (subst (λ (y : ℤ). natAbs y ≤ 2 ^ 7) (sym (o-read (c .before .before .before .before .before))) (o-size z), omega arith, within-here z)
 
 candidate-requires-2 : tie.Need-candidate-requires-2
-candidate-requires-2 c κs = let z = c .before .before .before .before .before .before .before .before .before in (back-size (c .before .before .before .before .before), h-size z, within (st z .args .k) (st z .args .x) (z .quantize .result .block) (z .quantize .result .sum) (z .quantize .result .halves) (z .quantize .result .sizes) (z .quantize .result .top) (z .quantize .result .low) (st z .pre .0) (st z .pre .1) (long z) (z .quantize .ensures))
+candidate-requires-2 c κs = let z = c .before .before .before .before .before .before .before .before .before in (back-size (c .before .before .before .before .before), h-size z, within-here z)
 
 whole-cost-requires : tie.Need-whole-cost-requires
 whole-cost-requires c κs =
     let z = c .before .before .before .before .before .before .before .before .before .before .before .before in
-    (h-size z, plain-size (z .quantize .result .sizes) (2 ^ 10) (sizes-size (st z .args .k) (st z .args .x) (z .quantize .result .block) (z .quantize .result .sum) (z .quantize .result .halves) (z .quantize .result .sizes) (z .quantize .result .top) (z .quantize .result .low) (st z .pre .0) (st z .pre .1) (long z) (z .quantize .ensures)) (omega arith), plain-size (z .quantize .result .top) (2 ^ 12) (top-size (st z .args .k) (st z .args .x) (z .quantize .result .block) (z .quantize .result .sum) (z .quantize .result .halves) (z .quantize .result .sizes) (z .quantize .result .top) (z .quantize .result .low) (st z .pre .0) (st z .pre .1) (long z) (z .quantize .ensures)) (omega arith))
+    (h-size z, plain-size (z .quantize .result .sizes) (2 ^ 10) (sizes-size-here z) (omega arith), plain-size (z .quantize .result .top) (2 ^ 12) (top-size-here z) (omega arith))
 
 half-cost-requires : tie.Need-half-cost-requires
-half-cost-requires c κs = let z = c .before .before .before .before .before .before .before .before .before .before .before .before .before .before in (h-size z, plain-size (z .quantize .result .low) (2 ^ 12) (low-size (st z .args .k) (st z .args .x) (z .quantize .result .block) (z .quantize .result .sum) (z .quantize .result .halves) (z .quantize .result .sizes) (z .quantize .result .top) (z .quantize .result .low) (st z .pre .0) (st z .pre .1) (long z) (z .quantize .ensures)) (omega arith))
+half-cost-requires c κs = let z = c .before .before .before .before .before .before .before .before .before .before .before .before .before .before in (h-size z, plain-size (z .quantize .result .low) (2 ^ 12) (low-size-here z) (omega arith))
 
 member-requires : tie.Need-member-requires
 member-requires c κs =
@@ -302,7 +335,7 @@ chosen-requires c κs = search needs
 returns : tie.Need-returns
 returns c =
     let z = c .before .before .before .before .before .before .before .before .before .before .before .before .before .before .before .before .before .before .before .before .before in
-    c .chosen .ensures ∙ ap₂ (cond (c .before .first .result)) (whole-block (c .before .before .before .before .before .before .before .before .before .before .before .before .before)) (half-block (c .before .before .before .before .before .before .before .before .before .before .before)) ∙ least-is (st z .args .k) (st z .args .x) (z .quantize .result .block) (z .quantize .result .sum) (z .quantize .result .halves) (z .quantize .result .sizes) (z .quantize .result .top) (z .quantize .result .low) (st z .pre .0) (st z .pre .1) (long z) (z .quantize .ensures) (c .before .first .result) (choice (c .before))
+    c .chosen .ensures ∙ ap₂ (cond (c .before .first .result)) (whole-block (c .before .before .before .before .before .before .before .before .before .before .before .before .before)) (half-block (c .before .before .before .before .before .before .before .before .before .before .before)) ∙ least-is-here z (c .before .first .result) (choice (c .before))
 
 pub least-spec : {M : Type 1} → statement M
 least-spec =
