@@ -45,7 +45,7 @@ same-number (pos a) (negsuc b) e = absurd (true≢false (sym e))
 same-number (negsuc a) (pos b) e = absurd (true≢false (sym e))
 same-number (negsuc a) (negsuc b) e = ap negsuc (eqb-true a b e)
 
-number-same : (x : ℤ) → sameNumber x x ≡ true
+pub number-same : (x : ℤ) → sameNumber x x ≡ true
 number-same (pos a) = eq-eqb a a refl
 number-same (negsuc a) = eq-eqb a a refl
 

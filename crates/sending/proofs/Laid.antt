@@ -15,6 +15,7 @@ use Rattle.reed_muller.proofs.Parity.{message-small}
 use Rattle.reed_muller.proofs.Table.{length-table, table-at}
 use Rattle.reed_muller.proofs.Digits.{digit-from}
 use Rattle.e8.specs.Energy.{Within}
+use Rattle.e8.proofs.Within.{within-all}
 use Rattle.e8.specs.Lattice.{part}
 use Rattle.e8.specs.Rows.{ints}
 use Rattle.frames.specs.Kind.{isKind, degrees, levels, blocks, levelBits, messageBits, messageBytes}
@@ -27,7 +28,6 @@ use Rattle.frames.proofs.Bounds.{few-levels}
 use Rattle.sending.proofs.Bits.{number-small}
 use Rattle.sending.proofs.Block.{numbers-at, width-small}
 use Rattle.sending.proofs.Stack.{stacked-below}
-use Rattle.sending.proofs.Blocks.{within-below}
 
 -- `low` and `high` hold the codewords of the levels
 abbrev Stacks : ℕ → List ℕ → ℕ → ℕ → Type 0
@@ -88,7 +88,7 @@ module _ (k b : ℕ) (kind : isKind k ≡ true) (bytes : List ℕ) where
 
     pub leader-within : Within (2 ^ 24) (leader k b bytes)
     leader-within =
-        within-below (2 ^ 24) (2 ^ k) (leader k b bytes) (omega (arith, leader-length k b bytes)) (λ p l. rw (leader-at k b bytes p l) (omega (arith, coordinate-below p)))
+        within-all (2 ^ 24) (leader k b bytes) (λ p l. rw (leader-at k b bytes p (omega (arith, leader-length k b bytes))) (omega (arith, coordinate-below p)))
 
 -- the offset of a block's bits among those of all blocks
 pub offset-small : (b j : ℕ) → b ≤ 4 → j ≤ 4 → 8 * b * j ≤ 128
