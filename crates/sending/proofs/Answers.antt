@@ -54,10 +54,6 @@ accepted k b bytes n e =
 
 -- ---- sizes of an accepted message
 
-pub bytes-low : (k b : ℕ) → messageBits k b ≤ 8 * messageBytes k b
-unfolding messageBytes
-bytes-low k b = omega arith
-
 pub bytes-high : (k b : ℕ) → 8 * messageBytes k b ≤ messageBits k b + 7
 unfolding messageBytes
 bytes-high k b = omega arith

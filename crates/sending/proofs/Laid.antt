@@ -65,11 +65,6 @@ module _ (k b : ℕ) (kind : isKind k ≡ true) (bytes : List ℕ) where
           ∙ ap₂ (λ (i r : ℕ). stacked k (degrees k) (messageBit bytes) 0 (getD (blockNumbers k b bytes i) r 0) (8 * j + o)) (sym ej) (sym eo))
           ∙ sym (leader-at k b bytes (8 * j + o) p) ∙ sym (part-at L (blocks k) j long h o ho)
 
-  -- the bits of block j are in the message
-  pub block-room : (j : ℕ) → j < blocks k → length bytes ≡ messageBytes k b → levelBits k + 8 * b * j + 8 * b ≤ 8 * length bytes
-  unfolding messageBytes messageBits
-  block-room j h e = omega (arith, mul-le-mul-left (8 * b) h, ap (λ (n : ℕ). n * b) (shape k kind .whole))
-
   -- ---- the leader's coordinates are small
 
   module _ (high : b ≤ 4) where
@@ -93,7 +88,3 @@ module _ (k b : ℕ) (kind : isKind k ≡ true) (bytes : List ℕ) where
 -- the offset of a block's bits among those of all blocks
 pub offset-small : (b j : ℕ) → b ≤ 4 → j ≤ 4 → 8 * b * j ≤ 128
 offset-small b j h g = mul-le-mul {n₂ = 32} (omega arith) g
-
-pub levels-first : (k b : ℕ) → levelBits k ≤ 8 * messageBytes k b
-unfolding messageBytes messageBits
-levels-first k b = omega arith
