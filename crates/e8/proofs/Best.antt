@@ -17,6 +17,7 @@ use Rattle.e8.specs.Order.{Reads}
 use Rattle.e8.specs.Lattice.{sum, bit, moved}
 use Rattle.e8.specs.Least.{cent, best}
 use Rattle.e8.proofs.Order.{_≼_, trans, better-left, better-right, better-is, int-cases}
+use Rattle.e8.proofs.Points.{rest, bool-of}
 use Rattle.e8.proofs.Cent.{cent-is, cent-range, turns, First, first, Range}
 
 -- z ∈ D_p(xs): z is xs − M·us, and Σ us ≡ p modulo 2
@@ -33,14 +34,10 @@ abbrev pub off : ℕ → Bool → ℤ → ℤ
 off M false x = x
 off M true x = x -ℤ pos M
 
-abbrev pub rest : Bool → Bool → Bool
-rest false p = p
-rest true p = not p
-
-carry : (q p : Bool) → (c : ℕ) × (bit p + 2 * c ≡ bit q + bit (rest q p))
-carry false p = (0, omega arith)
-carry true false = (1, omega arith)
-carry true true = (0, omega arith)
+left : (q p : Bool) → (c : ℕ) × (bit p + 2 * c ≡ bit q + bit (rest q p))
+left false p = (0, omega arith)
+left true false = (1, omega arith)
+left true true = (0, omega arith)
 
 pub off-is : (M : ℕ) (q : Bool) (x : ℤ) → off M q x ≡ x -ℤ pos M *ℤ pos (bit q)
 off-is M false x = eq! (` x) (` x ⊖ # M ⊗ # 0) (omega arith)
@@ -56,20 +53,15 @@ record Parts (M : ℕ) (p : Bool) (x : ℤ) (xs zs : List ℤ) : Type 0 where
   head : z₀ ≡ off M q x -ℤ pos M *ℤ (pos 2 *ℤ s)
   tail : In M (rest q p) xs z₁
 
-pub bool-of : (n : ℕ) → n < 2 → (q : Bool) × (bit q ≡ n)
-bool-of zero h = (false, refl)
-bool-of (suc zero) h = (true, refl)
-bool-of (suc (suc n)) h = absurd (omega arith)
-
 parts : (M : ℕ) (p : Bool) (x : ℤ) (xs zs : List ℤ) → In M p (x ∷ xs) zs → Parts M p x xs zs
 parts M p x xs zs i = go (i .us) (i .long) (i .is) (i .even)
   where
     go : (us : List ℤ) → length us ≡ suc (length xs) → zs ≡ moved M (x ∷ xs) us → sum us ≡ pos 2 *ℤ i .half +ℤ pos (bit p) → Parts M p x xs zs
     go [] l e h = absurd (omega arith)
     go (u ∷ us) l e h =
-        let b : (q : Bool) × (bit q ≡ modZ u 2) = bool-of (modZ u 2) (modZ-lt u 2 (omega arith)) in
+        let b : (q : Bool) × (modZ u 2 ≡ bit q) = bool-of (modZ u 2) (modZ-lt u 2 (omega arith)) in
         let s : ℤ = shrZ u 2 in
-        let c : (c : ℕ) × (bit p + 2 * c ≡ bit (b .0) + bit (rest (b .0) p)) = carry (b .0) p in
+        let c : (c : ℕ) × (bit p + 2 * c ≡ bit (b .0) + bit (rest (b .0) p)) = left (b .0) p in
         let d : up u + (2 * down s) ≡ 2 * up s + modZ u 2 + down u = omega (arith, eq? (` u) (# 2 ⊗ ` s ⊕ # (modZ u 2)) (div-mod u 2 (omega arith))) in
         record {
           q = b .0;
@@ -92,7 +84,7 @@ parts M p x xs zs i = go (i .us) (i .long) (i .is) (i .even)
 join : (M : ℕ) (p q : Bool) (x s z : ℤ) (xs zs : List ℤ) → z ≡ off M q x -ℤ pos M *ℤ (pos 2 *ℤ s) → In M (rest q p) xs zs → In M p (x ∷ xs) (z ∷ zs)
 join M p q x s z xs zs e i =
     let u : ℤ = pos 2 *ℤ s +ℤ pos (bit q) in
-    let c : (c : ℕ) × (bit p + 2 * c ≡ bit q + bit (rest q p)) = carry q p in
+    let c : (c : ℕ) × (bit p + 2 * c ≡ bit q + bit (rest q p)) = left q p in
     record {
       us = u ∷ i .us;
       half = i .half +ℤ s +ℤ pos (c .0);

@@ -20,7 +20,7 @@ add-moved H (x ∷ xs) [] vs = refl
 add-moved H (x ∷ xs) (w ∷ ws) [] = refl
 add-moved H (x ∷ xs) (w ∷ ws) (v ∷ vs) = cc (eq! (` x ⊖ # H ⊗ ` w ⊖ # H ⊗ ` v) (` x ⊖ # H ⊗ (` w ⊕ ` v)) (omega arith), add-moved H xs ws vs)
 
-moved-length : (H : ℕ) (xs ws : List ℤ) → length ws ≡ length xs → length (moved H xs ws) ≡ length xs
+pub moved-length : (H : ℕ) (xs ws : List ℤ) → length ws ≡ length xs → length (moved H xs ws) ≡ length xs
 moved-length H [] ws l = refl
 moved-length H (x ∷ xs) [] l = absurd (omega arith)
 moved-length H (x ∷ xs) (w ∷ ws) l = ap suc (moved-length H xs ws (omega arith))

@@ -30,22 +30,23 @@ of-four w e = eq! (` w) (# 4 ⊗ ` (shrZ w 4)) (omega (arith, eq? (` w) (# 4 ⊗
 
 -- ---- sums of points
 
-abbrev both : Bool → Bool → Bool
-both false c = c
-both true c = not c
+-- the bit of a sum, or of what is left of p where q is taken
+abbrev pub rest : Bool → Bool → Bool
+rest false p = p
+rest true p = not p
 
-both-bit : (b c : Bool) → (k : ℕ) × (bit b + bit c ≡ 2 * k + bit (both b c))
-both-bit false c = (0, omega arith)
-both-bit true false = (0, omega arith)
-both-bit true true = (1, omega arith)
+pub carry : (q p : Bool) → (c : ℕ) × (bit (rest q p) + 2 * c ≡ bit q + bit p)
+carry false p = (0, omega arith)
+carry true false = (0, omega arith)
+carry true true = (1, omega arith)
 
-add-each : (b c : Bool) (ws vs : List ℤ) → Each b ws → Each c vs → Each (both b c) (add ws vs)
+add-each : (b c : Bool) (ws vs : List ℤ) → Each b ws → Each c vs → Each (rest b c) (add ws vs)
 add-each b c [] vs h k = tt
 add-each b c (w ∷ ws) [] h k = tt
 add-each b c (w ∷ ws) (v ∷ vs) h k = (
-  to-bit (w +ℤ v) (shrZ w 2 +ℤ shrZ v 2 +ℤ pos (both-bit b c .0)) (both b c)
-      (eq! (` w ⊕ ` v) (# 2 ⊗ (` (shrZ w 2) ⊕ ` (shrZ v 2) ⊕ # (both-bit b c .0)) ⊕ # (bit (both b c)))
-      (omega (arith, both-bit b c .1, eq? (` w) (# 2 ⊗ ` (shrZ w 2) ⊕ # (bit b)) (of-bit w b (h .0)), eq? (` v) (# 2 ⊗ ` (shrZ v 2) ⊕ # (bit c)) (of-bit v c (k .0))))),
+  to-bit (w +ℤ v) (shrZ w 2 +ℤ shrZ v 2 +ℤ pos (carry b c .0)) (rest b c)
+      (eq! (` w ⊕ ` v) (# 2 ⊗ (` (shrZ w 2) ⊕ ` (shrZ v 2) ⊕ # (carry b c .0)) ⊕ # (bit (rest b c)))
+      (omega (arith, carry b c .1, eq? (` w) (# 2 ⊗ ` (shrZ w 2) ⊕ # (bit b)) (of-bit w b (h .0)), eq? (` v) (# 2 ⊗ ` (shrZ v 2) ⊕ # (bit c)) (of-bit v c (k .0))))),
   add-each b c ws vs (h .1) (k .1),
 )
 
@@ -63,7 +64,7 @@ add-length (w ∷ ws) (v ∷ vs) l = ap suc (add-length ws vs (omega arith))
 
 pub add-point : (ws vs : List ℤ) → length ws ≡ length vs → TwoE8 ws → TwoE8 vs → TwoE8 (add ws vs)
 add-point ws vs l a b = record {
-  odd = both (a .odd) (b .odd);
+  odd = rest (a .odd) (b .odd);
   same = add-each (a .odd) (b .odd) ws vs (a .same) (b .same);
   four = to-four (sum (add ws vs)) (shrZ (sum ws) 4 +ℤ shrZ (sum vs) 4)
       (eq! (` (sum (add ws vs))) (# 4 ⊗ (` (shrZ (sum ws) 4) ⊕ ` (shrZ (sum vs) 4)))

@@ -17,19 +17,15 @@ use Rattle.e8.specs.Energy.{sq, energy}
 use Rattle.e8.specs.Lattice.{bit}
 use Rattle.e8.specs.Least.{cent, better, best}
 use Rattle.e8.proofs.Order.{_≼_, itself, better-first, better-second}
+use Rattle.e8.proofs.Points.{rest, carry, bool-of}
 use Rattle.e8.proofs.Cent.{cent-is, cent-range, turns, First, first, Range}
-use Rattle.e8.proofs.Best.{off, rest, off-is, bool-of, cons-mono}
+use Rattle.e8.proofs.Best.{off, off-is, cons-mono}
 
 -- ---- sums of multiples of M, and whether they are even or odd ones
 
 pub record Parity (M : ℕ) (odd : Bool) (t : ℤ) : Type 0 where
   pub half : ℤ
   pub is : t ≡ pos M *ℤ (pos 2 *ℤ half +ℤ pos (bit odd))
-
-carry : (q p : Bool) → (c : ℕ) × (bit (rest q p) + 2 * c ≡ bit q + bit p)
-carry false p = (0, omega arith)
-carry true false = (0, omega arith)
-carry true true = (1, omega arith)
 
 pub parity-none : (M : ℕ) → Parity M false (pos 0)
 parity-none M = record { half = pos 0; is = eq! (# 0) (# M ⊗ (# 2 ⊗ # 0 ⊕ # 0)) (omega arith) }
@@ -108,7 +104,7 @@ pub record Turned (H : ℕ) (x : ℤ) : Type 0 where
 pub turned : (H : ℕ) (x : ℤ) → 0 < H → Turned H x
 turned H x h =
     let u : ℤ = turns H x in
-    let b : (q : Bool) × (bit q ≡ modZ u 2) = bool-of (modZ u 2) (modZ-lt u 2 (omega arith)) in
+    let b : (q : Bool) × (modZ u 2 ≡ bit q) = bool-of (modZ u 2) (modZ-lt u 2 (omega arith)) in
     let s : ℤ = shrZ u 2 in
     let d : up u + (2 * down s) ≡ 2 * up s + bit (b .0) + down u = omega (arith, b .1, eq? (` u) (# 2 ⊗ ` s ⊕ # (modZ u 2)) (div-mod u 2 (omega arith))) in
     record {

@@ -1,11 +1,12 @@
--- Frames whose coordinates are bounded in size: a larger bound, one coordinate, and the energy. Assumes nothing.
+-- Frames whose coordinates are bounded in size: a larger bound, each coordinate, parts, and the energy. Assumes nothing.
 use mathlib.Core.List.{List, [], _∷_}
-use Prim.Native.Nat.{ℕ, zero, suc, _+_, _*_, _≤_}
+use Prim.Native.Nat.{ℕ, zero, suc, _+_, _*_, _≤_, _<_}
 use native.Mathlib.Nat.{mul-le-mul}
 use native.Mathlib.Omega.{arith}
-use lib.ListN.{length, getD}
+use lib.ListN.{length, getD, take, drop}
 use lib.IntN.{ℤ, pos, natAbs}
 use Rattle.e8.specs.Energy.{sq, energy, Within}
+use Rattle.e8.specs.Lattice.{part}
 
 pub within-to : (A B : ℕ) (xs : List ℤ) → A ≤ B → Within A xs → Within B xs
 within-to A B [] h w = tt
@@ -17,9 +18,22 @@ within-at B [] (suc i) h = omega arith
 within-at B (z ∷ xs) zero h = h .0
 within-at B (z ∷ xs) (suc i) h = within-at B xs i (h .1)
 
-pub within-all : (B : ℕ) (xs : List ℤ) → ((i : ℕ) → natAbs (getD xs i (pos 0)) ≤ B) → Within B xs
+pub within-all : (B : ℕ) (xs : List ℤ) → ((i : ℕ) → i < length xs → natAbs (getD xs i (pos 0)) ≤ B) → Within B xs
 within-all B [] h = tt
-within-all B (z ∷ xs) h = (h 0, within-all B xs (λ i. h (suc i)))
+within-all B (z ∷ xs) h = (h 0 (omega arith), within-all B xs (λ i l. h (suc i) (omega arith)))
+
+within-take : (B n : ℕ) (xs : List ℤ) → Within B xs → Within B (take n xs)
+within-take B zero xs h = tt
+within-take B (suc n) [] h = tt
+within-take B (suc n) (z ∷ xs) h = (h .0, within-take B n xs (h .1))
+
+pub within-drop : (B n : ℕ) (xs : List ℤ) → Within B xs → Within B (drop n xs)
+within-drop B zero xs h = h
+within-drop B (suc n) [] h = tt
+within-drop B (suc n) (z ∷ xs) h = within-drop B n xs (h .1)
+
+pub within-part : (B j : ℕ) (xs : List ℤ) → Within B xs → Within B (part j xs)
+within-part B j xs h = within-take B 8 (drop (8 * j) xs) (within-drop B (8 * j) xs h)
 
 pub energy-within : (B : ℕ) (xs : List ℤ) → Within B xs → energy xs ≤ length xs * (B * B)
 unfolding energy sq

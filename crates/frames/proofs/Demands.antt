@@ -95,56 +95,55 @@ leader-codes k b s bytes =
     none : (c n : ℕ) → pos n ≡ pos n +ℤ pos c *ℤ pos 0
     none c n = eq! (# n) (# n ⊕ # c ⊗ # 0) (omega arith)
 
--- the theorems at grade c + 1
-module _ (k c : ℕ) (kind : isKind k ≡ true) where
-  abbrev b : ℕ
-  b = suc c
-
-  in-coding-set : (bytes : List ℕ) → InCodingSet k (sentFrame k b bytes)
-  unfolding levels
-  in-coding-set bytes = record {
-    long = sent-length k b kind (omega arith) bytes;
-    codewords = of-codes k (degrees k) (sentFrame k b bytes)
-        (class-codes k c (shape k kind) (leader k b bytes) (sentFrame k b bytes) (leader-length k b bytes) (sent-frame k b kind (omega arith) bytes .member)
-        (leader-codes k b (shape k kind) bytes));
-  }
-
-  the-message : (f : List ℤ) → InCodingSet k f → OneMessage k b f
-  the-message f set = record {
-    bytes = openMessage k b f;
-    message = open-message k c (shape k kind) f set;
-    class = differ-trans H n S L f (differ-sym H n L S (sent-frame k b kind (omega arith) (openMessage k b f) .member)) (differ-sym H n f L toLeader);
-    only = λ other m d. one-message k c (shape k kind) other (openMessage k b f) m (open-message k c (shape k kind) f set)
-        (differ-trans H n (leader k b other) f L
-        (differ-trans H n (leader k b other) (sentFrame k b other) f (sent-frame k b kind (omega arith) other .member) d) toLeader);
-  }
-    where
-      H : ℕ
-      H = half k b
-
-      n : ℕ
-      n = blocks k
-
-      L : List ℤ
-      L = leader k b (openMessage k b f)
-
-      S : List ℤ
-      S = sentFrame k b (openMessage k b f)
-
-      toLeader : SameClass k b f L
-      toLeader = open-class k c (shape k kind) f set
+in-coding-set : (k c : ℕ) → isKind k ≡ true → (bytes : List ℕ) → InCodingSet k (sentFrame k (suc c) bytes)
+unfolding levels
+in-coding-set k c kind bytes = record {
+  long = sent-length k (suc c) kind (omega arith) bytes;
+  codewords = of-codes k (degrees k) (sentFrame k (suc c) bytes)
+      (class-codes k c (shape k kind) (leader k (suc c) bytes) (sentFrame k (suc c) bytes) (leader-length k (suc c) bytes) (sent-frame k (suc c) kind (omega arith) bytes .member)
+      (leader-codes k (suc c) (shape k kind) bytes));
+}
 
 module _ (k b : ℕ) (kind : isKind k ≡ true) (grade : isGrade b ≡ true) where
+  low : 1 ≤ b
+  low = grade-low b grade
+
   above : Above b
-  above = grade-above b (grade-low b grade)
+  above = grade-above b low
 
   -- the sent frame is in the coding set
   pub sent-in-set : (bytes : List ℕ) → InCodingSet k (sentFrame k b bytes)
   sent-in-set bytes = subst (λ (d : ℕ). InCodingSet k (sentFrame k d bytes)) (sym (above .is)) (in-coding-set k (above .less) kind bytes)
 
+  -- what the open reading gives is a message of the kind and grade
+  pub read-message : (f : List ℤ) → InCodingSet k f → Message k b (openMessage k b f)
+  read-message f set = subst (λ (d : ℕ). Message k d (openMessage k d f)) (sym (above .is)) (open-message k (above .less) (shape k kind) f set)
+
+  -- the frame differs by a lattice point from its leader
+  pub leader-class : (f : List ℤ) → InCodingSet k f → SameClass k b f (leader k b (openMessage k b f))
+  leader-class f set = subst (λ (d : ℕ). SameClass k d f (leader k d (openMessage k d f))) (sym (above .is)) (open-class k (above .less) (shape k kind) f set)
+
+  -- and from the frame that is sent for it
+  pub read-class : (f : List ℤ) → InCodingSet k f → SameClass k b (sentFrame k b (openMessage k b f)) f
+  read-class f set =
+      differ-trans (half k b) (blocks k) (sentFrame k b (openMessage k b f)) (leader k b (openMessage k b f)) f
+      (differ-sym (half k b) (blocks k) (leader k b (openMessage k b f)) (sentFrame k b (openMessage k b f)) (sent-frame k b kind low (openMessage k b f) .member))
+      (differ-sym (half k b) (blocks k) f (leader k b (openMessage k b f)) (leader-class f set))
+
+  -- messages whose leaders differ by a lattice point are the same
+  same-leaders : (x y : List ℕ) → Message k b x → Message k b y → SameClass k b (leader k b x) (leader k b y) → x ≡ y
+  same-leaders = subst (λ (d : ℕ). (x y : List ℕ) → Message k d x → Message k d y → SameClass k d (leader k d x) (leader k d y) → x ≡ y) (sym (above .is)) (one-message k (above .less) (shape k kind))
+
   -- "Each coding-set frame differs so from the sent frame of exactly one message at each grade"
   pub exactly-one : (f : List ℤ) → InCodingSet k f → OneMessage k b f
-  exactly-one f set = subst (λ (d : ℕ). OneMessage k d f) (sym (above .is)) (the-message k (above .less) kind f set)
+  exactly-one f set = record {
+    bytes = openMessage k b f;
+    message = read-message f set;
+    class = read-class f set;
+    only = λ other m d. same-leaders other (openMessage k b f) m (read-message f set)
+        (differ-trans (half k b) (blocks k) (leader k b other) f (leader k b (openMessage k b f))
+        (differ-trans (half k b) (blocks k) (leader k b other) (sentFrame k b other) f (sent-frame k b kind low other .member) d) (leader-class f set));
+  }
 
   -- ---- the distance
 

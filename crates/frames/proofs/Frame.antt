@@ -17,6 +17,7 @@ use Rattle.integers.proofs.Floor.{div-mod, modZ-lt, quot-is, rem-is, shr-one, s
 use Rattle.reed_muller.specs.Level.{belongs}
 use Rattle.e8.specs.Lattice.{moved, part}
 use Rattle.e8.specs.Rows.{ints}
+use Rattle.e8.proofs.Group.{moved-length}
 use Rattle.frames.specs.Frame.{weightBit, levelWord}
 use Rattle.frames.specs.Reading.{levelMessage, levelMessages, quotients}
 use Rattle.frames.proofs.Levels.{Codes}
@@ -143,11 +144,6 @@ moved-at H [] ws l o h = absurd (omega arith)
 moved-at H (x ∷ xs) [] l o h = absurd (omega arith)
 moved-at H (x ∷ xs) (w ∷ ws) l zero h = refl
 moved-at H (x ∷ xs) (w ∷ ws) l (suc o) h = moved-at H xs ws (omega arith) o (omega arith)
-
-pub moved-length : (H : ℕ) (xs ws : List ℤ) → length ws ≡ length xs → length (moved H xs ws) ≡ length xs
-moved-length H [] ws l = refl
-moved-length H (x ∷ xs) [] l = absurd (omega arith)
-moved-length H (x ∷ xs) (w ∷ ws) l = ap suc (moved-length H xs ws (omega arith))
 
 -- a block is xs − H·ws when each of its eight coordinates is so
 pub is-moved : (H : ℕ) (xs ws zs : List ℤ) → length xs ≡ 8 → length ws ≡ 8 → length zs ≡ 8 → ((o : ℕ) → o < 8 → at zs o ≡ at xs o -ℤ pos H *ℤ at ws o) → zs ≡ moved H xs ws

@@ -13,7 +13,7 @@ use Rattle.integers.specs.Integer.{modZ}
 use Rattle.integers.proofs.Zed.{`_, #_, _⊕_, _⊖_, _⊗_, eq!, eq?}
 use Rattle.integers.proofs.Floor.{div-mod, modZ-lt}
 use Rattle.reed_muller.specs.Level.{sumTo, belongs}
-use Rattle.reed_muller.proofs.Sum.{sum-ext}
+use Rattle.reed_muller.proofs.Sum.{sum-ext, sum-term}
 use Rattle.reed_muller.proofs.Weight.{Odd, look}
 use Rattle.reed_muller.proofs.Belongs.{belongs-distance}
 use Rattle.e8.specs.Energy.{sq}
@@ -39,15 +39,6 @@ sum-le : (n : ℕ) (f g : ℕ → ℕ) → ((i : ℕ) → f i ≤ g i) → sumTo
 unfolding sumTo
 sum-le zero f g h = omega arith
 sum-le (suc n) f g h = omega (arith, sum-le n f g h, h n)
-
-sum-term : (n : ℕ) (f : ℕ → ℕ) (p : ℕ) → p < n → f p ≤ sumTo n f
-unfolding sumTo
-sum-term zero f p h = absurd (omega arith)
-sum-term (suc n) f p h = go (sum-term n f p) (ℕ-discrete p n)
-  where
-    go : (p < n → f p ≤ sumTo n f) → Dec (p ≡ n) → f p ≤ sumTo n f + f n
-    go ih (yes e) = omega (arith, ap f e)
-    go ih (no k) = omega (arith, ih (omega arith))
 
 sum-times : (n c : ℕ) (f : ℕ → ℕ) → sumTo n (λ i. c * f i) ≡ c * sumTo n f
 unfolding sumTo

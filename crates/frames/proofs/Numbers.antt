@@ -1,5 +1,5 @@
 -- Numbers in a row of bits: the bits determine the numbers and the numbers the bits, for any widths. Assumes nothing.
-use Prim.Native.Nat.{ℕ, zero, suc, _+_, _-_, _*_, _%_, _/_, _^_, _<_}
+use Prim.Native.Nat.{ℕ, zero, suc, _+_, _-_, _*_, _%_, _/_, _^_, _≤_, _<_}
 use mathlib.Core.Path.{_≡_, refl, sym, ap, ap₂, _∙_}
 use mathlib.Core.List.{List, [], _∷_, _++_}
 use native.Mathlib.Nat.{mod-eq-of-lt, pow-suc}
@@ -106,6 +106,10 @@ numbers-read bit (w ∷ ws) (s ∷ ss) from h e = ap₂ _∷_ first (numbers-rea
 
 -- ---- the widths of a block
 
+pub total-widths : (b : ℕ) → 1 ≤ b → total (widths b) ≡ 8 * b
+total-widths b h = omega arith
+
+-- grade b is c + 1 here, so that h = 2^c
 module _ (c : ℕ) where
   h1 : suc c - 1 ≡ c
   h1 = omega arith
@@ -115,10 +119,6 @@ module _ (c : ℕ) where
 
   h4 : 2 ^ (suc c + 1) ≡ 4 * 2 ^ c
   h4 = let e : suc c + 1 ≡ suc (suc c) = omega arith in rw (e, pow-suc, pow-suc) (omega arith)
-
-  -- grade b is c + 1 here, so that h = 2^c
-  pub total-widths : total (widths (suc c)) ≡ 8 * suc c
-  total-widths = omega arith
 
   -- the widths after n + 1 of the last numbers: s8 and the n before it
   abbrev last : ℕ → List ℕ

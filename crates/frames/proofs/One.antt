@@ -29,6 +29,7 @@ use Rattle.frames.proofs.Stacked.{Agree, stacked-agree, readLevels, lev
 use Rattle.frames.proofs.Numbers.{total, Fits, numbers-fit, fits-length, numbers-agree, all-length, numbers-read, total-widths, fits-ranged, ranged-fits}
 use Rattle.frames.proofs.Frame.{at, codes-of, messages-of, quotient-at, quotients-length, ints-at, ints-length, part-length, part-at, moved-at, is-moved}
 use Rattle.frames.proofs.Class.{Shape, half-is, point, point-at, point-long, minus-at}
+use Rattle.frames.proofs.Rows.{bytes-hold}
 
 -- ---- lists of bits
 
@@ -114,7 +115,7 @@ module _ (c n : ℕ) (v : List ℤ) (lv : length v ≡ 8 * n) where
   S-fits j l = ranged-fits c (S j) (S-length j l) (reduced-ranged h (part j v) (pow-pos c) (omega (arith, part-length v n j lv l)))
 
   S-digits : (j : ℕ) → j < n → length (allDigits (widths (suc c)) (S j)) ≡ 8 * suc c
-  S-digits j l = all-length (widths (suc c)) (S j) (S-fits j l) ∙ total-widths c
+  S-digits j l = all-length (widths (suc c)) (S j) (S-fits j l) ∙ total-widths (suc c) (omega arith)
 
   grade-S : (j : ℕ) → reduced (2 ^ (suc c - 1)) (part j v) ≡ S j
   grade-S j = ap (λ (e : ℕ). reduced (2 ^ e) (part j v)) grade
@@ -180,10 +181,6 @@ module _ (k c : ℕ) (shape : Shape k) where
     unfolding readBits
     read-bits = bits-append (levels-bits k 0 (degrees k) f) (blocks-bits b (blocks k) v) .small
 
-    bytes-hold : messageBits k b ≤ 8 * messageBytes k b
-    unfolding messageBytes
-    bytes-hold = omega arith
-
     pub message-bit : (i : ℕ) → messageBit (openMessage k b f) i ≡ getD (readBits k b f) i 0
     unfolding openMessage
     message-bit i = go (decLt i (8 * messageBytes k b))
@@ -195,7 +192,7 @@ module _ (k c : ℕ) (shape : Shape k) where
         go (yes l) = bits-of-bytes (messageBytes k b) bit (λ j l. read-bits j) i l
         go (no n) =
             bit-past (bytesOf (messageBytes k b) bit) i (omega (arith, length-bytes (messageBytes k b) bit))
-            ∙ sym (List·getD-eq-default (readBits k b f) 0 {n = i} (omega (arith, read-length, bytes-hold)))
+            ∙ sym (List·getD-eq-default (readBits k b f) 0 {n = i} (omega (arith, read-length, bytes-hold k b)))
 
     pub open-message : Message k b (openMessage k b f)
     unfolding openMessage bytesOf
@@ -221,7 +218,7 @@ module _ (k c : ℕ) (shape : Shape k) where
         message-bit (levelBits k + 8 * b * j + o)
         ∙ ap (λ (m : ℕ). getD (A ++ B) m 0) (e ∙ ap (λ (m : ℕ). m + (8 * b * j + o)) (sym levels-long))
         ∙ getD-append-add A B (8 * b * j + o) 0
-        ∙ blocks-at c (blocks k) v lv (blocks k) (omega arith) j o hj (omega (arith, total-widths c))
+        ∙ blocks-at c (blocks k) v lv (blocks k) (omega arith) j o hj (omega (arith, total-widths (suc c) (omega arith)))
       where
         A : List ℕ
         A = levelMessages k 0 (degrees k) f
@@ -343,7 +340,7 @@ module _ (k c : ℕ) (shape : Shape k) where
     block-agree : (j o : ℕ) → j < blocks k → o < 8 * b → messageBit x (levelBits k + 8 * b * j + o) ≡ messageBit y (levelBits k + 8 * b * j + o)
     unfolding blockNumbers
     block-agree j o hj ho = numbers-agree (messageBit x) (messageBit y) (message-small x) (message-small y) (widths b) (levelBits k + 8 * b * j) (levelBits k + 8 * b * j)
-        (sym (same-numbers j hj)) o (omega (arith, total-widths c))
+        (sym (same-numbers j hj)) o (omega (arith, total-widths (suc c) (omega arith)))
 
     bit-agree : (i : ℕ) → messageBit x i ≡ messageBit y i
     unfolding levelBits

@@ -20,53 +20,35 @@ use Rattle.frames.specs.Message.{Message, leader}
 use Rattle.frames.specs.Frame.{InCodingSet, half, SameClass, sentFrame}
 use Rattle.frames.specs.Sending.{isGrade, unless}
 use Rattle.frames.specs.Reading.{openMessage, sameFrame, inRange, broken, openRefusal, isSent, strictRefusal, messageAfter, energyRead}
-use Rattle.frames.proofs.One.{open-message, open-class}
 use Rattle.frames.proofs.Rows.{shape, grade-low}
-use Rattle.frames.proofs.Demands.{OneMessage, half-pos, Above, grade-above, sent-frame, sent-only, sent-within, sent-in-set, exactly-one}
+use Rattle.frames.proofs.Demands.{OneMessage, half-pos, sent-only, sent-within, sent-in-set, read-message, leader-class, read-class, exactly-one}
 use Rattle.frames.proofs.Bounds.{few-levels, scale-64}
 use Rattle.frames.proofs.Refusals.{passed, same-frame, frame-same, within-range, levels-answer, set-passes, Accepted, accepted, levels-decide}
 
 module _ (k b : ℕ) (kind : isKind k ≡ true) (grade : isGrade b ≡ true) where
-  above : Above b
-  above = grade-above b (grade-low b grade)
-
   low : 1 ≤ b
   low = grade-low b grade
 
   frame-blocks : (f : List ℤ) → InCodingSet k f → length f ≡ 8 * blocks k
   frame-blocks f set = set .long ∙ sym (shape k kind .whole)
 
-  leader-class : (f : List ℤ) → InCodingSet k f → SameClass k b f (leader k b (openMessage k b f))
-  leader-class f set = subst (λ (d : ℕ). SameClass k d f (leader k d (openMessage k d f))) (sym (above .is)) (open-class k (above .less) (shape k kind) f set)
-
   -- ---- the message that the open reading gives
-
-  -- what is read is a message of the kind and grade
-  pub read-message : (f : List ℤ) → InCodingSet k f → Message k b (openMessage k b f)
-  read-message f set = subst (λ (d : ℕ). Message k d (openMessage k d f)) (sym (above .is)) (open-message k (above .less) (shape k kind) f set)
-
-  -- and the frame differs by a lattice point from the one that is sent for it
-  pub read-class : (f : List ℤ) → InCodingSet k f → SameClass k b (sentFrame k b (openMessage k b f)) f
-  read-class f set =
-      differ-trans (half k b) (blocks k) (sentFrame k b (openMessage k b f)) (leader k b (openMessage k b f)) f
-      (differ-sym (half k b) (blocks k) (leader k b (openMessage k b f)) (sentFrame k b (openMessage k b f)) (sent-frame k b kind low (openMessage k b f) .member))
-      (differ-sym (half k b) (blocks k) f (leader k b (openMessage k b f)) (leader-class f set))
 
   -- "The open reading gives the message of any frame of the coding set": the one of demand 3
   pub open-gives-the-one : (f : List ℤ) (set : InCodingSet k f) → openMessage k b f ≡ exactly-one k b kind grade f set .bytes
-  open-gives-the-one f set = exactly-one k b kind grade f set .only (openMessage k b f) (read-message f set) (read-class f set)
+  open-gives-the-one f set = exactly-one k b kind grade f set .only (openMessage k b f) (read-message k b kind grade f set) (read-class k b kind grade f set)
 
   -- two frames of the coding set that are given the same message differ by a lattice point
   pub same-message-same-class : (f g : List ℤ) → InCodingSet k f → InCodingSet k g → openMessage k b f ≡ openMessage k b g → SameClass k b f g
   same-message-same-class f g sf sg e =
       differ-trans (half k b) (blocks k) f (sentFrame k b (openMessage k b f)) g
-      (differ-sym (half k b) (blocks k) (sentFrame k b (openMessage k b f)) f (read-class f sf))
-      (subst (λ (x : List ℕ). SameClass k b (sentFrame k b x) g) (sym e) (read-class g sg))
+      (differ-sym (half k b) (blocks k) (sentFrame k b (openMessage k b f)) f (read-class k b kind grade f sf))
+      (subst (λ (x : List ℕ). SameClass k b (sentFrame k b x) g) (sym e) (read-class k b kind grade g sg))
 
   -- and the other way round
   pub same-class-same-message : (f g : List ℤ) → InCodingSet k f → InCodingSet k g → SameClass k b f g → openMessage k b f ≡ openMessage k b g
   same-class-same-message f g sf sg d =
-      one .only (openMessage k b f) (read-message f sf) (differ-trans (half k b) (blocks k) (sentFrame k b (openMessage k b f)) f g (read-class f sf) d)
+      one .only (openMessage k b f) (read-message k b kind grade f sf) (differ-trans (half k b) (blocks k) (sentFrame k b (openMessage k b f)) f g (read-class k b kind grade f sf) d)
       ∙ sym (open-gives-the-one g sg)
     where
       one : OneMessage k b g
@@ -92,10 +74,10 @@ module _ (k b : ℕ) (kind : isKind k ≡ true) (grade : isGrade b ≡ true) whe
       L = leader k b (openMessage k b f)
 
       toFrame : Differ H n L f
-      toFrame = differ-sym H n f L (leader-class f set)
+      toFrame = differ-sym H n f L (leader-class k b kind grade f set)
 
       fromFrame : (t : List ℤ) → Differ H n L t → Differ H n f t
-      fromFrame t d = differ-trans H n f L t (leader-class f set) d
+      fromFrame t d = differ-trans H n f L t (leader-class k b kind grade f set) d
 
       least : IsLeast H n f (leastFrame H n f)
       least = leastFrame-is H (half-pos k b) n f (frame-blocks f set)

@@ -1,4 +1,4 @@
--- The tests of a reading, one by one: what it is to pass each, and what it is not to. Assumes nothing.
+-- The tests of sending and of a reading, one by one: what it is to pass each, and what it is not to. Assumes nothing.
 use Prim.Native.Nat.{ℕ, zero, suc, _+_, _^_, _≤_, _<_}
 use mathlib.Core.Path.{_≡_, refl, sym, ap, ap₂, _∙_}
 use mathlib.Core.Logic.{_⊎_, inl, inr}
@@ -25,6 +25,18 @@ pub passed : (t : Bool) (n next : ℕ) → unless t (suc n) next ≡ 0 → (t �
 passed true n next e = (refl, e)
 passed false n next e = absurd (omega arith)
 
+-- the tests of kind and grade: both passed, or one of them answers, whatever the rest would
+pub good-row : (k b : ℕ) → unless (isKind k) 1 (unless (isGrade b) 2 0) ≡ 0 → (isKind k ≡ true) × (isGrade b ≡ true)
+good-row k b e = let t = passed (isKind k) 0 _ e in (t .0, passed (isGrade b) 1 0 (t .1) .0)
+
+pub wrong-row : (k b next r : ℕ) → r ≡ unless (isKind k) 1 (unless (isGrade b) 2 0) → (r ≡ 0 → ⊥) → r ≡ unless (isKind k) 1 (unless (isGrade b) 2 next)
+wrong-row k b next r e n = e ∙ go (isKind k) (isGrade b) (λ z. n (e ∙ z))
+  where
+    go : (s t : Bool) → (unless s 1 (unless t 2 0) ≡ 0 → ⊥) → unless s 1 (unless t 2 0) ≡ unless s 1 (unless t 2 next)
+    go false t n = refl
+    go true false n = refl
+    go true true n = absurd (n refl)
+
 -- ---- frames compared
 
 same-number : (x y : ℤ) → sameNumber x y ≡ true → x ≡ y
@@ -33,7 +45,7 @@ same-number (pos a) (negsuc b) e = absurd (true≢false (sym e))
 same-number (negsuc a) (pos b) e = absurd (true≢false (sym e))
 same-number (negsuc a) (negsuc b) e = ap negsuc (eqb-true a b e)
 
-number-same : (x : ℤ) → sameNumber x x ≡ true
+pub number-same : (x : ℤ) → sameNumber x x ≡ true
 number-same (pos a) = eq-eqb a a refl
 number-same (negsuc a) = eq-eqb a a refl
 

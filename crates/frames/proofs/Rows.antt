@@ -1,16 +1,19 @@
 -- What the table of kinds says, kind by kind, and what it gives the laws. Assumes nothing.
-use Prim.Native.Nat.{ℕ, zero, suc, _+_, _*_, _≤_}
-use mathlib.Core.Path.{_≡_, refl, sym, subst}
+use Prim.Native.Nat.{ℕ, zero, suc, _+_, _*_, _≤_, _<_}
+use mathlib.Core.Path.{_≡_, refl, sym, ap, subst}
 use mathlib.Core.Bool.{Bool, true, false, _&&_, _||_, true≢false}
+use mathlib.Core.List.{List, [], _∷_}
+use native.Mathlib.Nat.{mul-le-mul-left}
 use native.Mathlib.Omega.{arith}
 use lib.Count.{ones}
 use lib.Dec.{eqb, leb}
+use lib.ListN.{length, getD}
 use borrow.Author.Tests.{eqb-true, leb-true}
 use Rattle.reed_muller.specs.Level.{dimension, masks, ofWeight, table}
-use Rattle.frames.specs.Kind.{kinds, isKind, degrees, levelBits, messageBits, messageBytes}
+use Rattle.frames.specs.Kind.{kinds, isKind, degrees, levels, blocks, levelBits, messageBits, messageBytes}
 use Rattle.frames.specs.Frame.{leastDistance}
 use Rattle.frames.specs.Sending.{isGrade}
-use Rattle.frames.proofs.Levels.{apartBy}
+use Rattle.frames.proofs.Levels.{Fit, apartBy}
 use Rattle.frames.proofs.Class.{Shape}
 
 -- ---- document 01's table
@@ -38,6 +41,15 @@ bytes-4 b = omega (arith, bits-4 b)
 pub bytes-5 : (b : ℕ) → messageBytes 5 b ≡ 4 * b + 4
 unfolding messageBytes
 bytes-5 b = omega (arith, bits-5 b)
+
+-- the bytes hold the bits
+pub bytes-hold : (k b : ℕ) → messageBits k b ≤ 8 * messageBytes k b
+unfolding messageBytes
+bytes-hold k b = omega arith
+
+pub levels-hold : (k b : ℕ) → levelBits k ≤ 8 * messageBytes k b
+unfolding messageBits
+levels-hold k b = omega (arith, bytes-hold k b)
 
 -- ---- a kind is a row of the table
 
@@ -83,6 +95,21 @@ shape = each-kind Shape
     (record { fit = (omega arith, tt); whole = refl })
     (record { fit = (omega arith, (omega arith, tt)); whole = refl })
     (record { fit = (omega arith, (omega arith, tt)); whole = refl })
+
+fit-at : (m : ℕ) (rs : List ℕ) → Fit m rs → (i : ℕ) → i < length rs → getD rs i 0 ≤ m
+fit-at m [] h i l = absurd (omega arith)
+fit-at m (r ∷ rs) h zero l = h .0
+fit-at m (r ∷ rs) h (suc i) l = fit-at m rs (h .1) i (omega arith)
+
+-- the degrees of a kind are at most the kind
+pub degree-fits : (k : ℕ) → isKind k ≡ true → (i : ℕ) → i < levels k → getD (degrees k) i 0 ≤ k
+unfolding levels
+degree-fits k kind i h = fit-at k (degrees k) (shape k kind .fit) i h
+
+-- the bits of block j are among those of the message, and those of the levels
+pub block-room : (k b j : ℕ) → isKind k ≡ true → j < blocks k → levelBits k + 8 * b * j + 8 * b ≤ messageBits k b
+unfolding messageBits
+block-room k b j kind h = let l : j + 1 ≤ blocks k = omega arith in omega (arith, mul-le-mul-left (8 * b) l, ap (λ (n : ℕ). n * b) (shape k kind .whole))
 
 -- the distances 4, 8, 16 are the least of 4^i·2^(m−r) over the levels, and of 4^a
 pub distances : (k : ℕ) → isKind k ≡ true → apartBy k (degrees k) ≡ leastDistance k

@@ -145,7 +145,7 @@ abbrev pub readLevels : ℕ → List ℕ → (ℕ → ℤ) → List ℕ
 readLevels m [] x = []
 readLevels m (r ∷ rs) x = levelMessage m r (λ p. modZ (x p) 2) ++ readLevels m rs (λ p. shrZ (x p) 2)
 
-level-length : (m r : ℕ) (v : ℕ → ℕ) → length (levelMessage m r v) ≡ dimension r m
+pub level-length : (m r : ℕ) (v : ℕ → ℕ) → length (levelMessage m r v) ≡ dimension r m
 unfolding levelMessage
 level-length m r v = length-table (λ t. backwards m v (getD (order m) t 0)) (dimension r m)
 

@@ -2,14 +2,15 @@
 -- z is up z − down z. An expression e over ℤ has a value ⟦ e ⟧ in ℤ, and two naturals P e and N e, made of the ups and downs of its atoms,
 -- whose difference is that value. So an equation or an order over ℤ is one over ℕ, between P and N: omega proves that, products and all.
 use mathlib.Core.Path.{_≡_, refl, sym, _∙_, ap, subst}
-use mathlib.Core.Bool.{Bool, true, false, not, cond}
+use mathlib.Core.Bool.{Bool, true, false, not, cond, true≢false}
 use Prim.Native.Nat.{ℕ, zero, suc, _+_, _*_, _-_, _^_, _<_, _≤_}
 use native.Mathlib.Omega.{arith}
 use lib.Dec.{T, ltb, leb, leb→le, le→leb, ltb→lt, lt→ltb, nltb→le}
 use lib.IntN.{ℤ, pos, negsuc, negℤ, subℕ, _+ℤ_, _-ℤ_, _*ℤ_, natAbs, +ℤ-assoc, +ℤ-comm, *ℤ-comm}
-use lib.Signed.{_≤ℤ_, _<ℤ_, leZ, ltZ, mag}
+use lib.Signed.{_≤ℤ_, _<ℤ_, leZ, ltZ, mag, nonNeg}
 use mir.Syntax.{Width}
 use mir.Val.{SFits, hbits, toZ, ofZ}
+use borrow.Author.Tests.{ltb-true}
 use mir.Facts.{toZ-ofZ}
 
 abbrev pub up : ℤ → ℕ
@@ -187,6 +188,19 @@ sfits! w e h k = record { sfits = mag-lt ⟦ e ⟧ (2 ^ hbits w) (omega (arith, 
 pub abs-ud : (z : ℤ) → natAbs z ≡ up z + down z
 abs-ud (pos n) = omega arith
 abs-ud (negsuc n) = omega arith
+
+pub mag-ud : (z : ℤ) → (up z ≤ mag z) × (down z ≤ suc (mag z))
+mag-ud (pos n) = (omega arith, omega arith)
+mag-ud (negsuc n) = (omega arith, omega arith)
+
+-- ---- the sign of a value
+pub neg-sign : (z : ℤ) → ltZ z (pos 0) ≡ true → T (nonNeg (pos 0 -ℤ z)) × (natAbs (pos 0 -ℤ z) ≡ natAbs z)
+neg-sign (pos n) l = absurd (omega (arith, ltb-true n 0 l))
+neg-sign (negsuc n) l = (tt, omega arith)
+
+pub pos-sign : (z : ℤ) → ltZ z (pos 0) ≡ false → T (nonNeg z)
+pos-sign (pos n) l = tt
+pos-sign (negsuc n) l = absurd (true≢false l)
 
 -- ---- in code a signed local holds bits, and each reading of one is toZ (ofZ z)
 pub tz : {w : Width} {z z′ : ℤ} → z ≡ z′ → SFits w z′ → toZ w (ofZ w z) ≡ z′

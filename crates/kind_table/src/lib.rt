@@ -5,6 +5,7 @@ ghost use Prim.Native.Nat.{_<_, _≤_, _^_};
 ghost use lib.ListN.{getD};
 ghost use Rattle.frames.specs.Kind.{isKind, degrees, levels as levelsOf, levelBits, messageBits, messageBytes};
 ghost use Rattle.frames.specs.Message.{widths};
+ghost use Rattle.frames.specs.Sending.{isGrade, unless};
 
 // Whether there is such a kind.
 pub fn is_kind(kind: u8) -> bool
@@ -17,6 +18,29 @@ pub fn is_kind(kind: u8) -> bool
         return true;
     }
     kind == 5
+}
+
+// Whether there is such a grade.
+pub fn is_grade(grade: u8) -> bool
+    ensures { λ r. ⌜ r ≡ isGrade grade ⌝ }
+{
+    if grade < 1 {
+        return false;
+    }
+    grade <= 4
+}
+
+// The tests that sending and the readings make first: 1 for a wrong kind, 2 for a wrong grade, 0 where both are good.
+pub fn refusal(kind: u8, grade: u8) -> u8
+    ensures { λ r. ⌜ r ≡ unless (isKind kind) 1 (unless (isGrade grade) 2 0) ⌝ }
+{
+    if !is_kind(kind) {
+        return 1;
+    }
+    if !is_grade(grade) {
+        return 2;
+    }
+    0
 }
 
 // The number of levels.

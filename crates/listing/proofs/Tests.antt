@@ -1,5 +1,5 @@
 -- The number of a record by the tests that were passed, and what a whole record is. Assumes nothing.
-use Prim.Native.Nat.{ℕ, suc, _+_, _-_, _^_, _≤_, _<_}
+use Prim.Native.Nat.{ℕ, _+_, _-_, _^_, _≤_, _<_}
 use mathlib.Core.Path.{_≡_, refl, sym, ap, ap₂, _∙_}
 use mathlib.Core.Bool.{Bool, true, false, and-false}
 use mathlib.Core.List.{List, _++_, append-nil}
@@ -11,7 +11,8 @@ use borrow.Author.Tests.{eq-eqb, ne-eqb, le-leb, lt-leb, lt-ltb, le-ltb, leb-tru
 use Rattle.frames.specs.Kind.{isKind, messageBytes}
 use Rattle.e8.specs.Energy.{energy}
 use Rattle.frames.specs.Frame.{sentFrame}
-use Rattle.frames.specs.Sending.{isGrade, unless, sendRefusal, frameAfter, energySent}
+use Rattle.frames.specs.Sending.{isGrade, sendRefusal, frameAfter, energySent}
+use Rattle.frames.proofs.Refusals.{passed}
 use Rattle.listing.specs.Record.{marked, kindAt, gradeAt, messageAt, endAt, recordRefusal, recordNumber}
 use Rattle.listing.specs.Listing.{sentLine, lineAt, nextAt, beginning, startOf}
 use Rattle.text.specs.Text.{bytes}
@@ -64,10 +65,6 @@ module _ (s : List ℕ) (p : ℕ) where
             whole h = simp (mark, le-leb _ _ h3, kind, le-leb _ _ h4, grade, le-leb _ _ h)
 
 -- ---- back: what a whole record is
-
-passed : (t : Bool) (a r : ℕ) → unless t (suc a) r ≡ 0 → (t ≡ true) × (r ≡ 0)
-passed true a r e = (refl, e)
-passed false a r e = let z : ⊥ = omega arith in absurd z
 
 pub record Whole (s : List ℕ) (p : ℕ) : Type 0 where
   pub kind : isKind (kindAt s p) ≡ true

@@ -4,7 +4,7 @@ ghost use mathlib.Core.Bool.{true};
 ghost use Prim.Native.Nat.{_≤_, _<_, _^_};
 ghost use lib.ListN.{length};
 ghost use Rattle.frames.specs.Kind.{isKind, messageBytes};
-ghost use Rattle.frames.specs.Sending.{isGrade, sendRefusal};
+ghost use Rattle.frames.specs.Sending.{sendRefusal};
 ghost use Rattle.text.specs.Text.{Put};
 ghost use Rattle.text.specs.Line.{refusedText};
 ghost use Rattle.listing.specs.Record.{marked as isMarked, recordRefusal};
@@ -37,16 +37,6 @@ fn marked(sheet: &[u8], p: usize) -> bool
     sheet[p + 1] == 0x43
 }
 
-// Whether a byte is a grade.
-fn is_grade(grade: u8) -> bool
-    ensures { λ r. ⌜ r ≡ isGrade grade ⌝ }
-{
-    if grade < 1 {
-        return false;
-    }
-    grade <= 4
-}
-
 // The number of the first test that the record at place p does not pass, 0 for a whole record.
 fn test_record(sheet: &[u8], p: usize) -> u8
     requires { ⌜ p < length (now sheet) ⌝ }
@@ -67,7 +57,7 @@ fn test_record(sheet: &[u8], p: usize) -> u8
         return 3;
     }
     let grade = sheet[p + 3];
-    if !is_grade(grade) {
+    if !kind_table::is_grade(grade) {
         return 2;
     }
     if left - 4 < kind_table::message_bytes(kind, grade as usize) {

@@ -21,10 +21,11 @@ use Rattle.frames.specs.Message.{widths}
 use Rattle.frames.specs.Frame.{levelWord}
 use Rattle.frames.specs.Reading.{levelMessage, levelMessages, quotients, allDigits, blockMessages, readBits, openMessage}
 use Rattle.frames.proofs.Frame.{quotients-length}
+use Rattle.frames.proofs.Numbers.{total-widths}
 use Rattle.frames.proofs.Rows.{shape}
 use Rattle.reading.specs.Written.{Written}
 use Rattle.reading.proofs.Writing.{written-table, written-next, cleared, written-whole}
-use Rattle.reading.proofs.Rows.{all-count, total-widths, reduced-count, levels-count, levels-more, dimensions-more, dimensions-le, blocks-more, blocks-count}
+use Rattle.reading.proofs.Rows.{all-count, reduced-count, levels-count, levels-more, dimensions-more, dimensions-le, blocks-more, blocks-count}
 use Rattle.reading.proofs.Packed.{row-of-digits}
 
 -- ---- levels
@@ -77,10 +78,6 @@ block-written b j bits from v out after grade room h e =
     eight = reduced-count (2 ^ (b - 1)) (part j v) ∙ simp (length-take, length-drop) (omega arith)
 
 module _ (k b j : ℕ) (kind : isKind k ≡ true) (grade : 1 ≤ b) (h : j < blocks k) where
-  pub block-room : levelBits k + 8 * b * j + 8 * b ≤ messageBits k b
-  unfolding messageBits
-  block-room = let l : j + 1 ≤ blocks k = omega arith in omega (arith, mul-le-mul-left (8 * b) l, ap (λ (n : ℕ). n * b) (shape k kind .whole))
-
   -- one block more
   pub block-more : (f : List ℤ) (at : ℕ) (x y z : List ℕ) → length f ≡ 2 ^ k → at ≡ levelBits k + 8 * b * j
       → Written (levelBits k) (blockMessages b j (quotients (levels k) f)) x y

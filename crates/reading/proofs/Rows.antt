@@ -20,7 +20,8 @@ use Rattle.frames.specs.Kind.{dimensions}
 use Rattle.frames.specs.Message.{widths}
 use Rattle.frames.specs.Frame.{levelWord}
 use Rattle.frames.specs.Reading.{levelMessage, levelMessages, quotients, digits, allDigits, blockMessages}
-use Rattle.frames.proofs.Numbers.{total}
+use Rattle.frames.proofs.Stacked.{level-length}
+use Rattle.frames.proofs.Numbers.{total, total-widths}
 
 -- ---- numbers
 
@@ -38,15 +39,11 @@ all-count (w ∷ ws) (s ∷ ss) h = length-append (digits w s) (allDigits ws ss)
 
 -- ---- levels in a row
 
-level-count : (m r : ℕ) (v : ℕ → ℕ) → length (levelMessage m r v) ≡ dimension r m
-unfolding levelMessage
-level-count m r v = length-table (λ t. backwards m v (getD (order m) t 0)) (dimension r m)
-
 pub levels-count : (m i : ℕ) (rs : List ℕ) (f : List ℤ) → length (levelMessages m i rs f) ≡ dimensions m rs
 unfolding levelMessages
 levels-count m i [] f = refl
 levels-count m i (r ∷ rs) f =
-    length-append (levelMessage m r (levelWord i f)) (levelMessages m (suc i) rs f) ∙ ap₂ _+_ (level-count m r (levelWord i f)) (levels-count m (suc i) rs f)
+    length-append (levelMessage m r (levelWord i f)) (levelMessages m (suc i) rs f) ∙ ap₂ _+_ (level-length m r (levelWord i f)) (levels-count m (suc i) rs f)
 
 levels-next : (m o : ℕ) (rs : List ℕ) (f : List ℤ) (i : ℕ) → i < length rs
     → levelMessages m o (take (suc i) rs) f ≡ levelMessages m o (take i rs) f ++ levelMessage m (getD rs i 0) (levelWord (o + i) f)
@@ -90,10 +87,6 @@ pub reduced-count : (h : ℕ) (xs : List ℤ) → length (reduced h xs) ≡ leng
 unfolding reduced
 reduced-count h [] = refl
 reduced-count h (x ∷ xs) = ap suc (remainders-count h (pos 0) (lowered (pos h *ℤ shrZ x h) xs) ∙ lowered-length (pos h *ℤ shrZ x h) xs)
-
--- the widths of a block's numbers make 8b bits
-pub total-widths : (b : ℕ) → 1 ≤ b → total (widths b) ≡ 8 * b
-total-widths b h = omega arith
 
 -- one block more
 pub blocks-more : (b j : ℕ) (v : List ℤ) → blockMessages b (j + 1) v ≡ blockMessages b j v ++ allDigits (widths b) (reduced (2 ^ (b - 1)) (part j v))

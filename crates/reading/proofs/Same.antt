@@ -8,21 +8,18 @@ use native.Mathlib.Omega.{arith}
 use lib.ListN.{length, take, drop, drop-of-length-le, take-append-drop}
 use lib.Seq.{drop-cons, drop-drop}
 use lib.IntN.{ℤ, pos, negsuc}
-use borrow.Author.Tests.{eq-eqb, ne-eqb}
-use Rattle.e8.specs.Energy.{Within}
+use borrow.Author.Tests.{ne-eqb}
 use Rattle.e8.specs.Lattice.{part}
 use Rattle.e8.specs.Least.{leastBlock, leastFrame}
 use Rattle.e8.proofs.Frame.{block-size}
 use Rattle.frames.specs.Reading.{sameNumber, sameFrame}
 use Rattle.frames.proofs.Frame.{at, part-length}
+use Rattle.frames.proofs.Refusals.{number-same}
 
 -- ---- coordinates
 
 same-yes : (x y : ℤ) → x ≡ y → sameNumber x y ≡ true
-same-yes (pos a) (pos b) e = eq-eqb a b (cc)
-same-yes (pos a) (negsuc b) e = let z : _≡_ {A = ℕ} 0 1 = cc in absurd (omega arith)
-same-yes (negsuc a) (pos b) e = let z : _≡_ {A = ℕ} 0 1 = cc in absurd (omega arith)
-same-yes (negsuc a) (negsuc b) e = eq-eqb a b (cc)
+same-yes x y e = ap (sameNumber x) (sym e) ∙ number-same x
 
 same-no : (x y : ℤ) → (x ≡ y → ⊥) → sameNumber x y ≡ false
 same-no (pos a) (pos b) n = ne-eqb a b (λ e. n (ap pos e))
@@ -93,19 +90,6 @@ least-all H n j f l h =
     rw (e, drop-of-length-le f {i = 8 * j} (omega arith))
 
 -- ---- parts of a frame
-
-within-take : (B n : ℕ) (f : List ℤ) → Within B f → Within B (take n f)
-within-take B zero f h = tt
-within-take B (suc n) [] h = tt
-within-take B (suc n) (z ∷ f) h = (h .0, within-take B n f (h .1))
-
-within-drop : (B n : ℕ) (f : List ℤ) → Within B f → Within B (drop n f)
-within-drop B zero f h = h
-within-drop B (suc n) [] h = tt
-within-drop B (suc n) (z ∷ f) h = within-drop B n f (h .1)
-
-pub within-part : (B j : ℕ) (f : List ℤ) → Within B f → Within B (part j f)
-within-part B j f h = within-take B 8 (drop (8 * j) f) (within-drop B (8 * j) f h)
 
 -- the part 8j to 8j + 8 of a frame, as the code hands it on, is block j
 pub part-is : (j : ℕ) (f : List ℤ) → take (8 * j + 8 - 8 * j) (drop (8 * j) f) ≡ part j f

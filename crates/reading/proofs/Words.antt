@@ -21,8 +21,6 @@ use Rattle.frames.specs.Sending.{unless}
 use Rattle.frames.specs.Reading.{brokenNumber, broken}
 use Rattle.reading.specs.Holding.{Backwards, HoldsLevels}
 use Rattle.frames.proofs.Frame.{weight-bit}
-use Rattle.frames.proofs.Levels.{Fit}
-use Rattle.frames.proofs.Rows.{shape}
 
 -- a number that holds level i of a frame
 pub word-backwards : (m n i : ℕ) (f : List ℤ) (word : ℕ) → n ≡ 2 ^ m → ((p : ℕ) → p < n → digit word p ≡ levelWord i f p)
@@ -47,16 +45,6 @@ held-belongs k f words i r holds h = belongs-bits r k (levelWord i f) (digit (ge
 
 pub weight-bit-small : (i : ℕ) (z : ℤ) → weightBit i z < 2
 weight-bit-small i z = rw (weight-bit i z) (modZ-lt (shrZ z (2 ^ i)) 2 (omega arith))
-
--- the degrees of a kind are at most the kind
-fit-at : (m : ℕ) (rs : List ℕ) → Fit m rs → (j : ℕ) → j < length rs → getD rs j 0 ≤ m
-fit-at m [] h j l = absurd (omega arith)
-fit-at m (r ∷ rs) h zero l = h .0
-fit-at m (r ∷ rs) h (suc j) l = fit-at m rs (h .1) j (omega arith)
-
-pub degree-fits : (k : ℕ) → isKind k ≡ true → (i : ℕ) → i < levels k → getD (degrees k) i 0 ≤ k
-unfolding levels
-degree-fits k kind i h = fit-at k (degrees k) (shape k kind .fit) i h
 
 -- ---- the levels one after the other
 

@@ -60,14 +60,9 @@ pub fn open_refusal(kind: u8, grade: u8, frame: &[i32], n: usize, words: &mut [u
     ensures number { λ r. ⌜ r ≡ openRefusal kind grade (now (frame .entry)) n ⌝ }
     ensures words { λ r. ⌜ (r ≡ 0 → HoldsLevels kind (now (frame .entry)) (now (words .exit))) ⌝ }
 {
-    if !kind_table::is_kind(kind) {
-        return 1;
-    }
-    if grade < 1 {
-        return 2;
-    }
-    if 4 < grade {
-        return 2;
+    let no = kind_table::refusal(kind, grade);
+    if no != 0 {
+        return no;
     }
     if frame.len() != kind_table::positions(kind) {
         return 4;

@@ -11,7 +11,7 @@ use lib.Seq.{take-length, take-append-le, getD-take}
 use lib.Count.{ones-le}
 use borrow.Author.Tests.{eq-eqb, ne-eqb, le-leb, lt-leb}
 use Rattle.reed_muller.specs.Level.{sumTo, pick, given, weight, keep, ofWeight, masks, order, place, table, dimension}
-use Rattle.reed_muller.proofs.Sum.{sum-ext, sum-add, sum-zero}
+use Rattle.reed_muller.proofs.Sum.{sum-ext, sum-add, sum-zero, sum-term}
 
 -- the sum of h over a list
 abbrev pub sumL : (ℕ → ℕ) → List ℕ → ℕ
@@ -77,15 +77,6 @@ is-other x y h = rw (ne-eqb y x h)
 
 abbrev count : ℕ → List ℕ → ℕ
 count x xs = sumL (is x) xs
-
-sum-at-least : (n : ℕ) (g : ℕ → ℕ) (x : ℕ) → x < n → g x ≤ sumTo n g
-unfolding sumTo
-sum-at-least zero g x h = absurd (omega arith)
-sum-at-least (suc n) g x h = go (sum-at-least n g x) (ℕ-discrete x n)
-  where
-    go : (x < n → g x ≤ sumTo n g) → Dec (x ≡ n) → g x ≤ sumTo n g + g n
-    go ih (yes e) = omega (arith, ap g e)
-    go ih (no k) = omega (arith, ih (omega arith))
 
 sum-at-most : (n : ℕ) (g : ℕ → ℕ) (x : ℕ) → ((y : ℕ) → (y ≡ x → ⊥) → g y ≡ 0) → sumTo n g ≤ g x
 unfolding sumTo
@@ -153,7 +144,7 @@ module _ (r m : ℕ) where
 
   there : (x : ℕ) → x < 2 ^ m → weight x ≤ r → 1 ≤ count x (masks r m)
   unfolding term
-  there x h w = omega (arith, counted x, sum-at-least (2 ^ m) (term x) x h, ap (λ b. given b (is x x)) (le-leb (weight x) r w), is-same x)
+  there x h w = omega (arith, counted x, sum-term (2 ^ m) (term x) x h, ap (λ b. given b (is x x)) (le-leb (weight x) r w), is-same x)
 
   only : (x : ℕ) → 1 ≤ count x (masks r m) → (x < 2 ^ m) × (weight x ≤ r)
   unfolding term

@@ -1,61 +1,36 @@
 -- The answer of sending by the tests that were passed, and what an answer of 0 says. Assumes nothing.
-use Prim.Native.Nat.{ℕ, suc, _+_, _*_, _^_, _≤_, _<_}
+use Prim.Native.Nat.{ℕ, suc, _+_, _*_, _^_, _≤_}
 use mathlib.Core.Path.{_≡_, refl}
-use mathlib.Core.Bool.{Bool, true, false, cond, and-false}
+use mathlib.Core.Bool.{Bool, true, false, cond}
 use mathlib.Core.List.{List}
 use native.Mathlib.Omega.{arith}
-use lib.Dec.{eqb, leb}
+use lib.Dec.{eqb}
 use lib.ListN.{length}
-use borrow.Author.Tests.{eq-eqb, ne-eqb, le-leb, lt-leb, eqb-true}
+use borrow.Author.Tests.{eq-eqb, ne-eqb, eqb-true}
 use Rattle.frames.specs.Kind.{isKind, messageBits, messageBytes}
-use Rattle.frames.specs.Sending.{isGrade, unless, spareSet, sendRefusal}
+use Rattle.frames.specs.Sending.{isGrade, spareSet, sendRefusal}
+use Rattle.frames.proofs.Refusals.{passed}
 
-pub grade-none : (b : ℕ) → b < 1 → isGrade b ≡ false
-unfolding isGrade
-grade-none b h = simp (lt-leb 1 b h)
-
-pub grade-over : (b : ℕ) → 4 < b → isGrade b ≡ false
-unfolding isGrade
-grade-over b h = simp (lt-leb b 4 h) (and-false (leb 1 b))
-
-pub grade-is : (b : ℕ) → 1 ≤ b → b ≤ 4 → isGrade b ≡ true
-unfolding isGrade
-grade-is b h g = simp (le-leb 1 b h, le-leb b 4 g)
-
-module _ (k b : ℕ) (bytes : List ℕ) (n : ℕ) where
-  pub no-kind : isKind k ≡ false → 1 ≡ sendRefusal k b bytes n
+module _ (k b : ℕ) (bytes : List ℕ) (n : ℕ) (good : (isKind k ≡ true) × (isGrade b ≡ true)) where
+  pub other-bytes : (length bytes ≡ messageBytes k b → ⊥) → 3 ≡ sendRefusal k b bytes n
   unfolding sendRefusal
-  no-kind e = simp e
+  other-bytes e = simp (good .0, good .1, ne-eqb _ _ e)
 
-  module _ (kind : isKind k ≡ true) where
-    pub no-grade : isGrade b ≡ false → 2 ≡ sendRefusal k b bytes n
+  module _ (long : length bytes ≡ messageBytes k b) where
+    pub other-length : (n ≡ 2 ^ k → ⊥) → 4 ≡ sendRefusal k b bytes n
     unfolding sendRefusal
-    no-grade e = simp (kind, e)
+    other-length e = simp (good .0, good .1, eq-eqb _ _ long, ne-eqb _ _ e)
 
-    module _ (grade : isGrade b ≡ true) where
-      pub other-bytes : (length bytes ≡ messageBytes k b → ⊥) → 3 ≡ sendRefusal k b bytes n
+    module _ (positions : n ≡ 2 ^ k) where
+      pub spare-bit : spareSet k b bytes ≡ true → 5 ≡ sendRefusal k b bytes n
       unfolding sendRefusal
-      other-bytes e = simp (kind, grade, ne-eqb _ _ e)
+      spare-bit e = simp (good .0, good .1, eq-eqb _ _ long, eq-eqb _ _ positions, e)
 
-      module _ (long : length bytes ≡ messageBytes k b) where
-        pub other-length : (n ≡ 2 ^ k → ⊥) → 4 ≡ sendRefusal k b bytes n
-        unfolding sendRefusal
-        other-length e = simp (kind, grade, eq-eqb _ _ long, ne-eqb _ _ e)
-
-        module _ (positions : n ≡ 2 ^ k) where
-          pub spare-bit : spareSet k b bytes ≡ true → 5 ≡ sendRefusal k b bytes n
-          unfolding sendRefusal
-          spare-bit e = simp (kind, grade, eq-eqb _ _ long, eq-eqb _ _ positions, e)
-
-          pub accepts : spareSet k b bytes ≡ false → 0 ≡ sendRefusal k b bytes n
-          unfolding sendRefusal
-          accepts e = simp (kind, grade, eq-eqb _ _ long, eq-eqb _ _ positions, e)
+      pub accepts : spareSet k b bytes ≡ false → 0 ≡ sendRefusal k b bytes n
+      unfolding sendRefusal
+      accepts e = simp (good .0, good .1, eq-eqb _ _ long, eq-eqb _ _ positions, e)
 
 -- ---- back: each test was passed
-
-passed : (t : Bool) (a r : ℕ) → unless t (suc a) r ≡ 0 → (t ≡ true) × (r ≡ 0)
-passed true a r e = (refl, e)
-passed false a r e = let z : ⊥ = omega arith in absurd z
 
 clear : (t : Bool) (a : ℕ) → cond t (suc a) 0 ≡ 0 → t ≡ false
 clear true a e = let z : ⊥ = omega arith in absurd z
@@ -78,10 +53,6 @@ accepted k b bytes n e =
     record { kind = e₁ .0; grade = e₂ .0; long = eqb-true _ _ (e₃ .0); positions = eqb-true _ _ (e₄ .0); spare = clear (spareSet k b bytes) 4 (e₄ .1) }
 
 -- ---- sizes of an accepted message
-
-pub bytes-low : (k b : ℕ) → messageBits k b ≤ 8 * messageBytes k b
-unfolding messageBytes
-bytes-low k b = omega arith
 
 pub bytes-high : (k b : ℕ) → 8 * messageBytes k b ≤ messageBits k b + 7
 unfolding messageBytes

@@ -59,9 +59,6 @@ width-small b (suc (suc (suc (suc (suc (suc zero)))))) h k = omega arith
 width-small b (suc (suc (suc (suc (suc (suc (suc zero))))))) h k = omega arith
 width-small b (suc (suc (suc (suc (suc (suc (suc (suc c)))))))) h k = absurd (omega arith)
 
-pub widths-total : (b : ℕ) → 1 ≤ b → total (widths b) ≡ 8 * b
-widths-total b h = omega arith
-
 -- a number of at most five bits, 2^a times, for a up to 3
 pub scaled-small : (s a : ℕ) → s < 32 → a ≤ 3 → s * 2 ^ a ≤ 31 * 8
 scaled-small s a h k = mul-le-mul {n₂ = 31} (omega arith) (pow-mono {j = 3} k)

@@ -1,16 +1,13 @@
--- A loop that writes a frame block by block: the blocks made so far, and the rest of the frame as it was; and the size of coordinates. Assumes nothing.
+-- A loop that writes a frame block by block: the blocks made so far, and the rest of the frame as it was. Assumes nothing.
 use Prim.Native.Nat.{ℕ, zero, suc, _+_, _-_, _*_, _≤_, _<_}
 use mathlib.Core.Path.{_≡_, refl, sym, ap, _∙_}
 use mathlib.Core.List.{List, [], _++_, append-nil, append-assoc}
-use native.Mathlib.Decide.{decLt}
 use native.Mathlib.Omega.{arith}
-use lib.ListN.{length, getD, take, drop, length-append, length-take, length-drop, drop-of-length-le, List·getD-eq-default}
-use lib.Seq.{take-at, drop-at, drop-drop, take-add, getD-take, getD-drop}
-use lib.IntN.{ℤ, pos, natAbs}
+use lib.ListN.{length, take, drop, length-append, length-drop, drop-of-length-le}
+use lib.Seq.{take-at, drop-at, drop-drop, take-add}
+use lib.IntN.{ℤ}
 use borrow.Rule.Slice.PartMut.{putMid}
-use Rattle.e8.specs.Energy.{Within}
 use Rattle.e8.specs.Lattice.{part}
-use Rattle.e8.proofs.Within.{within-at, within-all}
 use Rattle.frames.proofs.Frame.{part-length}
 
 -- P j is the first j of the n blocks B
@@ -75,17 +72,3 @@ taken-made n x long = record {
   more = λ j. let e : 8 * (j + 1) ≡ 8 * j + 8 = omega arith in ap (λ (m : ℕ). take m x) e ∙ take-add (8 * j) 8 x;
   eight = λ j h. part-length x n j long h;
 }
-
--- ---- the size of coordinates
-
--- those of a list of at most n are bounded
-pub within-below : (B n : ℕ) (x : List ℤ) → length x ≤ n → ((p : ℕ) → p < n → natAbs (getD x p (pos 0)) ≤ B) → Within B x
-within-below B n x l h = within-all B x (λ p. go p (decLt p n))
-  where
-    go : (p : ℕ) → Dec (p < n) → natAbs (getD x p (pos 0)) ≤ B
-    go p (yes k) = h p k
-    go p (no k) = rw (List·getD-eq-default x (pos 0) {n = p} (omega arith)) (omega arith)
-
-pub within-part : (B j : ℕ) (x : List ℤ) → Within B x → Within B (part j x)
-within-part B j x h =
-    within-below B 8 (part j x) (simp length-take (omega arith)) (λ o l. rw (getD-take 8 (drop (8 * j) x) o (pos 0) l, getD-drop (8 * j) x o (pos 0)) (within-at B x (8 * j + o) h))

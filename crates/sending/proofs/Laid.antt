@@ -15,6 +15,7 @@ use Rattle.reed_muller.proofs.Parity.{message-small}
 use Rattle.reed_muller.proofs.Table.{length-table, table-at}
 use Rattle.reed_muller.proofs.Digits.{digit-from}
 use Rattle.e8.specs.Energy.{Within}
+use Rattle.e8.proofs.Within.{within-all}
 use Rattle.e8.specs.Lattice.{part}
 use Rattle.e8.specs.Rows.{ints}
 use Rattle.frames.specs.Kind.{isKind, degrees, levels, blocks, levelBits, messageBits, messageBytes}
@@ -27,7 +28,6 @@ use Rattle.frames.proofs.Bounds.{few-levels}
 use Rattle.sending.proofs.Bits.{number-small}
 use Rattle.sending.proofs.Block.{numbers-at, width-small}
 use Rattle.sending.proofs.Stack.{stacked-below}
-use Rattle.sending.proofs.Blocks.{within-below}
 
 -- `low` and `high` hold the codewords of the levels
 abbrev Stacks : ℕ → List ℕ → ℕ → ℕ → Type 0
@@ -65,11 +65,6 @@ module _ (k b : ℕ) (kind : isKind k ≡ true) (bytes : List ℕ) where
           ∙ ap₂ (λ (i r : ℕ). stacked k (degrees k) (messageBit bytes) 0 (getD (blockNumbers k b bytes i) r 0) (8 * j + o)) (sym ej) (sym eo))
           ∙ sym (leader-at k b bytes (8 * j + o) p) ∙ sym (part-at L (blocks k) j long h o ho)
 
-  -- the bits of block j are in the message
-  pub block-room : (j : ℕ) → j < blocks k → length bytes ≡ messageBytes k b → levelBits k + 8 * b * j + 8 * b ≤ 8 * length bytes
-  unfolding messageBytes messageBits
-  block-room j h e = omega (arith, mul-le-mul-left (8 * b) h, ap (λ (n : ℕ). n * b) (shape k kind .whole))
-
   -- ---- the leader's coordinates are small
 
   module _ (high : b ≤ 4) where
@@ -88,12 +83,8 @@ module _ (k b : ℕ) (kind : isKind k ≡ true) (bytes : List ℕ) where
 
     pub leader-within : Within (2 ^ 24) (leader k b bytes)
     leader-within =
-        within-below (2 ^ 24) (2 ^ k) (leader k b bytes) (omega (arith, leader-length k b bytes)) (λ p l. rw (leader-at k b bytes p l) (omega (arith, coordinate-below p)))
+        within-all (2 ^ 24) (leader k b bytes) (λ p l. rw (leader-at k b bytes p (omega (arith, leader-length k b bytes))) (omega (arith, coordinate-below p)))
 
 -- the offset of a block's bits among those of all blocks
 pub offset-small : (b j : ℕ) → b ≤ 4 → j ≤ 4 → 8 * b * j ≤ 128
 offset-small b j h g = mul-le-mul {n₂ = 32} (omega arith) g
-
-pub levels-first : (k b : ℕ) → levelBits k ≤ 8 * messageBytes k b
-unfolding messageBytes messageBits
-levels-first k b = omega arith

@@ -11,13 +11,7 @@ use Rattle.reed_muller.proofs.Codeword.{codeword-small, codeword-cong}
 use Rattle.reed_muller.proofs.Digits.{digit-none, digit-from}
 use Rattle.frames.specs.Kind.{kinds, isKind, degrees, levels, dimensions}
 use Rattle.frames.specs.Message.{stacked}
-use Rattle.frames.proofs.Levels.{Fit}
 use Rattle.frames.proofs.Rows.{each-kind}
-
-pub degree-fits : (m : ℕ) (rs : List ℕ) → Fit m rs → (i : ℕ) → i < length rs → getD rs i 0 ≤ m
-degree-fits m [] f i h = absurd (omega arith)
-degree-fits m (r ∷ rs) f zero h = f .0
-degree-fits m (r ∷ rs) f (suc i) h = degree-fits m rs (f .1) i (omega arith)
 
 pub some-level : (k : ℕ) → isKind k ≡ true → 1 ≤ levels k
 unfolding levels degrees kinds

@@ -36,14 +36,9 @@ fn spare_set(kind: u8, grade: usize, message: &[u8]) -> bool
 pub fn refusal(kind: u8, grade: u8, message: &[u8], n: usize) -> u8
     ensures { λ r. ⌜ r ≡ sendRefusal kind grade (now (message .entry)) n ⌝ }
 {
-    if !kind_table::is_kind(kind) {
-        return 1;
-    }
-    if grade < 1 {
-        return 2;
-    }
-    if 4 < grade {
-        return 2;
+    let no = kind_table::refusal(kind, grade);
+    if no != 0 {
+        return no;
     }
     let b = grade as usize;
     if message.len() != kind_table::message_bytes(kind, b) {

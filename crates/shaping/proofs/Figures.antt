@@ -89,9 +89,3 @@ module _ (H : ℕ) (h : 0 < H) (s : H ≤ 2 ^ 6) where
   pub rounded-within : (xs : List ℤ) → Within (2 ^ 7) (rounded H xs)
   rounded-within [] = tt
   rounded-within (x ∷ xs) = (omega (arith, cent-low x), rounded-within xs)
-
-pub within-drop : (B : ℕ) (xs : List ℤ) (i : ℕ) → Within B xs → Within B (drop i xs)
-within-drop B [] zero w = tt
-within-drop B [] (suc i) w = tt
-within-drop B (x ∷ xs) zero w = w
-within-drop B (x ∷ xs) (suc i) w = within-drop B xs i (w .1)

@@ -20,7 +20,8 @@ use Rattle.e8.specs.Lattice.{bit}
 use Rattle.e8.specs.Least.{cent, better, best, lowered, leastBlock}
 use Rattle.e8.proofs.Order.{better-heads}
 use Rattle.e8.proofs.Cent.{cent-range, Range}
-use Rattle.e8.proofs.Best.{rest, best-head, parts-differ, best-length}
+use Rattle.e8.proofs.Points.{rest}
+use Rattle.e8.proofs.Best.{best-head, parts-differ, best-length}
 use Rattle.e8.proofs.Rounding.{Parity, parity-none, parity-more, parity-rest, Turned, turned, Rounding, round-one, round-here, round-later}
 use Rattle.shaping.proofs.Size.{lowered-length}
 use Rattle.shaping.specs.Rounded.{across, sooner, rankOf, rounded, off, highest}

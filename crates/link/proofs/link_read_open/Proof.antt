@@ -6,7 +6,6 @@ use mir.Facts.{toZ-ofZ}
 use borrow.Author.Needs.{needs}
 use Rattle.link.specs.Answer.{answerOf}
 use Rattle.link.proofs.Bounds.{open-fits}
-use borrow.Author.Needs.{needs}
 use Rattle.link.proofs.link_read_open.Statement.{statement}
 use Rattle.link.proofs.link_read_open.Tie as tie
 

@@ -6,7 +6,6 @@ use mir.Facts.{toZ-ofZ}
 use borrow.Author.Needs.{needs}
 use Rattle.link.specs.Answer.{answerOf}
 use Rattle.link.proofs.Bounds.{sent-fits}
-use borrow.Author.Needs.{needs}
 use Rattle.link.proofs.link_send.Statement.{statement}
 use Rattle.link.proofs.link_send.Tie as tie
 

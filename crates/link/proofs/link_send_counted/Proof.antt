@@ -6,7 +6,6 @@ use mir.Facts.{toZ-ofZ}
 use borrow.Author.Needs.{needs}
 use Rattle.link.specs.Answer.{answerOf, accountOf}
 use Rattle.link.proofs.Bounds.{counted-fits}
-use borrow.Author.Needs.{needs}
 use Rattle.link.proofs.link_send_counted.Statement.{statement}
 use Rattle.link.proofs.link_send_counted.Tie as tie
 

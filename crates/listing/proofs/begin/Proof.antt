@@ -8,7 +8,6 @@ use borrow.Author.Needs.{needs}
 use Rattle.text.specs.Text.{Put}
 use Rattle.text.proofs.Buffer.{put-none}
 use Rattle.listing.proofs.Room.{no-beginning, a-beginning}
-use borrow.Author.Needs.{needs}
 use Rattle.listing.proofs.begin.Statement.{statement}
 use Rattle.listing.proofs.begin.Tie as tie
 

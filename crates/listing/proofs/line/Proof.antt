@@ -8,7 +8,6 @@ use borrow.Author.Needs.{needs}
 use Rattle.text.specs.Text.{Put}
 use Rattle.text.proofs.Buffer.{put-none}
 use Rattle.listing.proofs.Room.{no-room, no-record, a-record}
-use borrow.Author.Needs.{needs}
 use Rattle.listing.proofs.line.Statement.{statement}
 use Rattle.listing.proofs.line.Tie as tie
 

@@ -11,11 +11,11 @@ use Rattle.e8.specs.Lattice.{part}
 use Rattle.e8.specs.Rows.{ints}
 use Rattle.frames.specs.Kind.{blocks as blocks-of, levelBits}
 use Rattle.frames.specs.Message.{widths, numbers, leader}
-use Rattle.frames.proofs.Rows.{shape}
+use Rattle.frames.proofs.Rows.{shape, bytes-hold, levels-hold, block-room}
 use Rattle.frames.proofs.Bounds.{few-levels}
 use Rattle.kind_table.proofs.Each.{size, bits-row}
 use Rattle.sending.proofs.Blocks.{Made, Over, over-start, over-same, over-end, over-step, taken-made}
-use Rattle.sending.proofs.Laid.{long, block-is, block-room, offset-small, levels-first}
+use Rattle.sending.proofs.Laid.{long, block-is, offset-small}
 use Rattle.sending.proofs.lay.Statement.{statement}
 use Rattle.sending.proofs.lay.Tie as tie
 
@@ -64,7 +64,7 @@ turn c =
 codewords-requires : tie.Need-codewords-requires Inv-loop μ-loop
 codewords-requires c κs =
     let s = c .before in
-    (s .pre .0, subst (λ (n : ℕ). levelBits (s .args .kind) ≤ 8 * n) (sym (s .pre .3)) (levels-first (s .args .kind) (s .args .grade)))
+    (s .pre .0, subst (λ (n : ℕ). levelBits (s .args .kind) ≤ 8 * n) (sym (s .pre .3)) (levels-hold (s .args .kind) (s .args .grade)))
 
 level-bits-requires : tie.Need-level-bits-requires Inv-loop μ-loop
 level-bits-requires c κs = c .before .before .pre .0
@@ -110,7 +110,7 @@ block-requires c κs =
       s .pre .2,
       omega (arith, turn c .weight),
       omega (arith, turn c .offset, turn c .base),
-      omega (arith, c .before .before .before .level-bits .ensures, block-room (s .args .kind) (s .args .grade) (s .pre .0) (s .args .message .now) (c .before .loop .j) (turn c .inside) (s .pre .3)),
+      omega (arith, c .before .before .before .level-bits .ensures, block-room (s .args .kind) (s .args .grade) (c .before .loop .j) (s .pre .0) (turn c .inside), bytes-hold (s .args .kind) (s .args .grade), s .pre .3),
     )
 
 -- the block made is the leader's

@@ -6,9 +6,10 @@ use lib.ListN.{length, take, drop, length-take, length-drop}
 use borrow.Author.Needs.{needs}
 use borrow.Rule.Slice.PartMut.{putMid}
 use Rattle.e8.specs.Energy.{Within}
+use Rattle.e8.proofs.Within.{within-part}
 use Rattle.e8.specs.Lattice.{part}
 use Rattle.e8.specs.Least.{leastBlock}
-use Rattle.sending.proofs.Blocks.{Made, Over, over-start, over-same, over-end, over-next, over-step, within-part}
+use Rattle.sending.proofs.Blocks.{Made, Over, over-start, over-same, over-end, over-next, over-step}
 use Rattle.sending.proofs.Shaped.{least-at, least-to, least-made}
 use Rattle.sending.proofs.shape.Statement.{statement}
 use Rattle.sending.proofs.shape.Tie as tie

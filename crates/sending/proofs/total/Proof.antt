@@ -8,8 +8,8 @@ use borrow.Author.Needs.{needs}
 use Rattle.e8.specs.Energy.{energy as energy-of, Within}
 use Rattle.e8.specs.Lattice.{part}
 use Rattle.e8.proofs.Order.{energy-append}
-use Rattle.e8.proofs.Within.{energy-within}
-use Rattle.sending.proofs.Blocks.{taken-made, within-part}
+use Rattle.e8.proofs.Within.{energy-within, within-part}
+use Rattle.sending.proofs.Blocks.{taken-made}
 use Rattle.sending.proofs.total.Statement.{statement}
 use Rattle.sending.proofs.total.Tie as tie
 

@@ -1,29 +1,19 @@
 -- `magnitude` meets its contract
 use mathlib.Core.Path.{_≡_, refl, sym, _∙_, ap, subst}
-use mathlib.Core.Bool.{true, false, true≢false}
 use Prim.Native.Nat.{_^_, _≤_}
 use native.Mathlib.Omega.{arith}
 use lib.Dec.{T}
-use lib.IntN.{ℤ, pos, negsuc, natAbs, _-ℤ_}
-use lib.Signed.{nonNeg, ltZ}
+use lib.IntN.{ℤ, pos, natAbs, _-ℤ_}
+use lib.Signed.{nonNeg}
 use mir.Syntax.{w32, w64}
 use mir.Val.{SFits, Fits, toZ, ofZ}
 use borrow.Author.Needs.{needs}
-use borrow.Author.Tests.{ltb-true}
-use Rattle.integers.proofs.Zed.{`_, #_, _⊖_, tz, sfits-to, sfits!, abs-ud}
+use Rattle.integers.proofs.Zed.{`_, #_, _⊖_, tz, sfits-to, sfits!, abs-ud, neg-sign, pos-sign}
 use Rattle.shaping.proofs.magnitude.Statement.{statement}
 use Rattle.shaping.proofs.magnitude.Tie as tie
 
 neg-fits : (z : ℤ) → natAbs z ≤ 2 ^ 24 → SFits w32 (pos 0 -ℤ z)
 neg-fits z h = sfits! w32 (# 0 ⊖ ` z) (omega (arith, abs-ud z)) (omega (arith, abs-ud z))
-
-neg-sign : (z : ℤ) → ltZ z (pos 0) ≡ true → T (nonNeg (pos 0 -ℤ z)) × (natAbs (pos 0 -ℤ z) ≡ natAbs z)
-neg-sign (pos n) l = absurd (omega (arith, ltb-true n 0 l))
-neg-sign (negsuc n) l = (tt, omega arith)
-
-pos-sign : (z : ℤ) → ltZ z (pos 0) ≡ false → T (nonNeg z)
-pos-sign (pos n) l = tt
-pos-sign (negsuc n) l = absurd (true≢false l)
 
 -- what the branches compute with
 module _ (c : tie.Start) where

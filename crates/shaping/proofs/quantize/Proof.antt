@@ -14,11 +14,11 @@ use Rattle.integers.specs.Integer.{modZ}
 use Rattle.integers.proofs.Zed.{tz, sfits-to}
 use Rattle.e8.specs.Energy.{Within}
 use Rattle.e8.specs.Least.{cent}
-use Rattle.e8.proofs.Within.{within-at}
+use Rattle.e8.proofs.Within.{within-at, within-drop}
 use Rattle.shaping.proofs.Size.{fits, sum-abs}
 use Rattle.shaping.proofs.Rest.{double}
 use Rattle.shaping.proofs.Reading.{read, power-read, plain}
-use Rattle.shaping.proofs.Figures.{rounded-turn, off-is, back, cent-low, off-one, floor-one, off-size, floors-size, sizes-low, within-drop}
+use Rattle.shaping.proofs.Figures.{rounded-turn, off-is, back, cent-low, off-one, floor-one, off-size, floors-size, sizes-low}
 use Rattle.shaping.specs.Rounded.{rankOf, sizes, Rounded}
 use Rattle.shaping.proofs.quantize.Statement.{statement}
 use Rattle.shaping.proofs.quantize.Tie as tie
@@ -64,7 +64,7 @@ module _ (s : tie.Start Inv-loop μ-loop) where
 -- how large the figures are before a turn
 module _ (l : tie.At-loop Inv-loop μ-loop) where
   abbrev left : Within (2 ^ 24) (drop (l .loop .i) (l .before .args .t3))
-  left = within-drop (2 ^ 24) (l .before .args .t3) (l .loop .i) (l .before .pre .2)
+  left = within-drop (2 ^ 24) (l .loop .i) (l .before .args .t3) (l .before .pre .2)
 
   long : length (drop (l .loop .i) (l .before .args .t3)) ≤ 8
   long = simp length-drop (omega (arith, eight (l .before)))

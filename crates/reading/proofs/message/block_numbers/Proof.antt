@@ -8,8 +8,9 @@ use borrow.Author.Needs.{needs}
 use Rattle.e8.specs.Energy.{Within}
 use Rattle.e8.specs.Lattice.{part}
 use Rattle.e8.specs.Rows.{ints, reduced}
+use Rattle.e8.proofs.Within.{within-part}
 use Rattle.frames.specs.Reading.{quotients}
-use Rattle.reading.proofs.Same.{within-part, part-is}
+use Rattle.reading.proofs.Same.{part-is}
 use Rattle.reading.proofs.Rows.{quotients-part, quotients-within}
 use Rattle.reading.proofs.message.block_numbers.Statement.{statement}
 use Rattle.reading.proofs.message.block_numbers.Tie as tie

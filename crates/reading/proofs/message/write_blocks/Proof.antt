@@ -14,12 +14,12 @@ use Rattle.frames.specs.Kind.{levels, blocks, levelBits, messageBits}
 use Rattle.frames.specs.Message.{widths}
 use Rattle.frames.specs.Reading.{quotients, allDigits, blockMessages}
 use Rattle.frames.proofs.Frame.{ints-at, quotients-length}
-use Rattle.frames.proofs.Rows.{shape}
+use Rattle.frames.proofs.Rows.{shape, block-room}
 use Rattle.frames.proofs.Bounds.{few-levels}
 use Rattle.kind_table.proofs.Each.{size, message-small}
 use Rattle.reading.specs.Written.{Written}
 use Rattle.reading.proofs.Writing.{written-none}
-use Rattle.reading.proofs.Pieces.{block-written, block-room, block-more}
+use Rattle.reading.proofs.Pieces.{block-written, block-more}
 use Rattle.reading.proofs.message.write_blocks.Statement.{statement}
 use Rattle.reading.proofs.message.write_blocks.Tie as tie
 
@@ -50,7 +50,7 @@ module _ (c : tie.In-loop Inv-loop μ-loop) where
   inside = omega (arith, s .pre .3)
 
   room : c .before .loop .from + 8 * b ≤ messageBits k b
-  room = omega (arith, block-room k b j (s .pre .0) (s .pre .1) inside, c .before .loop .inv .1)
+  room = omega (arith, block-room k b j (s .pre .0) inside, c .before .loop .inv .1)
 
   few : messageBits k b ≤ 160
   few = message-small k b (s .pre .0) (s .pre .2)

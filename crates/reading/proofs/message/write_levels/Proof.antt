@@ -14,7 +14,7 @@ use Rattle.frames.specs.Reading.{levelMessage, levelMessages}
 use Rattle.kind_table.proofs.Each.{size, bits-row}
 use Rattle.reading.specs.Written.{Written}
 use Rattle.reading.specs.Holding.{HoldsLevels}
-use Rattle.reading.proofs.Words.{degree-fits}
+use Rattle.frames.proofs.Rows.{degree-fits}
 use Rattle.reading.proofs.Writing.{written-none}
 use Rattle.reading.proofs.Pieces.{level-written, level-end, level-room, level-more, levels-all}
 use Rattle.reading.proofs.message.write_levels.Statement.{statement}

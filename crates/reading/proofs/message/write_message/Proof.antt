@@ -6,20 +6,11 @@ use native.Mathlib.Omega.{arith}
 use lib.ListN.{length, length-set}
 use Rattle.e8.proofs.Within.{within-to}
 use Rattle.frames.specs.Kind.{levelBits, messageBits, messageBytes}
-use Rattle.frames.proofs.Rows.{grade-low, grade-high}
+use Rattle.frames.proofs.Rows.{bytes-hold, levels-hold, grade-low, grade-high}
 use Rattle.frames.proofs.Refusals.{range-within}
 use Rattle.reading.proofs.Pieces.{some-byte, message-written}
 use Rattle.reading.proofs.message.write_message.Statement.{statement}
 use Rattle.reading.proofs.message.write_message.Tie as tie
-
--- the bytes hold the bits
-bytes-hold : (k b : ℕ) → messageBits k b ≤ 8 * messageBytes k b
-unfolding messageBytes
-bytes-hold k b = omega arith
-
-levels-hold : (k b : ℕ) → levelBits k ≤ 8 * messageBytes k b
-unfolding messageBits
-levels-hold k b = omega (arith, bytes-hold k b)
 
 module _ (c : tie.Start) where
   abbrev out : List ℕ

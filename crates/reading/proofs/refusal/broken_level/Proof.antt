@@ -14,7 +14,8 @@ use Rattle.frames.specs.Reading.{broken}
 use Rattle.frames.proofs.Bounds.{few-levels}
 use Rattle.kind_table.proofs.Each.{size}
 use Rattle.reading.specs.Holding.{HoldsLevels}
-use Rattle.reading.proofs.Words.{held-belongs, degree-fits, number-at, broken-at, whole-at, no-more}
+use Rattle.frames.proofs.Rows.{degree-fits}
+use Rattle.reading.proofs.Words.{held-belongs, number-at, broken-at, whole-at, no-more}
 use Rattle.reading.proofs.refusal.broken_level.Statement.{statement}
 use Rattle.reading.proofs.refusal.broken_level.Tie as tie
 

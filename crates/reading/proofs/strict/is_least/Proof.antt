@@ -11,9 +11,10 @@ use borrow.Author.Tests.{not-true, not-false}
 use Rattle.e8.specs.Energy.{Within}
 use Rattle.e8.specs.Lattice.{part}
 use Rattle.e8.specs.Least.{leastBlock, leastFrame}
+use Rattle.e8.proofs.Within.{within-part}
 use Rattle.frames.specs.Reading.{sameFrame}
 use Rattle.frames.proofs.Frame.{part-length}
-use Rattle.reading.proofs.Same.{leastFrom, least-first, not-least, least-here, least-all, within-part, part-is}
+use Rattle.reading.proofs.Same.{leastFrom, least-first, not-least, least-here, least-all, part-is}
 use Rattle.reading.proofs.strict.is_least.Statement.{statement}
 use Rattle.reading.proofs.strict.is_least.Tie as tie
 

@@ -15,9 +15,9 @@ use Rattle.reed_muller.specs.Message.{messageBit}
 use Rattle.reed_muller.proofs.Parity.{message-small}
 use Rattle.e8.specs.Rows.{ints}
 use Rattle.frames.specs.Message.{widths, number, numbers}
-use Rattle.frames.proofs.Numbers.{total}
+use Rattle.frames.proofs.Numbers.{total, total-widths}
 use Rattle.sending.proofs.Bits.{number-small, number-held}
-use Rattle.sending.proofs.Block.{numbers-at, total-suc, total-le, ints-more, ints-none, width-small, widths-total, scaled-small}
+use Rattle.sending.proofs.Block.{numbers-at, total-suc, total-le, ints-more, ints-none, width-small, scaled-small}
 use Rattle.sending.proofs.leader.block.Statement.{statement}
 use Rattle.sending.proofs.leader.block.Tie as tie
 
@@ -55,7 +55,7 @@ fit c =
     let b = s .args .grade in
     let lt : a .loop .c < 8 = c .before .loop-test .taken in record {
       narrow = omega (arith, c .width .ensures, width-small b (a .loop .c) (s .pre .1) lt);
-      inside = omega (arith, c .width .ensures, a .loop .inv .1, total-suc (widths b) (a .loop .c) lt, total-le (widths b) (suc (a .loop .c)), widths-total b (s .pre .0));
+      inside = omega (arith, c .width .ensures, a .loop .inv .1, total-suc (widths b) (a .loop .c) lt, total-le (widths b) (suc (a .loop .c)), total-widths b (s .pre .0));
     }
 
 -- the number that is taken, and 2^a times it

@@ -8,18 +8,17 @@ use Rattle.reed_muller.specs.Level.{codeword, dimension}
 use Rattle.reed_muller.specs.Message.{messageBit}
 use Rattle.reed_muller.proofs.Order.{dimension-small}
 use Rattle.frames.specs.Kind.{isKind, degrees, levels as levels-of, levelBits}
-use Rattle.frames.proofs.Rows.{shape}
+use Rattle.frames.proofs.Rows.{degree-fits}
 use Rattle.frames.proofs.Bounds.{few-levels}
 use Rattle.kind_table.proofs.Each.{size, bits-row}
-use Rattle.sending.proofs.Stack.{Held, degree-fits, some-level, one-level, two-levels}
+use Rattle.sending.proofs.Stack.{Held, some-level, one-level, two-levels}
 use borrow.Author.Needs.{needs}
 use Rattle.sending.proofs.leader.codewords.Statement.{statement}
 use Rattle.sending.proofs.leader.codewords.Tie as tie
 
 -- the degree of a level is at most m
 fits : (k i r : ℕ) → isKind k ≡ true → i < levels-of k → r ≡ getD (degrees k) i 0 → r ≤ k
-unfolding levels-of
-fits k i r kind h e = subst (λ (n : ℕ). n ≤ k) (sym e) (degree-fits k (degrees k) (shape k kind .fit) i h)
+fits k i r kind h e = subst (λ (n : ℕ). n ≤ k) (sym e) (degree-fits k kind i h)
 
 level-bits-requires : tie.Need-level-bits-requires
 level-bits-requires c κs = search needs
