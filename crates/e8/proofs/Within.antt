@@ -1,11 +1,15 @@
--- Frames whose coordinates are bounded in size: a larger bound, each coordinate, parts, and the energy. Assumes nothing.
+-- Frames whose coordinates are bounded in size: a larger bound, each coordinate, parts, the test, and the energy. Assumes nothing.
+use mathlib.Core.Path.{_≡_, refl, sym}
+use mathlib.Core.Bool.{Bool, true, false, _&&_, true≢false}
 use mathlib.Core.List.{List, [], _∷_}
 use Prim.Native.Nat.{ℕ, zero, suc, _+_, _*_, _≤_, _<_}
 use native.Mathlib.Nat.{mul-le-mul}
 use native.Mathlib.Omega.{arith}
+use borrow.Author.Tests.{leb-true, le-leb}
+use lib.Dec.{leb}
 use lib.ListN.{length, getD, take, drop}
 use lib.IntN.{ℤ, pos, natAbs}
-use Rattle.e8.specs.Energy.{sq, energy, Within}
+use Rattle.e8.specs.Energy.{sq, energy, Within, isWithin}
 use Rattle.e8.specs.Lattice.{part}
 
 pub within-to : (A B : ℕ) (xs : List ℤ) → A ≤ B → Within A xs → Within B xs
@@ -34,6 +38,21 @@ within-drop B (suc n) (z ∷ xs) h = within-drop B n xs (h .1)
 
 pub within-part : (B j : ℕ) (xs : List ℤ) → Within B xs → Within B (part j xs)
 within-part B j xs h = within-take B 8 (drop (8 * j) xs) (within-drop B (8 * j) xs h)
+
+-- by the test
+pub test-within : (B : ℕ) (xs : List ℤ) → isWithin B xs ≡ true → Within B xs
+unfolding isWithin
+test-within B [] e = tt
+test-within B (z ∷ xs) e = let t = both (leb (natAbs z) B) (isWithin B xs) e in (leb-true (natAbs z) B (t .0), test-within B xs (t .1))
+  where
+    both : (s t : Bool) → (s && t) ≡ true → (s ≡ true) × (t ≡ true)
+    both true t e = (refl, e)
+    both false t e = absurd (true≢false (sym e))
+
+pub within-test : (B : ℕ) (xs : List ℤ) → Within B xs → isWithin B xs ≡ true
+unfolding isWithin
+within-test B [] h = refl
+within-test B (z ∷ xs) h = rw (le-leb (natAbs z) B (h .0)) (within-test B xs (h .1))
 
 pub energy-within : (B : ℕ) (xs : List ℤ) → Within B xs → energy xs ≤ length xs * (B * B)
 unfolding energy sq

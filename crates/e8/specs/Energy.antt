@@ -1,6 +1,8 @@
 -- The energy of an integer frame, the squared distance of two, and the size of coordinates (document 01, "Shaping"). Clients cite all of it. Assumes nothing.
+use mathlib.Core.Bool.{Bool, true, _&&_}
 use mathlib.Core.List.{List, [], _∷_}
 use Prim.Native.Nat.{ℕ, _+_, _*_, _≤_}
+use lib.Dec.{leb}
 use lib.IntN.{ℤ, _-ℤ_, natAbs}
 
 -- the square of an integer
@@ -22,3 +24,8 @@ distance (x ∷ xs) (y ∷ ys) = sq (x -ℤ y) + distance xs ys
 abbrev pub Within : ℕ → List ℤ → Type 0
 Within B [] = Unit {0}
 Within B (z ∷ zs) = (natAbs z ≤ B) × Within B zs
+
+-- the same as a test
+unfoldable pub isWithin : ℕ → List ℤ → Bool
+isWithin B [] = true
+isWithin B (z ∷ zs) = leb (natAbs z) B && isWithin B zs

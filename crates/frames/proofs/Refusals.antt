@@ -6,12 +6,13 @@ use mathlib.Core.Bool.{Bool, true, false, true≢false}
 use mathlib.Core.List.{List, [], _∷_}
 use native.Mathlib.Nat.{zero-add}
 use native.Mathlib.Omega.{arith}
-use lib.Dec.{eqb, leb}
+use lib.Dec.{eqb}
 use lib.ListN.{length, getD}
-use lib.IntN.{ℤ, pos, negsuc, natAbs}
-use borrow.Author.Tests.{eqb-true, eq-eqb, leb-true, le-leb}
+use lib.IntN.{ℤ, pos, negsuc}
+use borrow.Author.Tests.{eqb-true, eq-eqb}
 use Rattle.reed_muller.specs.Level.{belongs}
 use Rattle.e8.specs.Energy.{Within}
+use Rattle.e8.proofs.Within.{test-within, within-test}
 use Rattle.frames.specs.Kind.{isKind, degrees, levels, messageBytes}
 use Rattle.frames.specs.Frame.{levelWord, InCodingSet}
 use Rattle.frames.specs.Sending.{isGrade, unless}
@@ -65,13 +66,11 @@ frame-same (x ∷ f) = rw (number-same x) (frame-same f)
 
 pub range-within : (f : List ℤ) → inRange f ≡ true → Within 1048576 f
 unfolding inRange
-range-within [] e = tt
-range-within (z ∷ f) e = let t = and-both (leb (natAbs z) 1048576) (inRange f) e in (leb-true (natAbs z) 1048576 (t .0), range-within f (t .1))
+range-within f e = test-within 1048576 f e
 
 pub within-range : (f : List ℤ) → Within 1048576 f → inRange f ≡ true
 unfolding inRange
-within-range [] h = refl
-within-range (z ∷ f) h = rw (le-leb (natAbs z) 1048576 (h .0)) (within-range f (h .1))
+within-range f h = within-test 1048576 f h
 
 -- ---- the levels
 

@@ -3,13 +3,13 @@
 use Prim.Native.Nat.{ℕ, zero, suc, _+_, _-_, _/_, _%_, _^_}
 use mathlib.Core.Bool.{Bool, true, false, _&&_, cond}
 use mathlib.Core.List.{List, [], _∷_, _++_, map}
-use lib.Dec.{eqb, leb}
+use lib.Dec.{eqb}
 use lib.ListN.{length, getD}
-use lib.IntN.{ℤ, pos, negsuc, natAbs}
+use lib.IntN.{ℤ, pos, negsuc}
 use lib.Signed.{shrZ}
 use Rattle.reed_muller.specs.Level.{order, dimension, backwards, belongs, table}
 use Rattle.reed_muller.specs.Message.{bytesOf}
-use Rattle.e8.specs.Energy.{energy}
+use Rattle.e8.specs.Energy.{energy, isWithin}
 use Rattle.e8.specs.Lattice.{part}
 use Rattle.e8.specs.Rows.{reduced}
 use Rattle.frames.specs.Kind.{isKind, degrees, levels, blocks, messageBytes}
@@ -78,8 +78,8 @@ sameFrame (x ∷ f) (y ∷ g) = sameNumber x y && sameFrame f g
 
 -- every coordinate is from −1,048,576 to 1,048,576
 unfoldable pub inRange : List ℤ → Bool
-inRange [] = true
-inRange (z ∷ f) = leb (natAbs z) 1048576 && inRange f
+unfolding isWithin
+inRange f = isWithin 1048576 f
 
 -- the numbers for a broken level 0 and a broken level 1
 abbrev pub brokenNumber : ℕ → ℕ

@@ -1,5 +1,4 @@
 pub mod Halves
-pub mod Range
 pub mod Words
 pub mod Same
 pub mod Writing

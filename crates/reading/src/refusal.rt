@@ -12,30 +12,6 @@ ghost use Rattle.frames.specs.Sending.{unless};
 ghost use Rattle.frames.specs.Reading.{inRange, broken, openRefusal};
 ghost use Rattle.reading.specs.Holding.{HoldsLevels};
 
-// 1 for a coordinate beyond the ends of the open reading, 0 for one within them.
-pub fn far(z: i32) -> u32
-    ensures { λ r. ⌜ r ≡ unless (leb (natAbs z) 1048576) 1 0 ⌝ }
-{
-    if z < -1048576 {
-        return 1;
-    }
-    if 1048576 < z { 1 } else { 0 }
-}
-
-// Whether every coordinate is within the ends of the open reading. No coordinate ends the loop, so that several are tested at once.
-pub fn in_range(frame: &[i32]) -> bool
-    ensures { λ r. ⌜ r ≡ inRange (now (frame .entry)) ⌝ }
-{
-    let mut out: u32 = 0;
-    let mut p: usize = 0;
-    while p < frame.len() {
-        let z = frame[p];
-        out = out | far(z);
-        p += 1;
-    }
-    out == 0
-}
-
 // The number of the first level that is not a codeword, 0 where each one is: of any frame whose levels are held.
 pub fn broken_level(kind: u8, words: &[u64]) -> u8
     requires { ⌜ (isKind kind ≡ true) × (levels kind ≤ length (now words)) ⌝ }
@@ -70,7 +46,7 @@ pub fn open_refusal(kind: u8, grade: u8, frame: &[i32], n: usize, words: &mut [u
     if n != kind_table::message_bytes(kind, grade as usize) {
         return 3;
     }
-    if !in_range(frame) {
+    if !shaping::within(frame, 1048576) {
         return 6;
     }
     level_words(kind, frame, words);

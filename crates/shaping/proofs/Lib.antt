@@ -1,5 +1,6 @@
 pub mod Size
 pub mod Filled
+pub mod Range
 pub mod Passing
 pub mod Halving
 pub mod Figures

@@ -4,7 +4,7 @@ ghost use Prim.Native.Nat.{_+_, _*_, _^_, _<_, _≤_};
 ghost use lib.IntN.{pos, natAbs};
 ghost use lib.ListN.{length};
 ghost use Rattle.integers.specs.Integer.{modZ};
-ghost use Rattle.e8.specs.Energy.{sq, energy as squares, Within};
+ghost use Rattle.e8.specs.Energy.{sq, energy as squares, Within, isWithin};
 
 // ---- a part of the lent coordinates
 
@@ -60,6 +60,39 @@ pub fn store(x: [i32; 8], part: &mut [i32])
     }
 }
 
+// ---- the range
+
+ghost use Prim.Native.Nat.{ℕ};
+ghost use mathlib.Core.Bool.{cond};
+ghost use lib.Dec.{leb};
+
+// 1 for a coordinate over the bound in size, 0 for any other.
+fn far(z: i32, bound: i32) -> u32
+    requires { ⌜ natAbs bound ≤ 2 ^ 30 ⌝ }
+    ensures { λ r. ⌜ ((n : ℕ) → bound ≡ pos n → r ≡ cond (leb (natAbs z) n) 0 1) ⌝ }
+{
+    if z < 0 - bound {
+        return 1;
+    }
+    if bound < z { 1 } else { 0 }
+}
+
+// Whether every coordinate is at most as large as the bound. No coordinate ends the loop, so that several are tested at once.
+pub fn within(part: &[i32], bound: u32) -> bool
+    requires { ⌜ bound ≤ 2 ^ 30 ⌝ }
+    ensures { λ r. ⌜ r ≡ isWithin bound (now (part .entry)) ⌝ }
+{
+    let b = bound as i32;
+    let mut out: u32 = 0;
+    let mut q: usize = 0;
+    while q < part.len() {
+        let z = part[q];
+        out = out | far(z, b);
+        q += 1;
+    }
+    out == 0
+}
+
 // ---- remainders
 
 ghost use lib.IntN.{_-ℤ_};
@@ -90,8 +123,6 @@ fn remainder(k: u32, z: i32) -> i32
 
 // ---- the least member of a class
 
-ghost use Prim.Native.Nat.{ℕ};
-ghost use mathlib.Core.Bool.{cond};
 ghost use lib.IntN.{_+ℤ_, _*ℤ_};
 ghost use lib.Signed.{ltZ, shrZ};
 ghost use Rattle.e8.specs.Least.{lowered as less, leastBlock};

@@ -8,10 +8,10 @@ use lib.IntN.{ℤ}
 use lib.ListN.{length}
 use borrow.Author.Needs.{needs}
 use borrow.Author.Tests.{not-true, not-false, eq-eqb, ne-eqb, le-leb, lt-leb}
-use Rattle.e8.specs.Energy.{Within}
+use Rattle.e8.specs.Energy.{Within, isWithin}
 use Rattle.e8.specs.Least.{leastBlock}
-use Rattle.block.specs.Shapeable.{isWithin, shapeable}
-use Rattle.block.proofs.Range.{range-within}
+use Rattle.e8.proofs.Within.{test-within}
+use Rattle.block.specs.Shapeable.{shapeable}
 use Rattle.block.proofs.block_least.Statement.{statement}
 use Rattle.block.proofs.block_least.Tie as tie
 
@@ -64,24 +64,24 @@ returns-2 c = let s = c .before .before in refused s (by-block (k s) (x s) (leng
 returns-3 : tie.Need-returns-3
 returns-3 c = let s = c .before .before .before in refused s (by-lent (k s) (x s) (length (lent s)) (c .before .before .if1 .left) (c .before .if2 .left) (c .if3 .taken))
 
-near-requires : tie.Need-near-requires
-near-requires c κs = search needs
+within-requires : tie.Need-within-requires
+within-requires c κs = omega arith
 
 -- past the other tests, that of the range decides
-abbrev start : tie.After-near → tie.Start
+abbrev start : tie.After-within → tie.Start
 start c = c .before .before .before .before
 
-range-decides : (c : tie.After-near) → answer (start c) ≡ isWithin (2 ^ 24) (x (start c))
+range-decides : (c : tie.After-within) → answer (start c) ≡ isWithin (2 ^ 24) (x (start c))
 range-decides c =
     let s = start c in
     by-range (k s) (x s) (length (lent s)) (c .before .before .before .if1 .left) (c .before .before .if2 .left) (c .before .if3 .left)
 
 returns-4 : tie.Need-returns-4
-returns-4 c = let n = c .before in refused (start n) (range-decides n ∙ sym (n .near .ensures) ∙ not-true (n .near .result) (c .if4 .taken))
+returns-4 c = let n = c .before in refused (start n) (range-decides n ∙ sym (n .within .ensures) ∙ not-true (n .within .result) (c .if4 .taken))
 
 -- every coordinate is in the range
 passed : (c : tie.Else4) → isWithin (2 ^ 24) (x (start (c .before))) ≡ true
-passed c = let n = c .before in sym (n .near .ensures) ∙ not-false (n .near .result) (c .if4 .left)
+passed c = let n = c .before in sym (n .within .ensures) ∙ not-false (n .within .result) (c .if4 .left)
 
 load-requires : tie.Need-load-requires
 load-requires c κs = search needs
@@ -89,7 +89,7 @@ load-requires c κs = search needs
 least-requires : tie.Need-least-requires
 least-requires c κs =
     let e = c .before in
-    (omega arith, subst (Within (2 ^ 24)) (sym (c .load .ensures)) (range-within (2 ^ 24) (x (start (e .before))) (passed e)))
+    (omega arith, subst (Within (2 ^ 24)) (sym (c .load .ensures)) (test-within (2 ^ 24) (x (start (e .before))) (passed e)))
 
 store-requires : tie.Need-store-requires
 store-requires c κs = search needs
@@ -112,7 +112,7 @@ block-least-spec =
     returns
     returns-2
     returns-3
-    near-requires
+    within-requires
     returns-4
     load-requires
     least-requires

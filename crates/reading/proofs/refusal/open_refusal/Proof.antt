@@ -41,7 +41,8 @@ p3 : (c : tie.Else3) → start3 c .args .n ≡ messageBytes (start3 c .args .kin
 p3 c = c .if3 .left ∙ c .before .message-bytes .ensures
 
 p6 : (c : tie.Else4) → inRange (start4 c .args .frame .now) ≡ true
-p6 c = sym (c .before .in-range .ensures) ∙ not-false (c .before .in-range .result) (c .if4 .left)
+unfolding inRange
+p6 c = sym (c .before .within .ensures) ∙ not-false (c .before .within .result) (c .if4 .left)
 
 -- ---- the definition, as far as the tests go
 
@@ -86,16 +87,17 @@ returns-3 c =
     let a = start2 e .args in
     (by-3 (a .kind) (a .grade) (a .n) (a .frame .now) (good d) (p4 e) (λ q. c .if3 .taken (q ∙ sym (c .before .message-bytes .ensures))), λ z. absurd (omega (arith, z)))
 
-in-range-requires : tie.Need-in-range-requires
-in-range-requires c κs = search needs
+within-requires : tie.Need-within-requires
+within-requires c κs = omega arith
 
 returns-4 : tie.Need-returns-4
+unfolding inRange
 returns-4 c =
     let h = c .before .before in
     let e = h .before .before in
     let d = e .before .before in
     let a = start3 h .args in (
-      by-6 (a .kind) (a .grade) (a .n) (a .frame .now) (good d) (p4 e) (p3 h) (sym (c .before .in-range .ensures) ∙ not-true (c .before .in-range .result) (c .if4 .taken)),
+      by-6 (a .kind) (a .grade) (a .n) (a .frame .now) (good d) (p4 e) (p3 h) (sym (c .before .within .ensures) ∙ not-true (c .before .within .result) (c .if4 .taken)),
       λ z. absurd (omega (arith, z)),
     )
 
@@ -139,7 +141,7 @@ open-refusal-spec =
     returns-2
     message-bytes-requires
     returns-3
-    in-range-requires
+    within-requires
     returns-4
     level-words-requires
     broken-level-requires
