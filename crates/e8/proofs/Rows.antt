@@ -15,7 +15,7 @@ use Rattle.e8.specs.Lattice.{sum, Each, moved, InBlock}
 use Rattle.e8.specs.Least.{lowered}
 use Rattle.e8.specs.Rows.{ints, remainders, reduced, Below, Ranged}
 use Rattle.e8.proofs.Points.{to-four, of-four}
-use Rattle.e8.proofs.Group.{block-trans, block-sym, block-const}
+use Rattle.e8.proofs.Group.{block-trans, block-const}
 
 -- ---- in range
 
@@ -150,8 +150,3 @@ ranged-unique h (s ∷ s₁ ∷ ss) (t ∷ t₁ ∷ ts) a b i = go (i .ws) (i .l
                   (omega arith) (cc),
             )
         go′ true v r = absurd (omega (arith, v .0, ap (λ (z : ℤ). modZ z 2) (r .0)))
-
--- so each class has one message in range
-pub reduced-only : (h j : ℕ) (xs : List ℤ) (ts : List ℕ) → 0 < h → length xs ≡ 4 * suc j → Ranged h ts → InBlock h xs (ints ts) → ts ≡ reduced h xs
-reduced-only h j xs ts p n b i = ranged-unique h (reduced h xs) ts (reduced-ranged h xs p (omega arith)) b
-    (block-trans h (ints (reduced h xs)) xs (ints ts) (block-sym h xs (ints (reduced h xs)) (reduced-in h j xs p n)) i)

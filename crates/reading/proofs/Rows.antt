@@ -9,7 +9,7 @@ use lib.Pow.{pow-pos}
 use lib.IntN.{ℤ, pos, negsuc, _+ℤ_, _*ℤ_, natAbs}
 use lib.ListN.{length, take, drop, getD, length-append, length-take, length-drop}
 use lib.Signed.{shrZ}
-use Rattle.reed_muller.specs.Level.{dimension, order, backwards}
+use Rattle.reed_muller.specs.Level.{dimension}
 use Rattle.reed_muller.proofs.Table.{length-table}
 use Rattle.e8.specs.Energy.{Within}
 use Rattle.e8.specs.Lattice.{part}

@@ -9,13 +9,12 @@ use native.Mathlib.Omega.{arith}
 use lib.ListN.{length, drop, getD}
 use lib.Seq.{drop-cons}
 use lib.IntN.{ℤ, pos, negsuc, _+ℤ_, _-ℤ_, _*ℤ_, natAbs}
-use lib.Signed.{ltZ, shrZ}
+use lib.Signed.{shrZ}
 use mir.Syntax.{w32}
 use mir.Val.{SFits}
 use Rattle.integers.proofs.Zed.{E, `_, #_, _⊕_, _⊖_, _⊗_, P, N, ⟦_⟧, eq?, up, down, sfits!, abs-ud}
 use Rattle.e8.specs.Energy.{sq, energy, Within}
 use Rattle.e8.specs.Least.{lowered}
-use Rattle.shaping.specs.Rounded.{across}
 
 pub fits : (z : ℤ) → natAbs z ≤ 2 ^ 30 → SFits w32 z
 fits z h = sfits! w32 (` z) (omega (arith, abs-ud z)) (omega (arith, abs-ud z))
@@ -73,10 +72,3 @@ shr-abs (negsuc n) m B b = omega (arith, div-le-self n m)
 pub where-abs : (t : Bool) (x : ℤ) (B : ℕ) → natAbs x ≤ B → natAbs (cond t x (pos 0)) ≤ B
 where-abs true x B b = b
 where-abs false x B b = omega arith
-
-pub across-size : (m c : ℤ) (A B : ℕ) → natAbs m ≤ A → natAbs c ≤ B → natAbs (across m c) ≤ A + B
-across-size m c A B a b = go (ltZ c (pos 0))
-  where
-    go : (t : Bool) → natAbs (cond t (c +ℤ m) (c -ℤ m)) ≤ A + B
-    go true = abs! (` c ⊕ ` m) (A + B) (omega (arith, abs-ud c, abs-ud m)) (omega (arith, abs-ud c, abs-ud m))
-    go false = abs! (` c ⊖ ` m) (A + B) (omega (arith, abs-ud c, abs-ud m)) (omega (arith, abs-ud c, abs-ud m))
