@@ -18,9 +18,10 @@ use Rattle.e8.specs.Energy.{Within}
 use Rattle.e8.proofs.Within.{within-all}
 use Rattle.e8.specs.Lattice.{part}
 use Rattle.e8.specs.Rows.{ints}
+use Rattle.e8.proofs.Rows.{ints-length}
 use Rattle.frames.specs.Kind.{isKind, degrees, levels, blocks, levelBits}
 use Rattle.frames.specs.Message.{widths, numbers, blockNumbers, stacked, coordinate, leader}
-use Rattle.frames.proofs.Frame.{at, ints-at, ints-length, part-length, part-at}
+use Rattle.frames.proofs.Frame.{at, ints-at, part-length, part-at}
 use Rattle.frames.proofs.One.{leader-length, leader-at}
 use Rattle.frames.proofs.Rows.{shape}
 use Rattle.frames.proofs.Numbers.{total}

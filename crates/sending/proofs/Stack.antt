@@ -1,4 +1,4 @@
--- The levels of a kind: their degrees, the stack of their codewords, and codewords of bits that are held in a number. Assumes nothing.
+-- The levels of a kind: the stack of their codewords, and codewords of bits that are held in a number. Assumes nothing.
 use Prim.Native.Nat.{ℕ, _+_, _*_, _/_, _%_, _^_, _≤_, _<_}
 use mathlib.Core.Path.{_≡_, ap, _∙_}
 use mathlib.Core.Bool.{true}

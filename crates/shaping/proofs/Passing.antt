@@ -23,7 +23,7 @@ use Rattle.e8.proofs.Cent.{cent-range, Range}
 use Rattle.e8.proofs.Points.{rest}
 use Rattle.e8.proofs.Best.{best-head, parts-differ, best-length}
 use Rattle.e8.proofs.Rounding.{Parity, parity-none, parity-more, parity-rest, Turned, turned, Rounding, round-one, round-here, round-later}
-use Rattle.shaping.proofs.Size.{lowered-length}
+use Rattle.e8.proofs.Rows.{lowered-length}
 use Rattle.shaping.specs.Rounded.{across, sooner, rankOf, rounded, off, highest}
 
 -- ---- sizes

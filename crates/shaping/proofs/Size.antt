@@ -1,5 +1,5 @@
 -- Coordinates of bounded size: what fits an i32, and sums of squares
-use mathlib.Core.Path.{_≡_, refl, ap}
+use mathlib.Core.Path.{_≡_, refl}
 use mathlib.Core.Bool.{Bool, true, false, cond}
 use mathlib.Core.List.{List, [], _∷_}
 use Prim.Native.Nat.{ℕ, zero, suc, _+_, _*_, _^_, _<_, _≤_}
@@ -40,10 +40,6 @@ unfolding energy
 energy-drop xs i h = rw (drop-cons xs i (pos 0) h, add-one)
 
 -- ---- a block with one number off each coordinate
-
-pub lowered-length : (h : ℤ) (xs : List ℤ) → length (lowered h xs) ≡ length xs
-lowered-length h [] = refl
-lowered-length h (x ∷ xs) = ap suc (lowered-length h xs)
 
 pub lowered-at : (h : ℤ) (xs : List ℤ) (i : ℕ) → i < length xs → getD (lowered h xs) i (pos 0) ≡ getD xs i (pos 0) -ℤ h
 lowered-at h [] i k = absurd (omega arith)
