@@ -3,15 +3,12 @@ use mathlib.Core.Path.{_≡_, refl, sym, _∙_, ap, subst, subst₂}
 use mathlib.Core.Logic.{inl, inr}
 use mathlib.Core.List.{List, [], _∷_, _++_, append-nil, append-assoc}
 use Prim.Native.Nat.{ℕ, zero, suc, _+_, _*_, _-_, _<_, _≤_}
-use native.Mathlib.Decide.{decLt}
 use native.Mathlib.Omega.{arith}
-use lib.ListN.{length, take, drop, getD, length-take, length-drop, length-append, take-append-drop}
-use lib.Seq.{take-all, drop-drop, take-at, drop-at, getD-take, getD-drop}
-use lib.IntN.{ℤ, pos, negsuc, negℤ, _-ℤ_, _*ℤ_, natAbs}
-use lib.Signed.{_≤ℤ_, _<ℤ_}
-use Rattle.integers.proofs.Zed.{`_, #_, _⊖_, _⊗_, ⊝_, eq!, le!, lt! }
+use lib.ListN.{length, take, drop, length-take, length-drop, length-append, take-append-drop}
+use lib.Seq.{drop-drop, take-at, drop-at}
+use lib.IntN.{ℤ, pos, negsuc, natAbs}
 use Rattle.e8.specs.Energy.{energy, Within}
-use Rattle.e8.specs.Lattice.{moved, InBlock, part, Differ}
+use Rattle.e8.specs.Lattice.{InBlock, part, Differ}
 use Rattle.e8.specs.Least.{IsLeast, leastBlock, leastFrame}
 use Rattle.e8.proofs.Order.{_≼_, reads-antisym, append-mono}
 use Rattle.e8.proofs.Cent.{Range}
@@ -29,21 +26,6 @@ differ-sym H n xs ys d = record { long = sym (d .long); blocks = λ i h. block-s
 
 pub differ-trans : (H n : ℕ) (xs ys zs : List ℤ) → Differ H n xs ys → Differ H n ys zs → Differ H n xs zs
 differ-trans H n xs ys zs d e = record { long = e .long ∙ d .long; blocks = λ i h. block-trans H (part i xs) (part i ys) (part i zs) (d .blocks i h) (e .blocks i h) }
-
--- ---- coordinates of one class differ by multiples of H
-
--- z is x less a multiple of H
-abbrev pub Step : ℕ → ℤ → ℤ → Type 0
-Step H z x = (w : ℤ) × (z ≡ x -ℤ pos H *ℤ w)
-
-moved-at : (H : ℕ) (xs ws : List ℤ) (p : ℕ) → length ws ≡ length xs → Step H (getD (moved H xs ws) p (pos 0)) (getD xs p (pos 0))
-moved-at H [] ws p l = (pos 0, eq! (# 0) (# 0 ⊖ # H ⊗ # 0) (omega arith))
-moved-at H (x ∷ xs) [] p l = absurd (omega arith)
-moved-at H (x ∷ xs) (w ∷ ws) zero l = (w, refl)
-moved-at H (x ∷ xs) (w ∷ ws) (suc p) l = moved-at H xs ws p (omega arith)
-
-pub block-at : (H : ℕ) (xs zs : List ℤ) → InBlock H xs zs → (p : ℕ) → Step H (getD zs p (pos 0)) (getD xs p (pos 0))
-block-at H xs zs i p = let m = moved-at H xs (i .ws) p (i .long) in (m .0, ap (λ l. getD l p (pos 0)) (i .is) ∙ m .1)
 
 -- ---- one block and the rest
 
@@ -67,32 +49,11 @@ module _ (H n : ℕ) (xs zs : List ℤ) where
       go zero h = a
       go (suc i) h = subst₂ (InBlock H) (part-next i xs) (part-next i zs) (d .blocks i (omega arith))
 
-pub differ-at : (H n : ℕ) (xs zs : List ℤ) → length xs ≡ 8 * n → Differ H n xs zs → (p : ℕ) → Step H (getD zs p (pos 0)) (getD xs p (pos 0))
-differ-at H zero [] [] l d p = (pos 0, eq! (# 0) (# 0 ⊖ # H ⊗ # 0) (omega arith))
-differ-at H zero [] (z ∷ zs) l d p = absurd (omega (arith, d .long))
-differ-at H zero (x ∷ xs) zs l d p = absurd (omega arith)
-differ-at H (suc n) xs zs l d p = go (decLt p 8) (block-at H (take 8 xs) (take 8 zs) (differ-first H n xs zs d) p)
-    (differ-at H n (drop 8 xs) (drop 8 zs) (simp length-drop (omega arith)) (differ-rest H n xs zs d) (p - 8))
-  where
-    go : Dec (p < 8) → Step H (getD (take 8 zs) p (pos 0)) (getD (take 8 xs) p (pos 0)) → Step H (getD (drop 8 zs) (p - 8) (pos 0)) (getD (drop 8 xs) (p - 8) (pos 0)) → Step H (getD zs p (pos 0)) (getD xs p (pos 0))
-    go (yes h) a b = subst₂ (Step H) (getD-take 8 zs p (pos 0) h) (getD-take 8 xs p (pos 0) h) a
-    go (no h) a b = subst₂ (Step H) (far zs h) (far xs h) b
-      where
-        far : (l : List ℤ) → (p < 8 → ⊥) → getD (drop 8 l) (p - 8) (pos 0) ≡ getD l p (pos 0)
-        far l h = getD-drop 8 l (p - 8) (pos 0) ∙ ap (λ (k : ℕ). getD l k (pos 0)) {x = 8 + (p - 8)} {y = p} (omega arith)
-
 -- ---- every coordinate
 
 all-append : (P : ℤ → Type 0) (a b : List ℤ) → All P a → All P b → All P (a ++ b)
 all-append P [] b h k = k
 all-append P (z ∷ a) b h k = (h .0, all-append P a b (h .1) k)
-
-all-map : (P Q : ℤ → Type 0) → ((z : ℤ) → P z → Q z) → (zs : List ℤ) → All P zs → All Q zs
-all-map P Q f [] h = tt
-all-map P Q f (z ∷ zs) h = (f z (h .0), all-map P Q f zs (h .1))
-
-range-between : (M : ℕ) (z : ℤ) → Range M z → (negℤ (pos M) ≤ℤ z) × (z <ℤ pos M)
-range-between M z r = (le! (⊝ # M) (` z) (omega (arith, r .low)), lt! (` z) (# M) (omega (arith, r .high)))
 
 range-within : (M : ℕ) (zs : List ℤ) → All (Range M) zs → Within M zs
 range-within M [] h = tt
@@ -157,14 +118,8 @@ module _ (H : ℕ) (pos-H : 0 < H) where
   frame-range zero x = tt
   frame-range (suc n) x = all-append (Range (2 * H)) (leastBlock H (take 8 x)) (leastFrame H n (drop 8 x)) (block-range H pos-H (take 8 x)) (frame-range n (drop 8 x))
 
-  pub leastFrame-range : (n : ℕ) (x : List ℤ) → All (λ z. (negℤ (pos (2 * H)) ≤ℤ z) × (z <ℤ pos (2 * H))) (leastFrame H n x)
-  leastFrame-range n x = all-map (Range (2 * H)) (λ z. (negℤ (pos (2 * H)) ≤ℤ z) × (z <ℤ pos (2 * H))) (range-between (2 * H)) (leastFrame H n x) (frame-range n x)
-
   pub leastFrame-within : (n : ℕ) (x : List ℤ) → Within (2 * H) (leastFrame H n x)
   leastFrame-within n x = range-within (2 * H) (leastFrame H n x) (frame-range n x)
-
-  pub leastBlock-within : (x : List ℤ) → Within (2 * H) (leastBlock H x)
-  leastBlock-within x = range-within (2 * H) (leastBlock H x) (block-range H pos-H x)
 
 -- ---- the blocks of the least frame
 
@@ -175,8 +130,3 @@ leastFrame-snoc H zero x = append-nil (leastBlock H (take 8 x))
 leastFrame-snoc H (suc n) x =
     ap (λ l. leastBlock H (take 8 x) ++ l) (leastFrame-snoc H n (drop 8 x) ∙ ap (λ p. leastFrame H n (drop 8 x) ++ leastBlock H p) (part-next n x))
     ∙ sym (append-assoc (leastBlock H (take 8 x)) (leastFrame H n (drop 8 x)) (leastBlock H (part (suc n) x)))
-
--- a frame of one block
-pub leastFrame-one : (H : ℕ) (x : List ℤ) → length x ≡ 8 → leastFrame H 1 x ≡ leastBlock H x
-unfolding leastFrame
-leastFrame-one H x l = append-nil (leastBlock H (take 8 x)) ∙ ap (leastBlock H) (take-all 8 x (omega arith))

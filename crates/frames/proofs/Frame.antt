@@ -126,10 +126,6 @@ ints-at [] (suc p) = refl
 ints-at (s ∷ l) zero = refl
 ints-at (s ∷ l) (suc p) = ints-at l p
 
-pub ints-length : (l : List ℕ) → length (ints l) ≡ length l
-ints-length [] = refl
-ints-length (s ∷ l) = ap suc (ints-length l)
-
 -- ---- blocks
 
 module _ (f : List ℤ) (n i : ℕ) (long : length f ≡ 8 * n) (h : i < n) where

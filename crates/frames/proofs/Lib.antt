@@ -2,6 +2,7 @@ pub mod Levels
 pub mod Stacked
 pub mod Numbers
 pub mod Frame
+pub mod Lengths
 pub mod Class
 pub mod One
 pub mod Rows

@@ -66,7 +66,7 @@ numbers-agree bit bit′ small small′ (w ∷ ws) from from′ e o h = go (numb
 
 -- ---- the bits determine the numbers
 
-digits-length : (w s : ℕ) → length (digits w s) ≡ w
+pub digits-length : (w s : ℕ) → length (digits w s) ≡ w
 unfolding digits
 digits-length w s = length-table (λ t. s / 2 ^ t % 2) w
 
@@ -74,12 +74,11 @@ digits-at : (w s t : ℕ) → t < w → getD (digits w s) t 0 ≡ s / 2 ^ t % 2
 unfolding digits
 digits-at w s t h = table-at (λ t. s / 2 ^ t % 2) w t h
 
-pub all-length : (ws ss : List ℕ) → Fits ws ss → length (allDigits ws ss) ≡ total ws
+pub all-length : (ws ss : List ℕ) → length ws ≤ length ss → length (allDigits ws ss) ≡ total ws
 unfolding allDigits
-all-length [] [] h = refl
-all-length [] (s ∷ ss) h = absurd h
-all-length (w ∷ ws) [] h = absurd h
-all-length (w ∷ ws) (s ∷ ss) h = length-append (digits w s) (allDigits ws ss) ∙ ap₂ _+_ (digits-length w s) (all-length ws ss (h .1))
+all-length [] ss h = refl
+all-length (w ∷ ws) [] h = absurd (omega arith)
+all-length (w ∷ ws) (s ∷ ss) h = length-append (digits w s) (allDigits ws ss) ∙ ap₂ _+_ (digits-length w s) (all-length ws ss (omega arith))
 
 pub numbers-read : (bit : ℕ → ℕ) (ws ss : List ℕ) (from : ℕ) → Fits ws ss → ((o : ℕ) → o < total ws → bit (from + o) ≡ getD (allDigits ws ss) o 0) → numbers bit from ws ≡ ss
 unfolding numbers number allDigits

@@ -7,7 +7,7 @@ use native.Mathlib.Nat.{mod-lt, mul-le-mul-left, div-add-mod'}
 use native.Mathlib.Decide.{decLt, ℕ-discrete}
 use native.Mathlib.Omega.{arith}
 use lib.Dec.{lit<}
-use lib.ListN.{length, getD, length-append, List·getD-append, List·getD-eq-default}
+use lib.ListN.{length, getD, List·getD-append, List·getD-eq-default}
 use lib.Seq.{getD-append-add}
 use lib.Pow.{pow-pos}
 use lib.IntN.{ℤ, pos, _+ℤ_, _-ℤ_, _*ℤ_}
@@ -19,15 +19,15 @@ use Rattle.reed_muller.proofs.Parity.{message-small, backwards-small}
 use Rattle.reed_muller.proofs.Message.{length-bytes, bits-of-bytes, bytes-of-bits, bit-past, byte-lt}
 use Rattle.e8.specs.Lattice.{InBlock, part}
 use Rattle.e8.specs.Rows.{ints, reduced}
-use Rattle.e8.proofs.Group.{block-length}
-use Rattle.e8.proofs.Rows.{reduced-ranged, reduced-in, ranged-unique}
+use Rattle.e8.proofs.Rows.{ints-length, reduced-length, reduced-ranged, reduced-in, ranged-unique}
 use Rattle.frames.specs.Kind.{degrees, levels, blocks, dimensions, levelBits, messageBits, messageBytes}
 use Rattle.frames.specs.Message.{Message, widths, blockNumbers, stacked, coordinate, leader}
 use Rattle.frames.specs.Frame.{levelWord, InCodingSet, half, SameClass}
 use Rattle.frames.specs.Reading.{levelMessage, levelMessages, quotients, digits, allDigits, blockMessages, readBits, openMessage}
-use Rattle.frames.proofs.Stacked.{Agree, stacked-agree, readLevels, levels-length, stacked-read}
-use Rattle.frames.proofs.Numbers.{total, Fits, numbers-fit, fits-length, numbers-agree, all-length, numbers-read, total-widths, fits-ranged, ranged-fits}
-use Rattle.frames.proofs.Frame.{at, codes-of, messages-of, quotient-at, quotients-length, ints-at, ints-length, part-length, part-at, moved-at, is-moved}
+use Rattle.frames.proofs.Stacked.{Agree, stacked-agree, readLevels, stacked-read}
+use Rattle.frames.proofs.Numbers.{total, Fits, numbers-fit, fits-length, numbers-agree, numbers-read, total-widths, fits-ranged, ranged-fits}
+use Rattle.frames.proofs.Frame.{at, codes-of, messages-of, quotient-at, quotients-length, ints-at, part-length, part-at, moved-at, is-moved}
+use Rattle.frames.proofs.Lengths.{levels-length, blocks-length, read-length}
 use Rattle.frames.proofs.Class.{Shape, half-is, point, point-at, point-long, minus-at}
 use Rattle.frames.proofs.Rows.{bytes-hold}
 
@@ -109,23 +109,16 @@ module _ (c n : ℕ) (v : List ℤ) (lv : length v ≡ 8 * n) where
   in-class j l = reduced-in h 1 (part j v) (pow-pos c) (part-length v n j lv l)
 
   S-length : (j : ℕ) → j < n → length (S j) ≡ 8
-  S-length j l = sym (ints-length (S j)) ∙ block-length h (part j v) (ints (S j)) (in-class j l) ∙ part-length v n j lv l
+  S-length j l = reduced-length h (part j v) ∙ part-length v n j lv l
 
   S-fits : (j : ℕ) → j < n → Fits (widths (suc c)) (S j)
   S-fits j l = ranged-fits c (S j) (S-length j l) (reduced-ranged h (part j v) (pow-pos c) (omega (arith, part-length v n j lv l)))
 
-  S-digits : (j : ℕ) → j < n → length (allDigits (widths (suc c)) (S j)) ≡ 8 * suc c
-  S-digits j l = all-length (widths (suc c)) (S j) (S-fits j l) ∙ total-widths (suc c) (omega arith)
-
   grade-S : (j : ℕ) → reduced (2 ^ (suc c - 1)) (part j v) ≡ S j
   grade-S j = ap (λ (e : ℕ). reduced (2 ^ e) (part j v)) grade
 
-  blocks-length : (i : ℕ) → i ≤ n → length (blockMessages (suc c) i v) ≡ 8 * suc c * i
-  unfolding blockMessages
-  blocks-length zero l = omega arith
-  blocks-length (suc i) l =
-      length-append (blockMessages (suc c) i v) (allDigits (widths (suc c)) (reduced (2 ^ (suc c - 1)) (part i v)))
-      ∙ omega (arith, blocks-length i (omega arith), ap (λ (s : List ℕ). length (allDigits (widths (suc c)) s)) (grade-S i), S-digits i (omega arith))
+  long : (i : ℕ) → i ≤ n → length (blockMessages (suc c) i v) ≡ 8 * suc c * i
+  long i l = blocks-length (suc c) i v (omega arith) (omega arith)
 
   blocks-at : (i : ℕ) → i ≤ n → (j o : ℕ) → j < i → o < 8 * suc c
       → getD (blockMessages (suc c) i v) (8 * suc c * j + o) 0 ≡ getD (allDigits (widths (suc c)) (S j)) o 0
@@ -140,12 +133,12 @@ module _ (c n : ℕ) (v : List ℤ) (lv : length v ≡ 8 * n) where
       B = allDigits (widths (suc c)) (reduced (2 ^ (suc c - 1)) (part i v))
 
       inside : j < i → 8 * suc c * j + o < length A
-      inside k = omega (arith, blocks-length i (omega arith), mul-le-mul-left (8 * suc c) k)
+      inside k = omega (arith, long i (omega arith), mul-le-mul-left (8 * suc c) k)
 
       go : (j < i → o < 8 * suc c → getD A (8 * suc c * j + o) 0 ≡ getD (allDigits (widths (suc c)) (S j)) o 0) → Dec (j ≡ i)
           → getD (A ++ B) (8 * suc c * j + o) 0 ≡ getD (allDigits (widths (suc c)) (S j)) o 0
       go ih (yes e) =
-          ap (λ (m : ℕ). getD (A ++ B) (m + o) 0) (ap (λ (t : ℕ). 8 * suc c * t) e ∙ sym (blocks-length i (omega arith)))
+          ap (λ (m : ℕ). getD (A ++ B) (m + o) 0) (ap (λ (t : ℕ). 8 * suc c * t) e ∙ sym (long i (omega arith)))
           ∙ getD-append-add A B o 0
           ∙ ap (λ (s : List ℕ). getD (allDigits (widths (suc c)) s) o 0) (grade-S i ∙ ap S (sym e))
       go ih (no k) = let q : j < i = omega arith in List·getD-append A B 0 (8 * suc c * j + o) (inside q) ∙ ih q ho
@@ -169,13 +162,10 @@ module _ (k c : ℕ) (shape : Shape k) where
 
     levels-long : length (levelMessages k 0 (degrees k) f) ≡ levelBits k
     unfolding levelBits
-    levels-long = ap length (messages-of k (degrees k) f) ∙ levels-length k (degrees k) (at f)
+    levels-long = levels-length k 0 (degrees k) f
 
-    read-length : length (readBits k b f) ≡ messageBits k b
-    unfolding readBits
-    read-length =
-        length-append (levelMessages k 0 (degrees k) f) (blockMessages b (blocks k) v)
-        ∙ omega (arith, levels-long, blocks-length c (blocks k) v lv (blocks k) (omega arith), bits-are)
+    read-long : length (readBits k b f) ≡ messageBits k b
+    read-long = read-length k b f (shape .whole) (omega arith) (set .long)
 
     read-bits : (i : ℕ) → getD (readBits k b f) i 0 < 2
     unfolding readBits
@@ -192,14 +182,14 @@ module _ (k c : ℕ) (shape : Shape k) where
         go (yes l) = bits-of-bytes (messageBytes k b) bit (λ j l. read-bits j) i l
         go (no n) =
             bit-past (bytesOf (messageBytes k b) bit) i (omega (arith, length-bytes (messageBytes k b) bit))
-            ∙ sym (List·getD-eq-default (readBits k b f) 0 {n = i} (omega (arith, read-length, bytes-hold k b)))
+            ∙ sym (List·getD-eq-default (readBits k b f) 0 {n = i} (omega (arith, read-long, bytes-hold k b)))
 
     pub open-message : Message k b (openMessage k b f)
     unfolding openMessage bytesOf
     open-message = record {
       long = length-bytes (messageBytes k b) (λ i. getD (readBits k b f) i 0);
       each = table-below 256 (byteOf (λ i. getD (readBits k b f) i 0)) (messageBytes k b) (lit< tt) (λ j. byte-lt (λ i. getD (readBits k b f) i 0) j (λ i l. read-bits (8 * j + i)));
-      spare = λ i l. message-bit i ∙ List·getD-eq-default (readBits k b f) 0 {n = i} (omega (arith, read-length));
+      spare = λ i l. message-bit i ∙ List·getD-eq-default (readBits k b f) 0 {n = i} (omega (arith, read-long));
     }
 
     level-bits : (t : ℕ) → t < dimensions k (degrees k) → messageBit (openMessage k b f) (0 + t) ≡ getD (readLevels k (degrees k) (at f)) t 0

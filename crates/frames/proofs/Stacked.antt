@@ -1,12 +1,12 @@
 -- Stacked levels: their bits are codewords, a multiple of 2^a changes none of them, and they are read back. For any levels and any length 2^m.
 -- Assumes nothing.
 use Prim.Native.Nat.{ℕ, suc, _+_, _-_, _*_, _%_, _^_, _<_}
-use mathlib.Core.Path.{_≡_, refl, sym, ap, ap₂, _∙_, subst, fun-ext}
+use mathlib.Core.Path.{_≡_, sym, ap, _∙_, subst, fun-ext}
 use mathlib.Core.List.{List, [], _∷_, _++_}
 use native.Mathlib.Nat.{pow-suc, mod-eq-of-lt}
 use native.Mathlib.Decide.{decLt}
 use native.Mathlib.Omega.{arith}
-use lib.ListN.{length, getD, length-append, List·getD-append}
+use lib.ListN.{length, getD, List·getD-append}
 use lib.Seq.{getD-append-add}
 use lib.Pow.{pow-pos}
 use lib.IntN.{ℤ, pos, _+ℤ_, _-ℤ_, _*ℤ_}
@@ -148,12 +148,6 @@ readLevels m (r ∷ rs) x = levelMessage m r (λ p. modZ (x p) 2) ++ readLevels 
 pub level-length : (m r : ℕ) (v : ℕ → ℕ) → length (levelMessage m r v) ≡ dimension r m
 unfolding levelMessage
 level-length m r v = length-table (λ t. backwards m v (getD (order m) t 0)) (dimension r m)
-
-pub levels-length : (m : ℕ) (rs : List ℕ) (x : ℕ → ℤ) → length (readLevels m rs x) ≡ dimensions m rs
-levels-length m [] x = refl
-levels-length m (r ∷ rs) x =
-    length-append (levelMessage m r (λ p. modZ (x p) 2)) (readLevels m rs (λ p. shrZ (x p) 2))
-    ∙ ap₂ _+_ (level-length m r (λ p. modZ (x p) 2)) (levels-length m rs (λ p. shrZ (x p) 2))
 
 level-at : (m r : ℕ) (v : ℕ → ℕ) (t : ℕ) → t < dimension r m → getD (levelMessage m r v) t 0 ≡ backwards m v (getD (order m) t 0)
 unfolding levelMessage

@@ -42,10 +42,7 @@ unfoldable pub levels : ℕ → ℕ
 unfolding degrees
 levels k = length (degrees k)
 
--- the number of coordinates, n, and of blocks of 8
-abbrev pub positions : ℕ → ℕ
-positions k = 2 ^ k
-
+-- the number of blocks of 8 coordinates
 abbrev pub blocks : ℕ → ℕ
 blocks k = 2 ^ k / 8
 

@@ -1,13 +1,13 @@
 -- the floor quotient and the remainder, which is never negative, by a divisor m > 0
-use mathlib.Core.Path.{_≡_, refl, sym, _∙_, ap, subst}
-use Prim.Native.Nat.{ℕ, zero, suc, _+_, _*_, _-_, _<_, _≤_, _/_, _%_}
+use mathlib.Core.Path.{_≡_, sym, _∙_, ap}
+use Prim.Native.Nat.{ℕ, suc, _+_, _*_, _-_, _<_, _/_, _%_}
 use native.Mathlib.Nat.{div-add-mod', mod-lt, mul-le-mul-left}
 use native.Mathlib.Omega.{arith}
 use lib.Arith.{digits-div}
-use lib.IntN.{ℤ, pos, negsuc, negℤ, _+ℤ_, _-ℤ_, _*ℤ_, natAbs}
-use lib.Signed.{_≤ℤ_, _<ℤ_, shrZ}
+use lib.IntN.{ℤ, pos, negsuc, _+ℤ_, _*ℤ_}
+use lib.Signed.{shrZ}
 use Rattle.integers.specs.Integer.{modZ}
-use Rattle.integers.proofs.Zed.{E, `_, #_, _⊕_, _⊖_, _⊗_, ⊝_, up, down, eq!, le!, lt!, eq?, le?, lt?, eq-ud, ud-eq}
+use Rattle.integers.proofs.Zed.{`_, #_, _⊕_, _⊗_, up, down, eq!, eq?, eq-ud, ud-eq}
 
 pub modZ-lt : (z : ℤ) (m : ℕ) → 0 < m → modZ z m < m
 modZ-lt (pos a) m h = mod-lt a h

@@ -5,7 +5,7 @@ use mathlib.Core.Path.{_≡_, refl, sym, _∙_, ap, subst}
 use mathlib.Core.Bool.{Bool, true, false, not, cond, true≢false}
 use Prim.Native.Nat.{ℕ, zero, suc, _+_, _*_, _-_, _^_, _<_, _≤_}
 use native.Mathlib.Omega.{arith}
-use lib.Dec.{T, ltb, leb, leb→le, le→leb, ltb→lt, lt→ltb, nltb→le}
+use lib.Dec.{T, ltb, leb→le, le→leb, ltb→lt, lt→ltb, nltb→le}
 use lib.IntN.{ℤ, pos, negsuc, negℤ, subℕ, _+ℤ_, _-ℤ_, _*ℤ_, natAbs, +ℤ-assoc, +ℤ-comm, *ℤ-comm}
 use lib.Signed.{_≤ℤ_, _<ℤ_, leZ, ltZ, mag, nonNeg}
 use mir.Syntax.{Width}
@@ -159,12 +159,6 @@ lt! a b h = ud-lt ⟦ a ⟧ ⟦ b ⟧ (omega (arith, sound a, sound b))
 -- to use what is known over ℤ
 pub eq? : (a b : E) → ⟦ a ⟧ ≡ ⟦ b ⟧ → P a + N b ≡ P b + N a
 eq? a b h = omega (arith, eq-ud h, sound a, sound b)
-
-pub le? : (a b : E) → ⟦ a ⟧ ≤ℤ ⟦ b ⟧ → P a + N b ≤ P b + N a
-le? a b h = omega (arith, le-ud h, sound a, sound b)
-
-pub lt? : (a b : E) → ⟦ a ⟧ <ℤ ⟦ b ⟧ → P a + N b < P b + N a
-lt? a b h = omega (arith, lt-ud h, sound a, sound b)
 
 -- ---- the ring's laws
 pub *ℤ-assoc : (a b c : ℤ) → (a *ℤ b) *ℤ c ≡ a *ℤ (b *ℤ c)

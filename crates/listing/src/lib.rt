@@ -3,7 +3,7 @@ ghost use mathlib.Core.Path.{_≡_};
 ghost use mathlib.Core.Bool.{true};
 ghost use Prim.Native.Nat.{_≤_, _<_, _^_};
 ghost use lib.ListN.{length};
-ghost use Rattle.frames.specs.Kind.{isKind, messageBytes};
+ghost use Rattle.frames.specs.Kind.{isKind};
 ghost use Rattle.frames.specs.Sending.{sendRefusal};
 ghost use Rattle.text.specs.Text.{Put};
 ghost use Rattle.text.specs.Line.{refusedText};

@@ -14,7 +14,7 @@ use Rattle.reed_muller.proofs.Table.{length-table, table-at}
 use Rattle.reed_muller.proofs.Digits.{digit, xor-digit, digit-mod, shift-digit, shift-low}
 use Rattle.frames.specs.Reading.{digits, allDigits}
 use Rattle.frames.proofs.Numbers.{total}
-use Rattle.reading.proofs.Rows.{digits-count}
+use Rattle.frames.proofs.Numbers.{digits-length}
 
 -- a number of w bits below others: the digits of both
 module _ (W w n bits s : ℕ) (f : ℕ → ℕ) (room : w + n ≤ W) (fits : s < 2 ^ w) where
@@ -38,8 +38,8 @@ pub pack-more : (W w n bits s : ℕ) (row : List ℕ) → w + n ≤ W → ((t : 
 unfolding digits
 pack-more W w n bits s row room so =
     digits-below W w n bits (s % 2 ^ w) (λ t. getD (digits w s ++ row) t 0) room (mod-lt s (pow-pos w))
-    (λ t l. digit-mod s w t l ∙ sym (List·getD-append (digits w s) row 0 t (omega (arith, digits-count w s)) ∙ table-at (digit s) w t l))
-    (λ t l. so t l ∙ sym (ap (λ (i : ℕ). getD (digits w s ++ row) (i + t) 0) (sym (digits-count w s)) ∙ getD-append-add (digits w s) row t 0))
+    (λ t l. digit-mod s w t l ∙ sym (List·getD-append (digits w s) row 0 t (omega (arith, digits-length w s)) ∙ table-at (digit s) w t l))
+    (λ t l. so t l ∙ sym (ap (λ (i : ℕ). getD (digits w s ++ row) (i + t) 0) (sym (digits-length w s)) ∙ getD-append-add (digits w s) row t 0))
 
 -- the rows of the numbers from i on
 pub all-from : (ws ss : List ℕ) (i : ℕ) → i < length ws → i < length ss

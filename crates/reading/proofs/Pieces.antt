@@ -7,7 +7,7 @@ use native.Mathlib.Nat.{mul-le-mul-left}
 use native.Mathlib.Omega.{arith}
 use lib.IntN.{ℤ}
 use lib.Pow.{pow-pos}
-use lib.ListN.{length, take, getD, set, length-append, length-take, length-drop, length-set}
+use lib.ListN.{length, take, getD, set, length-set}
 use lib.Seq.{take-all}
 use Rattle.reed_muller.specs.Level.{table, dimension, order, backwards}
 use Rattle.reed_muller.specs.Message.{messageBit, bytesOf, withBits}
@@ -21,11 +21,11 @@ use Rattle.frames.specs.Message.{widths}
 use Rattle.frames.specs.Frame.{levelWord}
 use Rattle.frames.specs.Reading.{levelMessage, levelMessages, quotients, allDigits, blockMessages, readBits, openMessage}
 use Rattle.frames.proofs.Frame.{quotients-length}
-use Rattle.frames.proofs.Numbers.{total-widths}
+use Rattle.frames.proofs.Lengths.{levels-length, block-bits, blocks-length, read-length}
 use Rattle.frames.proofs.Rows.{shape}
 use Rattle.reading.specs.Written.{Written}
 use Rattle.reading.proofs.Writing.{written-table, written-next, cleared, written-whole}
-use Rattle.reading.proofs.Rows.{all-count, reduced-count, levels-count, levels-more, dimensions-more, dimensions-le, blocks-more, blocks-count}
+use Rattle.reading.proofs.Rows.{levels-more, dimensions-more, dimensions-le, blocks-more}
 use Rattle.reading.proofs.Packed.{row-of-digits}
 
 -- ---- levels
@@ -55,7 +55,7 @@ module _ (k i : ℕ) (h : i < levels k) where
   level-more f at a b c e first second =
       subst (λ (row : List ℕ). Written 0 row a c) (sym (levels-more k (degrees k) f i h))
       (written-next 0 at (levelMessages k 0 (take i (degrees k)) f) (levelMessage k (getD (degrees k) i 0) (levelWord i f)) a b c
-      (e ∙ sym (levels-count k 0 (take i (degrees k)) f) ∙ omega arith) first second)
+      (e ∙ sym (levels-length k 0 (take i (degrees k)) f) ∙ omega arith) first second)
 
 pub levels-all : (k i : ℕ) (f : List ℤ) (a b : List ℕ) → levels k ≤ i → Written 0 (levelMessages k 0 (take i (degrees k)) f) a b → Written 0 (levelMessages k 0 (degrees k) f) a b
 unfolding levels
@@ -68,14 +68,8 @@ pub block-written : (b j bits from : ℕ) (v : List ℤ) (out after : List ℕ) 
     → ((t : ℕ) → t < 8 * b → digit bits t ≡ getD (allDigits (widths b) (reduced (2 ^ (b - 1)) (part j v))) t 0)
     → after ≡ bytesOf (length out) (withBits from (8 * b) (digit bits) (messageBit out)) → Written from (allDigits (widths b) (reduced (2 ^ (b - 1)) (part j v))) out after
 block-written b j bits from v out after grade room h e =
-    subst (λ (row : List ℕ). Written from row out after) (row-of-digits (8 * b) bits (allDigits (widths b) ss) (all-count (widths b) ss (omega (arith, eight)) ∙ total-widths b grade) h)
+    subst (λ (row : List ℕ). Written from row out after) (row-of-digits (8 * b) bits (allDigits (widths b) (reduced (2 ^ (b - 1)) (part j v))) (block-bits b j v grade room) h)
     (subst (Written from (table (8 * b) (digit bits)) out) (sym e) (written-table from (8 * b) (digit bits) (digit-small bits) out))
-  where
-    ss : List ℕ
-    ss = reduced (2 ^ (b - 1)) (part j v)
-
-    eight : length ss ≡ 8
-    eight = reduced-count (2 ^ (b - 1)) (part j v) ∙ simp (length-take, length-drop) (omega arith)
 
 module _ (k b j : ℕ) (kind : isKind k ≡ true) (grade : 1 ≤ b) (h : j < blocks k) where
   -- one block more
@@ -86,7 +80,7 @@ module _ (k b j : ℕ) (kind : isKind k ≡ true) (grade : 1 ≤ b) (h : j < blo
   block-more f at x y z l e first second =
       subst (λ (row : List ℕ). Written (levelBits k) row x z) (sym (blocks-more b j v))
       (written-next (levelBits k) at (blockMessages b j v) (allDigits (widths b) (reduced (2 ^ (b - 1)) (part j v))) x y z
-      (e ∙ ap (λ (n : ℕ). levelBits k + n) (sym (blocks-count b j v grade (omega (arith, quotients-length (levels k) f, l, shape k kind .whole))))) first second)
+      (e ∙ ap (λ (n : ℕ). levelBits k + n) (sym (blocks-length b j v grade (omega (arith, quotients-length (levels k) f, l, shape k kind .whole))))) first second)
     where
       v : List ℤ
       v = quotients (levels k) f
@@ -94,17 +88,6 @@ module _ (k b j : ℕ) (kind : isKind k ≡ true) (grade : 1 ≤ b) (h : j < blo
 -- ---- the whole message
 
 module _ (k b : ℕ) (kind : isKind k ≡ true) (grade : 1 ≤ b) (f : List ℤ) (l : length f ≡ 2 ^ k) where
-  read-long : length (readBits k b f) ≡ messageBits k b
-  unfolding readBits messageBits levelBits
-  read-long =
-      length-append (levelMessages k 0 (degrees k) f) (blockMessages b (blocks k) (quotients (levels k) f))
-      ∙ omega (
-        arith,
-        levels-count k 0 (degrees k) f,
-        blocks-count b (blocks k) (quotients (levels k) f) grade (omega (arith, quotients-length (levels k) f, shape k kind .whole)),
-        ap (λ (n : ℕ). n * b) (shape k kind .whole),
-      )
-
   -- one byte at least
   pub some-byte : 1 ≤ messageBytes k b
   unfolding messageBytes messageBits
@@ -117,7 +100,7 @@ module _ (k b : ℕ) (kind : isKind k ≡ true) (grade : 1 ≤ b) (f : List ℤ)
   unfolding openMessage readBits messageBytes levelBits
   message-written out x y e each first second =
       written-whole (readBits k b f) (set out (length out - 1) 0) y
-      (λ i h u. cleared out (length out - 1) i (omega (arith, e, some-byte)) (omega (arith, e, some-byte, read-long, length-set out (length out - 1) 0))) each
+      (λ i h u. cleared out (length out - 1) i (omega (arith, e, some-byte)) (omega (arith, e, some-byte, read-length k b f (shape k kind .whole) grade l, length-set out (length out - 1) 0))) each
       (written-next 0 (levelBits k) (levelMessages k 0 (degrees k) f) (blockMessages b (blocks k) (quotients (levels k) f)) (set out (length out - 1) 0) x y
-      (sym (levels-count k 0 (degrees k) f) ∙ omega arith) first second)
+      (sym (levels-length k 0 (degrees k) f) ∙ omega arith) first second)
       ∙ ap (λ (m : ℕ). bytesOf m (λ i. getD (readBits k b f) i 0)) (length-set out (length out - 1) 0 ∙ e)

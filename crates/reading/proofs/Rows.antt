@@ -1,49 +1,24 @@
--- The rows of bits of a message: those of a number, of a block's numbers, of the levels, of the blocks; each grows by one piece. Assumes nothing.
-use Prim.Native.Nat.{ℕ, zero, suc, _+_, _*_, _-_, _/_, _%_, _^_, _≤_, _<_}
-use mathlib.Core.Path.{_≡_, refl, sym, ap, ap₂, _∙_}
+-- The rows of bits of a message, those of the levels and those of the blocks: each grows by one piece; and quotients of a part. Assumes nothing.
+use Prim.Native.Nat.{ℕ, zero, suc, _+_, _*_, _-_, _^_, _≤_, _<_}
+use mathlib.Core.Path.{_≡_, refl, sym, ap, _∙_}
 use mathlib.Core.List.{List, [], _∷_, _++_, append-assoc, append-nil}
 use native.Mathlib.Numerals.{add-one}
 use native.Mathlib.Nat.{le-trans, div-le-self}
 use native.Mathlib.Omega.{arith}
 use lib.Pow.{pow-pos}
-use lib.IntN.{ℤ, pos, negsuc, _+ℤ_, _*ℤ_, natAbs}
-use lib.ListN.{length, take, drop, getD, length-append, length-take, length-drop}
+use lib.IntN.{ℤ, pos, negsuc, natAbs}
+use lib.ListN.{length, take, drop, getD}
 use lib.Signed.{shrZ}
-use Rattle.reed_muller.specs.Level.{dimension, order, backwards}
-use Rattle.reed_muller.proofs.Table.{length-table}
+use Rattle.reed_muller.specs.Level.{dimension}
 use Rattle.e8.specs.Energy.{Within}
 use Rattle.e8.specs.Lattice.{part}
-use Rattle.e8.specs.Least.{lowered}
-use Rattle.e8.specs.Rows.{remainders, reduced}
-use Rattle.shaping.proofs.Size.{lowered-length}
+use Rattle.e8.specs.Rows.{reduced}
 use Rattle.frames.specs.Kind.{dimensions}
 use Rattle.frames.specs.Message.{widths}
 use Rattle.frames.specs.Frame.{levelWord}
-use Rattle.frames.specs.Reading.{levelMessage, levelMessages, quotients, digits, allDigits, blockMessages}
-use Rattle.frames.proofs.Stacked.{level-length}
-use Rattle.frames.proofs.Numbers.{total, total-widths}
-
--- ---- numbers
-
-pub digits-count : (w n : ℕ) → length (digits w n) ≡ w
-unfolding digits
-digits-count w n = length-table (λ t. n / 2 ^ t % 2) w
-
--- ---- numbers in a row
-
-pub all-count : (ws ss : List ℕ) → length ws ≤ length ss → length (allDigits ws ss) ≡ total ws
-unfolding allDigits
-all-count [] ss h = refl
-all-count (w ∷ ws) [] h = absurd (omega arith)
-all-count (w ∷ ws) (s ∷ ss) h = length-append (digits w s) (allDigits ws ss) ∙ ap₂ _+_ (digits-count w s) (all-count ws ss (omega arith))
+use Rattle.frames.specs.Reading.{levelMessage, levelMessages, quotients, allDigits, blockMessages}
 
 -- ---- levels in a row
-
-pub levels-count : (m i : ℕ) (rs : List ℕ) (f : List ℤ) → length (levelMessages m i rs f) ≡ dimensions m rs
-unfolding levelMessages
-levels-count m i [] f = refl
-levels-count m i (r ∷ rs) f =
-    length-append (levelMessage m r (levelWord i f)) (levelMessages m (suc i) rs f) ∙ ap₂ _+_ (level-length m r (levelWord i f)) (levels-count m (suc i) rs f)
 
 levels-next : (m o : ℕ) (rs : List ℕ) (f : List ℤ) (i : ℕ) → i < length rs
     → levelMessages m o (take (suc i) rs) f ≡ levelMessages m o (take i rs) f ++ levelMessage m (getD rs i 0) (levelWord (o + i) f)
@@ -78,30 +53,10 @@ dimensions-le m (r ∷ rs) (suc i) = omega (arith, dimensions-le m rs i)
 
 -- ---- blocks in a row
 
-remainders-count : (h : ℕ) (Q : ℤ) (ys : List ℤ) → length (remainders h Q ys) ≡ length ys
-remainders-count h Q [] = refl
-remainders-count h Q (y ∷ []) = refl
-remainders-count h Q (y ∷ z ∷ zs) = ap suc (remainders-count h (Q +ℤ shrZ y (2 * h)) (z ∷ zs))
-
-pub reduced-count : (h : ℕ) (xs : List ℤ) → length (reduced h xs) ≡ length xs
-unfolding reduced
-reduced-count h [] = refl
-reduced-count h (x ∷ xs) = ap suc (remainders-count h (pos 0) (lowered (pos h *ℤ shrZ x h) xs) ∙ lowered-length (pos h *ℤ shrZ x h) xs)
-
 -- one block more
 pub blocks-more : (b j : ℕ) (v : List ℤ) → blockMessages b (j + 1) v ≡ blockMessages b j v ++ allDigits (widths b) (reduced (2 ^ (b - 1)) (part j v))
 unfolding blockMessages
 blocks-more b j v = rw (add-one j)
-
-pub blocks-count : (b j : ℕ) (v : List ℤ) → 1 ≤ b → 8 * j ≤ length v → length (blockMessages b j v) ≡ 8 * b * j
-unfolding blockMessages
-blocks-count b zero v h l = omega arith
-blocks-count b (suc j) v h l =
-    length-append (blockMessages b j v) (allDigits (widths b) (reduced (2 ^ (b - 1)) (part j v)))
-    ∙ omega (arith, blocks-count b j v h (omega arith), all-count (widths b) (reduced (2 ^ (b - 1)) (part j v)) (omega (arith, reduced-count (2 ^ (b - 1)) (part j v), eight)), total-widths b h)
-  where
-    eight : length (part j v) ≡ 8
-    eight = simp (length-take, length-drop) (omega arith)
 
 -- ---- quotients of a part
 

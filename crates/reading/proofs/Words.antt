@@ -2,7 +2,7 @@
 use Prim.Native.Nat.{ℕ, zero, suc, _+_, _%_, _^_, _≤_, _<_}
 use mathlib.Core.Path.{_≡_, refl, sym, ap, _∙_}
 use mathlib.Core.Bool.{true, false}
-use mathlib.Core.List.{List, [], _∷_}
+use mathlib.Core.List.{List}
 use native.Mathlib.Decide.{ℕ-discrete}
 use native.Mathlib.Numerals.{add-one}
 use native.Mathlib.Omega.{arith}
@@ -15,7 +15,7 @@ use Rattle.reed_muller.specs.Level.{clearAbove, belongs, backwards}
 use Rattle.reed_muller.proofs.Digits.{digit}
 use Rattle.reed_muller.proofs.Transform.{backwards-cong}
 use Rattle.reed_muller.proofs.Belongs.{belongs-bits}
-use Rattle.frames.specs.Kind.{isKind, degrees, levels}
+use Rattle.frames.specs.Kind.{degrees, levels}
 use Rattle.frames.specs.Frame.{weightBit, levelWord}
 use Rattle.frames.specs.Sending.{unless}
 use Rattle.frames.specs.Reading.{brokenNumber, broken}

@@ -9,9 +9,8 @@ use native.Mathlib.Omega.{arith}
 use lib.Dec.{leb, lit<}
 use lib.ListN.{length, getD}
 use borrow.Author.Tests.{le-leb, lt-leb}
-use Rattle.reed_muller.specs.Level.{sumTo, given, liesIn, weight, masks, order, place, dimension, codeword, backwards, table}
+use Rattle.reed_muller.specs.Level.{sumTo, given, liesIn, weight, masks, order, place, dimension, codeword, backwards}
 use Rattle.reed_muller.proofs.Sum.{sum-ext, sum-first}
-use Rattle.reed_muller.proofs.Table.{table-at}
 use Rattle.reed_muller.proofs.Parity.{tested-cong, tested-add}
 use Rattle.reed_muller.proofs.Transform.{backwards-cong, backwards-twice}
 use Rattle.reed_muller.proofs.Weight.{minimum-weight}
@@ -87,12 +86,6 @@ module _ (r m : ℕ) (hr : r ≤ m) (bit : ℕ → ℕ) where
 
   pub backwards-bit : (k : ℕ) → k < dimension r m → backwards m (codeword r m bit) (getD (order m) k 0) ≡ bit k % 2
   backwards-bit k h = backwards-codeword (getD (order m) k 0) (mask-below k h) ∙ ap (λ (x : ℕ). x % 2) (coefficient-at k h)
-
-  -- the same, of the word that stands in a list
-  pub round-trip : (k : ℕ) → k < dimension r m → backwards m (λ p. getD (table (2 ^ m) (codeword r m bit)) p 0) (getD (order m) k 0) ≡ bit k % 2
-  round-trip k h =
-      backwards-cong m _ (codeword r m bit) (λ p l. ap (λ (x : ℕ). x % 2) (table-at (codeword r m bit) (2 ^ m) p l)) (getD (order m) k 0)
-      ∙ backwards-bit k h
 
   -- a message with a bit set gives at least 2 ^ (m − r) ones
   pub codeword-weight : (k : ℕ) → k < dimension r m → bit k % 2 ≡ 1 → 2 ^ (m - r) ≤ sumTo (2 ^ m) (codeword r m bit)

@@ -248,29 +248,3 @@ module _ (from : ℕ) (new old : ℕ → ℕ) where
       go : Dec (i < from) → withBits from 0 new old i ≡ old i
       go (yes l) = with-before from 0 new old i l
       go (no n) = with-past from 0 new old i (omega arith)
-
-  with-more : (k i : ℕ) → putAt (from + k) (new k) (withBits from k new old) i ≡ withBits from (k + 1) new old i
-  with-more k i = go (ℕ-discrete i (from + k)) (decLt i from) (decLt i (from + k))
-    where
-      go : Dec (i ≡ from + k) → Dec (i < from) → Dec (i < from + k)
-          → putAt (from + k) (new k) (withBits from k new old) i ≡ withBits from (k + 1) new old i
-      go (yes e) a b =
-          rw (eq-eqb i (from + k) e) (sym (ap (withBits from (k + 1) new old) e ∙ with-in from (k + 1) new old k (omega arith)))
-      go (no n) (yes l) b =
-          rw (ne-eqb i (from + k) n) (with-before from k new old i l ∙ sym (with-before from (k + 1) new old i l))
-      go (no n) (no a) (yes l) =
-          let e : i ≡ from + (i - from) = omega arith in
-          rw (ne-eqb i (from + k) n)
-          (ap (withBits from k new old) e ∙ with-in from k new old (i - from) (omega arith)
-          ∙ sym (ap (withBits from (k + 1) new old) e ∙ with-in from (k + 1) new old (i - from) (omega arith)))
-      go (no n) (no a) (no b) =
-          rw (ne-eqb i (from + k) n) (with-past from k new old i (omega arith) ∙ sym (with-past from (k + 1) new old i (omega arith)))
-
-  -- one bit more
-  pub with-step : ((k : ℕ) → new k < 2) → ((i : ℕ) → old i < 2) → (n k : ℕ)
-      → withBit (from + k) (new k) (bytesOf n (withBits from k new old)) ≡ bytesOf n (withBits from (k + 1) new old)
-  unfolding withBit
-  with-step a b n k =
-      ap (λ (l : ℕ). bytesOf l (putAt (from + k) (new k) (messageBit (bytesOf n (withBits from k new old))))) (length-bytes n (withBits from k new old))
-      ∙ bytes-ext n _ _ (λ i l.
-      ap (pick (eqb i (from + k)) (new k)) (bits-of-bytes n (withBits from k new old) (λ j h. with-small from k new old a b j) i l) ∙ with-more k i)

@@ -235,10 +235,3 @@ module _ (r m : ℕ) (hr : r ≤ m) where
       ap (place (order m)) (sym (e .1) ∙ sym (order-at r m hr (place (masks r m) S) (e .0)))
       ∙ order-place m (place (masks r m) S) (omega (arith, dimension-small, e .0)) in
       omega (arith, same, e .0)
-
-  pub order-heavy : (k : ℕ) → dimension r m ≤ k → k < 2 ^ m → r < weight (getD (order m) k 0)
-  order-heavy k d h = go (decLt r (weight (getD (order m) k 0)))
-    where
-      go : Dec (r < weight (getD (order m) k 0)) → r < weight (getD (order m) k 0)
-      go (yes l) = l
-      go (no n) = absurd (omega (arith, place-light (getD (order m) k 0) (order-below m k h) (omega arith), order-place m k h))

@@ -3,7 +3,7 @@ use Prim.Native.Nat.{ℕ, _+_, _-_, _*_, _/_, _%_, _^_, _≤_, _<_}
 use mathlib.Core.Path.{_≡_, sym, ap, ap₂, _∙_}
 use mathlib.Core.Bool.{true}
 use mathlib.Core.List.{List}
-use native.Mathlib.Nat.{mul-le-mul, mul-le-mul-left}
+use native.Mathlib.Nat.{mul-le-mul}
 use native.Mathlib.Omega.{arith}
 use lib.ListN.{length, getD, take}
 use lib.Seq.{ext-getD}
@@ -18,9 +18,10 @@ use Rattle.e8.specs.Energy.{Within}
 use Rattle.e8.proofs.Within.{within-all}
 use Rattle.e8.specs.Lattice.{part}
 use Rattle.e8.specs.Rows.{ints}
-use Rattle.frames.specs.Kind.{isKind, degrees, levels, blocks, levelBits, messageBits, messageBytes}
+use Rattle.e8.proofs.Rows.{ints-length}
+use Rattle.frames.specs.Kind.{isKind, degrees, levels, blocks, levelBits}
 use Rattle.frames.specs.Message.{widths, numbers, blockNumbers, stacked, coordinate, leader}
-use Rattle.frames.proofs.Frame.{at, ints-at, ints-length, part-length, part-at}
+use Rattle.frames.proofs.Frame.{at, ints-at, part-length, part-at}
 use Rattle.frames.proofs.One.{leader-length, leader-at}
 use Rattle.frames.proofs.Rows.{shape}
 use Rattle.frames.proofs.Numbers.{total}

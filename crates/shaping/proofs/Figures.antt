@@ -10,11 +10,11 @@ use lib.Seq.{drop-cons}
 use lib.IntN.{ℤ, pos, _+ℤ_, _-ℤ_, natAbs}
 use lib.Signed.{ltZ}
 use Rattle.integers.specs.Integer.{modZ}
-use Rattle.integers.proofs.Zed.{`_, #_, _⊕_, _⊖_, eq!, abs-ud}
+use Rattle.integers.proofs.Zed.{`_, #_, _⊕_, _⊖_, eq! }
 use Rattle.integers.proofs.Floor.{modZ-lt}
 use Rattle.e8.specs.Energy.{Within}
 use Rattle.e8.specs.Least.{cent}
-use Rattle.shaping.proofs.Size.{abs!, sum-abs, less-abs}
+use Rattle.shaping.proofs.Size.{sum-abs, less-abs}
 use Rattle.shaping.proofs.Passing.{cent-abs}
 use Rattle.shaping.specs.Rounded.{rankOf, rounded, off, floors, sizes, highest, lowest, Rounded}
 

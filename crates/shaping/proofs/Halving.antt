@@ -8,18 +8,18 @@ use native.Mathlib.Nat.{eq-or-lt-of-le, mul-le-mul-left, mul-lt-mul-of-pos-left}
 use native.Mathlib.Omega.{arith}
 use borrow.Author.Tests.{eqb-true, eqb-false, eq-eqb, ne-eqb, le-ltb, lt-ltb, le-leb, lt-leb, ltb-true, ltb-false, leb-true, leb-false}
 use lib.Dec.{eqb, leb, ltb}
-use lib.ListN.{length, getD, set}
+use lib.ListN.{length, getD}
 use lib.IntN.{ℤ, pos, negsuc, _+ℤ_, _-ℤ_, _*ℤ_, natAbs}
-use lib.Signed.{ltZ, leZ}
+use lib.Signed.{ltZ}
 use Rattle.integers.specs.Integer.{modZ}
 use Rattle.integers.proofs.Zed.{`_, #_, _⊕_, _⊖_, _⊗_, eq!, eq?}
-use Rattle.e8.specs.Energy.{sq, energy}
+use Rattle.e8.specs.Energy.{energy}
 use Rattle.e8.specs.Lattice.{bit}
 use Rattle.e8.specs.Least.{cent, best, lowered, leastBlock}
 use Rattle.e8.proofs.Cent.{Range, cent-range, cent-is, turns}
 use Rattle.e8.proofs.Best.{All}
 use Rattle.e8.proofs.Rounding.{cent-only, cost-one}
-use Rattle.shaping.proofs.Size.{lowered-length}
+use Rattle.e8.proofs.Rows.{lowered-length}
 use Rattle.shaping.proofs.Passing.{placeOf, ranked, changed, across-none, Passed, passed, Mended, mended, least-is}
 use Rattle.shaping.specs.Rounded.{across, sooner, rankOf, rounded, off, floors, sizes, highest, lowest, memberOf, members}
 

@@ -7,12 +7,12 @@ use Prim.Native.Nat.{ℕ, zero, suc, _+_, _*_, _-_, _^_, _/_, _%_, _<_, _≤_}
 use native.Mathlib.Nat.{eq-or-lt-of-le}
 use native.Mathlib.Omega.{arith}
 use borrow.Author.Tests.{lt-ltb, le-ltb, ltb-true, ltb-false}
-use lib.Dec.{ltb, leb}
+use lib.Dec.{ltb}
 use lib.Pow.{pow-mono, pow-pos}
 use lib.ListN.{length, drop, getD, set, drop-of-length-le}
 use lib.Seq.{drop-cons}
 use lib.IntN.{ℤ, pos, negsuc, _+ℤ_, _-ℤ_, natAbs}
-use lib.Signed.{ltZ, leZ}
+use lib.Signed.{ltZ}
 use Rattle.integers.specs.Integer.{modZ}
 use Rattle.integers.proofs.Zed.{`_, #_, _⊕_, _⊖_, eq! }
 use Rattle.e8.specs.Energy.{energy}
@@ -23,7 +23,7 @@ use Rattle.e8.proofs.Cent.{cent-range, Range}
 use Rattle.e8.proofs.Points.{rest}
 use Rattle.e8.proofs.Best.{best-head, parts-differ, best-length}
 use Rattle.e8.proofs.Rounding.{Parity, parity-none, parity-more, parity-rest, Turned, turned, Rounding, round-one, round-here, round-later}
-use Rattle.shaping.proofs.Size.{lowered-length}
+use Rattle.e8.proofs.Rows.{lowered-length}
 use Rattle.shaping.specs.Rounded.{across, sooner, rankOf, rounded, off, highest}
 
 -- ---- sizes

@@ -1,11 +1,11 @@
 -- Numbers as a function's code reads them: what each reading is, and that it is in range
-use mathlib.Core.Path.{_≡_, refl, sym, _∙_, ap₂, ap, subst}
-use Prim.Native.Nat.{ℕ, _+_, _*_, _^_, _≤_}
+use mathlib.Core.Path.{_≡_, refl, sym, subst}
+use Prim.Native.Nat.{ℕ, _^_, _≤_}
 use native.Mathlib.Omega.{arith}
-use lib.IntN.{ℤ, pos, _+ℤ_, natAbs}
+use lib.IntN.{ℤ, pos, natAbs}
 use mir.Syntax.{w32}
-use mir.Val.{SFits, toZ, ofZ}
-use Rattle.integers.proofs.Zed.{tz, sfits-to}
+use mir.Val.{toZ, ofZ}
+use Rattle.integers.proofs.Zed.{tz}
 use Rattle.shaping.proofs.Size.{fits}
 use Rattle.shaping.proofs.Rest.{power-fits}
 use Rattle.shaping.proofs.Passing.{scale-pos}

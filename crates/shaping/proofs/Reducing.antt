@@ -13,6 +13,7 @@ use Rattle.integers.proofs.Zed.{`_, #_, _⊕_, _⊖_, _⊗_, eq!, eq?, abs-ud}
 use Rattle.integers.proofs.Floor.{modZ-lt, div-mod}
 use Rattle.e8.specs.Least.{lowered}
 use Rattle.e8.specs.Rows.{ints, remainders, reduced}
+use Rattle.e8.proofs.Rows.{ints-length, remainders-length}
 use Rattle.shaping.proofs.Size.{abs! }
 use Rattle.shaping.proofs.Filled.{Filled, filled-next, filled-all}
 use Rattle.shaping.proofs.Passing.{drop-last}
@@ -29,13 +30,8 @@ pub record Rows (h : ℕ) (y r : List ℤ) (q : ℤ) (i : ℕ) : Type 0 where
   pub left : drop i (result h y) ≡ ints (remainders h Q (drop i y))
   pub filled : Filled (result h y) r i
 
-ints-length : (h : ℕ) (Q : ℤ) (ys : List ℤ) → length (ints (remainders h Q ys)) ≡ length ys
-ints-length h Q [] = refl
-ints-length h Q (y ∷ []) = refl
-ints-length h Q (y ∷ z ∷ zs) = ap suc (ints-length h (Q +ℤ shrZ y (2 * h)) (z ∷ zs))
-
 pub result-length : (h : ℕ) (y : List ℤ) → length y ≡ 8 → length (result h y) ≡ 8
-result-length h y l = ap suc (ints-length h (pos 0) (drop 1 y) ∙ simp length-drop (omega arith))
+result-length h y l = ap suc (ints-length (remainders h (pos 0) (drop 1 y)) ∙ remainders-length h (pos 0) (drop 1 y) ∙ simp length-drop (omega arith))
 
 pub rows-none : (h : ℕ) (y : List ℤ) → length y ≡ 8 → Rows h y y (pos 0) 1
 rows-none h [] l = absurd (omega arith)

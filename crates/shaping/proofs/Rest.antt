@@ -1,20 +1,19 @@
 -- What fits on the way to a multiple of 2^k and to a remainder
-use mathlib.Core.Path.{_≡_, refl, sym, _∙_, ap}
+use mathlib.Core.Path.{_≡_, _∙_, ap}
 use Prim.Native.Nat.{ℕ, suc, _+_, _*_, _-_, _^_, _%_, _<_, _≤_}
 use native.Mathlib.Nat.{pow-succ', mul-le-mul-left, mod-eq-of-lt}
 use native.Mathlib.Numerals.{add-one}
 use native.Mathlib.Omega.{arith}
 use lib.Pow.{pow-mono, pow-pos}
 use lib.IntN.{ℤ, pos, negsuc, _-ℤ_, _*ℤ_, natAbs}
-use lib.Signed.{shrZ, mag-shr}
+use lib.Signed.{shrZ}
 use mir.Syntax.{w32}
 use mir.Val.{SFits, toZ, ofZ}
-use mir.ValLaws.{sfits-le}
 use mir.Facts.{toZ-pos, toZ-neg}
 use Rattle.integers.specs.Integer.{modZ}
 use Rattle.integers.proofs.Zed.{`_, #_, _⊕_, _⊖_, _⊗_, P, N, eq!, eq?, sfits!, abs-ud}
 use Rattle.integers.proofs.Floor.{modZ-lt, div-mod}
-use Rattle.shaping.proofs.Size.{fits, abs! }
+use Rattle.shaping.proofs.Size.{fits}
 
 -- shifted up, where nothing is lost
 shifted : (q : ℤ) (p : ℕ) → 0 < p → natAbs q * p < 2 ^ 31 → toZ w32 (ofZ w32 q * p % 4294967296) ≡ q *ℤ pos p
@@ -40,9 +39,6 @@ module _ (k : ℕ) (z : ℤ) (small : k ≤ 9) (size : natAbs z ≤ 2 ^ 30) wher
 
   cut : P (` z) + N (# (2 ^ k) ⊗ ` q ⊕ # (modZ z (2 ^ k))) ≡ P (# (2 ^ k) ⊗ ` q ⊕ # (modZ z (2 ^ k))) + N (` z)
   cut = eq? (` z) (# (2 ^ k) ⊗ ` q ⊕ # (modZ z (2 ^ k))) (div-mod z (2 ^ k) M-pos)
-
-  pub fits-quotient : SFits w32 q
-  fits-quotient = sfits-le (mag-shr z (2 ^ k)) (fits z (omega (arith, size)))
 
   pub shifted-quotient : toZ w32 (ofZ w32 q * 2 ^ k % 4294967296) ≡ z -ℤ pos (modZ z (2 ^ k))
   shifted-quotient = shifted q (2 ^ k) M-pos (go q cut) ∙ eq! (` q ⊗ # (2 ^ k)) (` z ⊖ # (modZ z (2 ^ k))) (omega (arith, cut))

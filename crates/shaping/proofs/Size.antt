@@ -1,5 +1,5 @@
 -- Coordinates of bounded size: what fits an i32, and sums of squares
-use mathlib.Core.Path.{_≡_, refl, ap}
+use mathlib.Core.Path.{_≡_, refl}
 use mathlib.Core.Bool.{Bool, true, false, cond}
 use mathlib.Core.List.{List, [], _∷_}
 use Prim.Native.Nat.{ℕ, zero, suc, _+_, _*_, _^_, _<_, _≤_}
@@ -9,13 +9,12 @@ use native.Mathlib.Omega.{arith}
 use lib.ListN.{length, drop, getD}
 use lib.Seq.{drop-cons}
 use lib.IntN.{ℤ, pos, negsuc, _+ℤ_, _-ℤ_, _*ℤ_, natAbs}
-use lib.Signed.{ltZ, shrZ}
+use lib.Signed.{shrZ}
 use mir.Syntax.{w32}
 use mir.Val.{SFits}
 use Rattle.integers.proofs.Zed.{E, `_, #_, _⊕_, _⊖_, _⊗_, P, N, ⟦_⟧, eq?, up, down, sfits!, abs-ud}
 use Rattle.e8.specs.Energy.{sq, energy, Within}
 use Rattle.e8.specs.Least.{lowered}
-use Rattle.shaping.specs.Rounded.{across}
 
 pub fits : (z : ℤ) → natAbs z ≤ 2 ^ 30 → SFits w32 z
 fits z h = sfits! w32 (` z) (omega (arith, abs-ud z)) (omega (arith, abs-ud z))
@@ -41,10 +40,6 @@ unfolding energy
 energy-drop xs i h = rw (drop-cons xs i (pos 0) h, add-one)
 
 -- ---- a block with one number off each coordinate
-
-pub lowered-length : (h : ℤ) (xs : List ℤ) → length (lowered h xs) ≡ length xs
-lowered-length h [] = refl
-lowered-length h (x ∷ xs) = ap suc (lowered-length h xs)
 
 pub lowered-at : (h : ℤ) (xs : List ℤ) (i : ℕ) → i < length xs → getD (lowered h xs) i (pos 0) ≡ getD xs i (pos 0) -ℤ h
 lowered-at h [] i k = absurd (omega arith)
@@ -73,10 +68,3 @@ shr-abs (negsuc n) m B b = omega (arith, div-le-self n m)
 pub where-abs : (t : Bool) (x : ℤ) (B : ℕ) → natAbs x ≤ B → natAbs (cond t x (pos 0)) ≤ B
 where-abs true x B b = b
 where-abs false x B b = omega arith
-
-pub across-size : (m c : ℤ) (A B : ℕ) → natAbs m ≤ A → natAbs c ≤ B → natAbs (across m c) ≤ A + B
-across-size m c A B a b = go (ltZ c (pos 0))
-  where
-    go : (t : Bool) → natAbs (cond t (c +ℤ m) (c -ℤ m)) ≤ A + B
-    go true = abs! (` c ⊕ ` m) (A + B) (omega (arith, abs-ud c, abs-ud m)) (omega (arith, abs-ud c, abs-ud m))
-    go false = abs! (` c ⊖ ` m) (A + B) (omega (arith, abs-ud c, abs-ud m)) (omega (arith, abs-ud c, abs-ud m))

@@ -1,6 +1,6 @@
 -- Laws of texts put into a buffer one after the other. Assumes nothing.
 use Prim.Native.Nat.{ℕ, suc, _+_, _≤_, _<_}
-use native.Mathlib.Nat.{zero-add, add-zero}
+use native.Mathlib.Nat.{add-zero}
 use native.Mathlib.Numerals.{add-one}
 use native.Mathlib.Omega.{arith}
 use mathlib.Core.Path.{_≡_, refl, sym, ap, _∙_}
@@ -46,11 +46,6 @@ put-more {o₀} {o} {o′} {s} {t} {a} {r} {r′} p q h = record {
 pub put-none : (o : List ℕ) (a : ℕ) → Put o a [] a o
 unfolding written
 put-none o a = record { after = omega arith; text = rw (add-zero, append-nil, take-append-drop) }
-
--- a text at the beginning: the text, and then the rest as it was
-pub put-first : {o₀ o s : List ℕ} {r : ℕ} → Put o₀ 0 s r o → (r ≡ length s) × (o ≡ s ++ drop (length s) o₀)
-unfolding written
-put-first {o₀} {o} {s} {r} p = (omega (arith, p .after), p .text ∙ rw zero-add)
 
 -- a text put within n bytes from place a on, for a function that goes on from there
 pub record Within (o₀ : List ℕ) (a n : ℕ) (s : List ℕ) (r : ℕ) (o : List ℕ) : Type 0 where

@@ -1,5 +1,5 @@
 -- `floor` meets its contract
-use mathlib.Core.Path.{_≡_, refl, _∙_, ap}
+use mathlib.Core.Path.{refl, _∙_, ap}
 use Prim.Native.Nat.{_*_, _^_, _%_}
 use lib.IntN.{ℤ}
 use lib.Signed.{shrZ}

@@ -21,7 +21,7 @@ use Rattle.shaping.proofs.Rest.{double}
 use Rattle.shaping.proofs.Reading.{read, plain, plain-size, power-read, power-size}
 use Rattle.shaping.proofs.Halving.{whole, halved, odd as whole-odd, half-odd as halved-odd, whole-cost, half-cost, turned, ranged, rounded-length, highest-low, chosen-is}
 use Rattle.shaping.proofs.Figures.{off-size, floors-size, sizes-low, rounded-within}
-use Rattle.shaping.specs.Rounded.{sooner, rounded, off, floors, sizes, highest, lowest, memberOf, members, Rounded}
+use Rattle.shaping.specs.Rounded.{sooner, rounded, sizes, highest, lowest, memberOf, members, Rounded}
 use Rattle.shaping.proofs.least.Statement.{statement}
 use Rattle.shaping.proofs.least.Tie as tie
 
@@ -150,9 +150,6 @@ module _ (c : tie.After-quantize) where
 
   o-size : natAbs o ≤ 2 ^ 7
   o-size = bit-low (st .pre .0) (st .pre .1) long (c .quantize .ensures) (whole M (st .args .x) (H-pos (st .pre .0) (st .pre .1) long (c .quantize .ensures)) (H-small (st .pre .0) (st .pre .1) long (c .quantize .ensures)) long .odd)
-
-  ho-size : natAbs ho ≤ 2 ^ 7
-  ho-size = bit-low (st .pre .0) (st .pre .1) long (c .quantize .ensures) (halved M (st .args .x) (H-pos (st .pre .0) (st .pre .1) long (c .quantize .ensures)) (H-small (st .pre .0) (st .pre .1) long (c .quantize .ensures)) long .odd)
 
   abbrev we : ℤ
   we = pos (whole-cost M (st .args .x) (H-pos (st .pre .0) (st .pre .1) long (c .quantize .ensures)) (H-small (st .pre .0) (st .pre .1) long (c .quantize .ensures)) long)

@@ -11,7 +11,8 @@ use borrow.Author.Needs.{needs}
 use Rattle.integers.proofs.Zed.{tz, sfits-to}
 use Rattle.e8.specs.Least.{lowered}
 use Rattle.e8.proofs.Within.{within-at}
-use Rattle.shaping.proofs.Size.{lowered-length, lowered-at, less-abs, fits}
+use Rattle.e8.proofs.Rows.{lowered-length}
+use Rattle.shaping.proofs.Size.{lowered-at, less-abs, fits}
 use Rattle.shaping.proofs.Reading.{read}
 use Rattle.shaping.proofs.Filled.{Filled, filled-none, filled-next, filled-all}
 use Rattle.shaping.proofs.lowered.Statement.{statement}

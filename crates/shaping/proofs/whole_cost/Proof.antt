@@ -1,16 +1,16 @@
 -- `whole_cost` meets its contract
-use mathlib.Core.Path.{_≡_, refl, sym, _∙_, ap, ap₂}
-use mathlib.Core.Bool.{Bool, true, false, cond}
-use Prim.Native.Nat.{ℕ, _^_, _≤_}
+use mathlib.Core.Path.{_≡_, refl, _∙_, ap, ap₂}
+use mathlib.Core.Bool.{cond}
+use Prim.Native.Nat.{_^_, _≤_}
 use native.Mathlib.Omega.{arith}
 use lib.IntN.{ℤ, pos, _+ℤ_, _-ℤ_, _*ℤ_, natAbs}
-use lib.Signed.{ltZ, shrZ, mag-shr}
+use lib.Signed.{ltZ, shrZ}
 use mir.Syntax.{w32}
 use mir.Val.{SFits}
 use borrow.Author.Needs.{needs}
 use Rattle.integers.proofs.Zed.{tz, sfits-to}
 use Rattle.shaping.proofs.Size.{fits, sum-abs, less-abs, double-abs, where-abs, shr-abs}
-use Rattle.shaping.proofs.Reading.{read, plain}
+use Rattle.shaping.proofs.Reading.{read}
 use Rattle.shaping.proofs.whole_cost.Statement.{statement}
 use Rattle.shaping.proofs.whole_cost.Tie as tie
 

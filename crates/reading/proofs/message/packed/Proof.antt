@@ -17,10 +17,11 @@ use borrow.Author.Needs.{needs}
 use Rattle.integers.proofs.Zed.{tz}
 use Rattle.reed_muller.proofs.Digits.{digit}
 use Rattle.e8.specs.Rows.{ints}
+use Rattle.e8.proofs.Rows.{ints-length}
 use Rattle.frames.specs.Message.{widths}
 use Rattle.frames.specs.Reading.{digits, allDigits}
 use Rattle.frames.proofs.Numbers.{total, total-widths}
-use Rattle.frames.proofs.Frame.{ints-at, ints-length}
+use Rattle.frames.proofs.Frame.{ints-at}
 use Rattle.reading.proofs.Packed.{pack-more, all-from, total-from, total-drop}
 use Rattle.reading.proofs.message.packed.Statement.{statement}
 use Rattle.reading.proofs.message.packed.Tie as tie

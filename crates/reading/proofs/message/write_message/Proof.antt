@@ -1,11 +1,10 @@
 -- `write_message`: the last byte cleared, then the levels, then the blocks. Assumes nothing.
-use Prim.Native.Nat.{ℕ, _*_, _-_, _^_, _≤_}
+use Prim.Native.Nat.{ℕ, _-_, _^_, _≤_}
 use mathlib.Core.Path.{_∙_}
 use mathlib.Core.List.{List}
 use native.Mathlib.Omega.{arith}
 use lib.ListN.{length, length-set}
 use Rattle.e8.proofs.Within.{within-to}
-use Rattle.frames.specs.Kind.{levelBits, messageBits, messageBytes}
 use Rattle.frames.proofs.Rows.{bytes-hold, levels-hold, grade-low, grade-high}
 use Rattle.frames.proofs.Refusals.{range-within}
 use Rattle.reading.proofs.Pieces.{some-byte, message-written}
