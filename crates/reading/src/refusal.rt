@@ -4,12 +4,10 @@ ghost use mathlib.Core.Path.{_≡_};
 ghost use mathlib.Core.Bool.{true};
 ghost use mathlib.Core.List.{List};
 ghost use Prim.Native.Nat.{_≤_};
-ghost use lib.Dec.{leb};
-ghost use lib.IntN.{ℤ, natAbs};
+ghost use lib.IntN.{ℤ};
 ghost use lib.ListN.{length};
 ghost use Rattle.frames.specs.Kind.{isKind, degrees, levels};
-ghost use Rattle.frames.specs.Sending.{unless};
-ghost use Rattle.frames.specs.Reading.{inRange, broken, openRefusal};
+ghost use Rattle.frames.specs.Reading.{broken, openRefusal};
 ghost use Rattle.reading.specs.Holding.{HoldsLevels};
 
 // The number of the first level that is not a codeword, 0 where each one is: of any frame whose levels are held.
