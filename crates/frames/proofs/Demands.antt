@@ -9,8 +9,8 @@ use lib.ListN.{length, getD}
 use lib.Pow.{pow-pos}
 use lib.IntN.{ℤ, pos, _+ℤ_, _-ℤ_, _*ℤ_}
 use Rattle.integers.proofs.Zed.{#_, _⊕_, _⊗_, eq! }
-use Rattle.reed_muller.specs.Level.{sumTo}
-use Rattle.reed_muller.specs.Message.{messageBit}
+use Rattle.bits.specs.Number.{sumTo}
+use Rattle.bits.specs.Message.{messageBit}
 use Rattle.e8.specs.Energy.{sq, energy, distance, Within}
 use Rattle.e8.proofs.Frame.{differ-refl, differ-sym, differ-trans, leastFrame-is, least-only, leastFrame-within}
 use Rattle.frames.specs.Kind.{isKind, degrees, levels, blocks, scale}

@@ -5,8 +5,8 @@ use mathlib.Core.List.{List, [], _∷_}
 use native.Mathlib.Omega.{arith}
 use lib.ListN.{length}
 use lib.IntN.{ℤ, _-ℤ_, ℤ-discrete}
-use Rattle.reed_muller.specs.Level.{sumTo}
-use Rattle.reed_muller.proofs.Sum.{sum-first}
+use Rattle.bits.specs.Number.{sumTo}
+use Rattle.bits.proofs.Sum.{sum-first}
 use Rattle.e8.specs.Energy.{sq, distance}
 use Rattle.frames.proofs.Frame.{at}
 

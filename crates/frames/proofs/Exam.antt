@@ -5,8 +5,9 @@ use mathlib.Core.List.{List, [], _∷_, map}
 use lib.Count.{ones}
 use lib.IntN.{ℤ, pos, negℤ}
 use lib.ListN.{replicate}
-use Rattle.reed_muller.specs.Level.{sumTo, table, ofWeight, masks, order, dimension, codeword}
-use Rattle.reed_muller.specs.Message.{messageBit}
+use Rattle.bits.specs.Number.{sumTo, table}
+use Rattle.reed_muller.specs.Level.{ofWeight, masks, order, dimension, codeword}
+use Rattle.bits.specs.Message.{messageBit}
 use Rattle.e8.specs.Energy.{sq, energy}
 use Rattle.e8.specs.Order.{before}
 use Rattle.e8.specs.Rows.{ints}

@@ -12,8 +12,9 @@ use lib.Signed.{shrZ}
 use Rattle.integers.specs.Integer.{modZ}
 use Rattle.integers.proofs.Zed.{`_, #_, _⊕_, _⊖_, _⊗_, eq!, eq?}
 use Rattle.integers.proofs.Floor.{div-mod, modZ-lt}
-use Rattle.reed_muller.specs.Level.{sumTo, belongs}
-use Rattle.reed_muller.proofs.Sum.{sum-ext, sum-term}
+use Rattle.bits.specs.Number.{sumTo}
+use Rattle.reed_muller.specs.Level.{belongs}
+use Rattle.bits.proofs.Sum.{sum-ext, sum-term}
 use Rattle.reed_muller.proofs.Weight.{Odd, look}
 use Rattle.reed_muller.proofs.Belongs.{belongs-distance}
 use Rattle.e8.specs.Energy.{sq}

@@ -7,9 +7,9 @@ use native.Mathlib.Decide.{decLt}
 use native.Mathlib.Omega.{arith}
 use lib.ListN.{length, getD, length-append, List·getD-append}
 use lib.Seq.{getD-append-add}
-use Rattle.reed_muller.proofs.Sum.{sum-ext}
-use Rattle.reed_muller.proofs.Table.{length-table, table-at}
-use Rattle.reed_muller.proofs.Message.{number-lt, number-bit, number-digits}
+use Rattle.bits.proofs.Sum.{sum-ext}
+use Rattle.bits.proofs.Table.{length-table, table-at}
+use Rattle.bits.proofs.Message.{number-lt, number-bit, number-digits}
 use Rattle.e8.specs.Rows.{Below, Ranged}
 use Rattle.frames.specs.Message.{number, numbers, widths}
 use Rattle.frames.specs.Reading.{digits, allDigits}

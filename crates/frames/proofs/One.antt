@@ -12,11 +12,13 @@ use lib.Seq.{getD-append-add}
 use lib.Pow.{pow-pos}
 use lib.IntN.{ℤ, pos, _+ℤ_, _-ℤ_, _*ℤ_}
 use Rattle.integers.proofs.Zed.{`_, #_, _⊕_, _⊖_, _⊗_, eq!, eq?}
-use Rattle.reed_muller.specs.Level.{table, dimension, order, backwards}
-use Rattle.reed_muller.specs.Message.{messageBit, byteOf, bytesOf}
-use Rattle.reed_muller.proofs.Table.{length-table, table-at}
-use Rattle.reed_muller.proofs.Parity.{message-small, backwards-small}
-use Rattle.reed_muller.proofs.Message.{length-bytes, bits-of-bytes, bytes-of-bits, bit-past, byte-lt}
+use Rattle.bits.specs.Number.{table}
+use Rattle.reed_muller.specs.Level.{dimension, order, backwards}
+use Rattle.bits.specs.Message.{messageBit, byteOf, bytesOf}
+use Rattle.bits.proofs.Table.{length-table, table-at}
+use Rattle.bits.proofs.Message.{message-small}
+use Rattle.reed_muller.proofs.Parity.{backwards-small}
+use Rattle.bits.proofs.Message.{length-bytes, bits-of-bytes, bytes-of-bits, bit-past, byte-lt}
 use Rattle.e8.specs.Lattice.{InBlock, part}
 use Rattle.e8.specs.Rows.{ints, reduced}
 use Rattle.e8.proofs.Rows.{ints-length, reduced-length, reduced-ranged, reduced-in, ranged-unique}

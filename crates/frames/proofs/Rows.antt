@@ -9,7 +9,8 @@ use lib.Count.{ones}
 use lib.Dec.{eqb, leb}
 use lib.ListN.{length, getD}
 use borrow.Author.Tests.{eqb-true, leb-true}
-use Rattle.reed_muller.specs.Level.{dimension, masks, ofWeight, table}
+use Rattle.bits.specs.Number.{table}
+use Rattle.reed_muller.specs.Level.{dimension, masks, ofWeight}
 use Rattle.frames.specs.Kind.{kinds, isKind, degrees, levels, blocks, levelBits, messageBits, messageBytes}
 use Rattle.frames.specs.Frame.{leastDistance}
 use Rattle.frames.specs.Sending.{isGrade}

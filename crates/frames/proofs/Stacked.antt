@@ -15,7 +15,7 @@ use Rattle.integers.specs.Integer.{modZ}
 use Rattle.integers.proofs.Zed.{`_, #_, _⊕_, _⊖_, _⊗_, eq!, eq?}
 use Rattle.integers.proofs.Floor.{div-mod, modZ-lt, quot-is, rem-is, shr-one, shr-shr}
 use Rattle.reed_muller.specs.Level.{order, dimension, codeword, backwards, belongs}
-use Rattle.reed_muller.proofs.Table.{length-table, table-at}
+use Rattle.bits.proofs.Table.{length-table, table-at}
 use Rattle.reed_muller.proofs.Transform.{backwards-cong}
 use Rattle.reed_muller.proofs.Codeword.{codeword-small, codeword-cong, backwards-bit}
 use Rattle.reed_muller.proofs.Belongs.{belongs-cong, belongs-read, codeword-belongs}

@@ -4,8 +4,9 @@ use mathlib.Core.Path.{_≡_}
 use mathlib.Core.List.{List, [], _∷_}
 use lib.ListN.{length, getD}
 use lib.IntN.{ℤ}
-use Rattle.reed_muller.specs.Level.{sumTo, dimension, codeword, table}
-use Rattle.reed_muller.specs.Message.{messageBit}
+use Rattle.bits.specs.Number.{sumTo, table}
+use Rattle.reed_muller.specs.Level.{dimension, codeword}
+use Rattle.bits.specs.Message.{messageBit}
 use Rattle.e8.specs.Rows.{ints}
 use Rattle.frames.specs.Kind.{degrees, levelBits, messageBits, messageBytes}
 

@@ -7,8 +7,9 @@ use lib.Dec.{eqb}
 use lib.ListN.{length, getD}
 use lib.IntN.{ℤ, pos, negsuc}
 use lib.Signed.{shrZ}
-use Rattle.reed_muller.specs.Level.{order, dimension, backwards, belongs, table}
-use Rattle.reed_muller.specs.Message.{bytesOf}
+use Rattle.bits.specs.Number.{table}
+use Rattle.reed_muller.specs.Level.{order, dimension, backwards, belongs}
+use Rattle.bits.specs.Message.{bytesOf}
 use Rattle.e8.specs.Energy.{energy, isWithin}
 use Rattle.e8.specs.Lattice.{part}
 use Rattle.e8.specs.Rows.{reduced}

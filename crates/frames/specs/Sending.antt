@@ -6,7 +6,7 @@ use mathlib.Core.List.{List}
 use lib.Dec.{eqb, leb}
 use lib.ListN.{length}
 use lib.IntN.{ℤ}
-use Rattle.reed_muller.specs.Message.{messageBit}
+use Rattle.bits.specs.Message.{messageBit}
 use Rattle.e8.specs.Energy.{energy, Within}
 use Rattle.frames.specs.Kind.{isKind, messageBits, messageBytes, scale}
 use Rattle.frames.specs.Frame.{SameClass, sentFrame}

@@ -6,7 +6,8 @@ use native.Mathlib.Nat.{mul-le-mul}
 use native.Mathlib.Omega.{arith}
 use lib.Count.{ones}
 use lib.ListN.{getD}
-use Rattle.reed_muller.specs.Level.{dimension, masks, ofWeight, table}
+use Rattle.bits.specs.Number.{table}
+use Rattle.reed_muller.specs.Level.{dimension, masks, ofWeight}
 use Rattle.frames.specs.Kind.{kinds, isKind, degrees, levels, levelBits, messageBits}
 use Rattle.frames.proofs.Rows.{each-kind}
 

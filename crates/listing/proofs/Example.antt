@@ -3,8 +3,9 @@ use Prim.Native.Nat.{ℕ}
 use mathlib.Core.Path.{_≡_, refl}
 use mathlib.Core.List.{List, [], _∷_}
 use lib.Count.{ones}
-use Rattle.reed_muller.specs.Level.{sumTo, table, ofWeight, masks, order, dimension, codeword}
-use Rattle.reed_muller.specs.Message.{messageBit}
+use Rattle.bits.specs.Number.{sumTo, table}
+use Rattle.reed_muller.specs.Level.{ofWeight, masks, order, dimension, codeword}
+use Rattle.bits.specs.Message.{messageBit}
 use Rattle.e8.specs.Energy.{sq, energy}
 use Rattle.e8.specs.Order.{before}
 use Rattle.e8.specs.Least.{cent, better, best, leastBlock, leastFrame}

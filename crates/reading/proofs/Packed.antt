@@ -9,9 +9,9 @@ use lib.Bits.{bitXor}
 use lib.ListN.{length, getD, drop, List·getD-append}
 use lib.Pow.{pow-pos, pow-mono}
 use lib.Seq.{ext-getD, getD-append-add}
-use Rattle.reed_muller.specs.Level.{table}
-use Rattle.reed_muller.proofs.Table.{length-table, table-at}
-use Rattle.reed_muller.proofs.Digits.{digit, xor-digit, digit-mod, shift-digit, shift-low}
+use Rattle.bits.specs.Number.{table}
+use Rattle.bits.proofs.Table.{length-table, table-at}
+use Rattle.bits.proofs.Digits.{digit, xor-digit, digit-mod, shift-digit, shift-low}
 use Rattle.frames.specs.Reading.{digits, allDigits}
 use Rattle.frames.proofs.Numbers.{total}
 use Rattle.frames.proofs.Numbers.{digits-length}

@@ -9,10 +9,11 @@ use lib.IntN.{ℤ}
 use lib.Pow.{pow-pos}
 use lib.ListN.{length, take, getD, set, length-set}
 use lib.Seq.{take-all}
-use Rattle.reed_muller.specs.Level.{table, dimension, order, backwards}
-use Rattle.reed_muller.specs.Message.{messageBit, bytesOf, withBits}
+use Rattle.bits.specs.Number.{table}
+use Rattle.reed_muller.specs.Level.{dimension, order, backwards}
+use Rattle.bits.specs.Message.{messageBit, bytesOf, withBits}
 use Rattle.reed_muller.proofs.Parity.{backwards-small}
-use Rattle.reed_muller.proofs.Digits.{digit, digit-small}
+use Rattle.bits.proofs.Digits.{digit, digit-small}
 use Rattle.reed_muller.proofs.Held.{put-read}
 use Rattle.e8.specs.Lattice.{part}
 use Rattle.e8.specs.Rows.{reduced}

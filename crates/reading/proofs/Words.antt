@@ -12,7 +12,7 @@ use lib.IntN.{ℤ}
 use lib.Signed.{shrZ}
 use Rattle.integers.proofs.Floor.{modZ-lt}
 use Rattle.reed_muller.specs.Level.{clearAbove, belongs, backwards}
-use Rattle.reed_muller.proofs.Digits.{digit}
+use Rattle.bits.proofs.Digits.{digit}
 use Rattle.reed_muller.proofs.Transform.{backwards-cong}
 use Rattle.reed_muller.proofs.Belongs.{belongs-bits}
 use Rattle.frames.specs.Kind.{degrees, levels}

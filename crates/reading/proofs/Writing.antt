@@ -7,12 +7,12 @@ use native.Mathlib.Nat.{zero-div}
 use native.Mathlib.Omega.{arith}
 use lib.ListN.{length, getD, set, length-append, List·getD-append, List·getD-eq-default}
 use lib.Seq.{getD-append-add, getD-set-same}
-use Rattle.reed_muller.specs.Level.{table}
-use Rattle.reed_muller.specs.Message.{messageBit, bytesOf, withBits}
-use Rattle.reed_muller.proofs.Table.{length-table, table-at}
-use Rattle.reed_muller.proofs.Parity.{message-small}
-use Rattle.reed_muller.proofs.Message.{length-bytes, bits-of-bytes, bytes-ext, bytes-of-bits, with-in, with-before, with-past, with-small, with-none}
-use Rattle.reed_muller.proofs.Bytewise.{with-ext}
+use Rattle.bits.specs.Number.{table}
+use Rattle.bits.specs.Message.{messageBit, bytesOf, withBits}
+use Rattle.bits.proofs.Table.{length-table, table-at}
+use Rattle.bits.proofs.Message.{message-small}
+use Rattle.bits.proofs.Message.{length-bytes, bits-of-bytes, bytes-ext, bytes-of-bits, with-in, with-before, with-past, with-small, with-none}
+use Rattle.bits.proofs.Bytewise.{with-ext}
 use Rattle.reading.specs.Written.{Written}
 
 -- ---- a row of bits of a table

@@ -3,7 +3,7 @@ use Prim.Native.Nat.{ℕ, _*_, _<_}
 use mathlib.Core.Path.{_≡_}
 use mathlib.Core.List.{List}
 use lib.ListN.{length, getD}
-use Rattle.reed_muller.specs.Message.{messageBit, withBits}
+use Rattle.bits.specs.Message.{messageBit, withBits}
 
 -- `after` is `before` with the bits of the row at `from`, `from` + 1, .., and every other bit as it was
 pub record Written (from : ℕ) (row before after : List ℕ) : Type 0 where

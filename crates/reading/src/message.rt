@@ -87,7 +87,7 @@ pub fn write_blocks(kind: u8, grade: usize, frame: &[i32], out: &mut [u8])
     let mut j: usize = 0;
     while j < n {
         let s = block_numbers(a, grade, frame, j);
-        reed_muller::put_bits(packed(s, grade), 8 * grade, out, from);
+        bits::put_bits(packed(s, grade), 8 * grade, out, from);
         from += 8 * grade;
         j += 1;
     }

@@ -9,8 +9,9 @@ use native.Mathlib.Omega.{arith}
 use lib.Dec.{leb, lit<}
 use lib.ListN.{length, getD}
 use borrow.Author.Tests.{le-leb, lt-leb}
-use Rattle.reed_muller.specs.Level.{sumTo, given, liesIn, weight, masks, order, place, dimension, codeword, backwards}
-use Rattle.reed_muller.proofs.Sum.{sum-ext, sum-first}
+use Rattle.bits.specs.Number.{sumTo, given}
+use Rattle.reed_muller.specs.Level.{liesIn, weight, masks, order, place, dimension, codeword, backwards}
+use Rattle.bits.proofs.Sum.{sum-ext, sum-first}
 use Rattle.reed_muller.proofs.Parity.{tested-cong, tested-add}
 use Rattle.reed_muller.proofs.Transform.{backwards-cong, backwards-twice}
 use Rattle.reed_muller.proofs.Weight.{minimum-weight}

@@ -2,7 +2,8 @@
 use mathlib.Core.Path.{_≡_, refl}
 use mathlib.Core.List.{[], _∷_}
 use lib.Count.{ones}
-use Rattle.reed_muller.specs.Level.{table, ofWeight, masks, dimension}
+use Rattle.bits.specs.Number.{table}
+use Rattle.reed_muller.specs.Level.{ofWeight, masks, dimension}
 
 -- kind 4, level 1
 pub kind-4-level-1 : masks 3 4 ≡ 0 ∷ 1 ∷ 2 ∷ 4 ∷ 8 ∷ 3 ∷ 5 ∷ 6 ∷ 9 ∷ 10 ∷ 12 ∷ 7 ∷ 11 ∷ 13 ∷ 14 ∷ []

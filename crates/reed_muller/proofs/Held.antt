@@ -12,16 +12,18 @@ use lib.Count.{ones}
 use lib.Pow.{pow-pos}
 use lib.ListN.{getD}
 use borrow.Author.Tests.{eq-eqb, ne-eqb, le-leb, lt-leb, lt-ltb, le-ltb}
-use Rattle.reed_muller.specs.Level.{sumTo, table, given, weight, order, place, dimension, backwards, clearAbove}
-use Rattle.reed_muller.specs.Message.{bytesOf, withBits}
+use Rattle.bits.specs.Number.{sumTo, table, given}
+use Rattle.reed_muller.specs.Level.{weight, order, place, dimension, backwards, clearAbove}
+use Rattle.bits.specs.Message.{bytesOf, withBits}
 use Rattle.reed_muller.proofs.Order.{order-place, order-below, place-order, place-light, order-light, dimension-small}
 use Rattle.reed_muller.proofs.Codeword.{coefficient, readBits}
 use Rattle.reed_muller.proofs.Belongs.{clear-true, clear-zero}
-use Rattle.reed_muller.proofs.Sum.{sum-zero}
-use Rattle.reed_muller.proofs.Table.{table-at}
-use Rattle.reed_muller.proofs.Message.{number, number-bit, number-digits, bytes-ext}
-use Rattle.reed_muller.proofs.Digits.{digit, digit-none, and-clear, and-keep, shift-digit, shift-low}
-use Rattle.reed_muller.proofs.Bytewise.{with-ext}
+use Rattle.bits.proofs.Sum.{sum-zero}
+use Rattle.bits.proofs.Table.{table-at}
+use Rattle.bits.specs.Number.{number}
+use Rattle.bits.proofs.Message.{number-bit, number-digits, bytes-ext}
+use Rattle.bits.proofs.Digits.{digit, digit-none, and-clear, and-keep, shift-digit, shift-low}
+use Rattle.bits.proofs.Bytewise.{with-ext}
 
 -- the coefficients of the first k masks of the order, and 0 at the others
 abbrev pub firstOf : ℕ → (ℕ → ℕ) → ℕ → ℕ → ℕ
@@ -130,11 +132,11 @@ above-small r S = go (ltb r (weight S))
     go true = lit< tt
     go false = lit< tt
 
-heavy-words-right : heavy-words ≡ table 7 (λ r. number (above r) 64)
+heavy-words-right : heavy-words ≡ table 7 (λ r. number 64 (above r))
 unfolding table sumTo ones
 heavy-words-right = refl
 
 pub heavy-word : (r S : ℕ) → r < 7 → S < 64 → digit (getD heavy-words r 0) S ≡ given (ltb r (weight S)) 1
 heavy-word r S hr hS =
-    ap (λ (x : ℕ). digit x S) (ap (λ (xs : List ℕ). getD xs r 0) heavy-words-right ∙ table-at (λ r. number (above r) 64) 7 r hr)
+    ap (λ (x : ℕ). digit x S) (ap (λ (xs : List ℕ). getD xs r 0) heavy-words-right ∙ table-at (λ r. number 64 (above r)) 7 r hr)
     ∙ number-bit (above r) 64 (λ S l. above-small r S) S hS

@@ -1,5 +1,3 @@
-pub mod Sum
-pub mod Table
 pub mod Lies
 pub mod Parity
 pub mod Transform
@@ -8,9 +6,6 @@ pub mod Order
 pub mod Codeword
 pub mod Belongs
 pub mod MaskTables
-pub mod Message
-pub mod Digits
 pub mod Stages
 pub mod Held
 pub mod Examples
-pub mod Bytewise

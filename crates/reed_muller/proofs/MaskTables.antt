@@ -6,8 +6,9 @@ use native.Mathlib.Omega.{arith}
 use lib.Count.{ones}
 use lib.ListN.{getD}
 use lib.Pow.{pow-mono, pow-add}
-use Rattle.reed_muller.specs.Level.{ofWeight, masks, order, place, table, dimension, Tabled}
-use Rattle.reed_muller.proofs.Table.{table-at}
+use Rattle.bits.specs.Number.{table}
+use Rattle.reed_muller.specs.Level.{ofWeight, masks, order, place, dimension, Tabled}
+use Rattle.bits.proofs.Table.{table-at}
 use Rattle.reed_muller.proofs.Order.{order-below, dimension-small}
 
 -- the tables of length 2 ^ m: the masks in order, their places, the dimensions for r = 0, .., m

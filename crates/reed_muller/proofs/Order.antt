@@ -10,8 +10,9 @@ use lib.ListN.{length, getD, take, length-append}
 use lib.Seq.{take-length, take-append-le, getD-take}
 use lib.Count.{ones-le}
 use borrow.Author.Tests.{eq-eqb, ne-eqb, le-leb, lt-leb}
-use Rattle.reed_muller.specs.Level.{sumTo, pick, given, weight, keep, ofWeight, masks, order, place, table, dimension}
-use Rattle.reed_muller.proofs.Sum.{sum-ext, sum-add, sum-zero, sum-term}
+use Rattle.bits.specs.Number.{sumTo, pick, given, table}
+use Rattle.reed_muller.specs.Level.{weight, keep, ofWeight, masks, order, place, dimension}
+use Rattle.bits.proofs.Sum.{sum-ext, sum-add, sum-zero, sum-term}
 
 -- the sum of h over a list
 abbrev pub sumL : (ℕ → ℕ) → List ℕ → ℕ

@@ -2,14 +2,13 @@
 use Prim.Native.Nat.{ℕ, _+_, _%_, _<_}
 use mathlib.Core.Path.{_≡_, refl, _∙_}
 use mathlib.Core.Bool.{Bool, true, false}
-use mathlib.Core.List.{List}
 use native.Mathlib.Nat.{mod-lt}
 use native.Mathlib.Numerals.{add-one}
 use native.Mathlib.Omega.{arith}
 use lib.Dec.{lit<}
-use Rattle.reed_muller.specs.Level.{sumTo, given, backwards}
-use Rattle.reed_muller.specs.Message.{messageBit}
-use Rattle.reed_muller.proofs.Sum.{sum-ext, sum-add, sum-parity}
+use Rattle.bits.specs.Number.{sumTo, given}
+use Rattle.reed_muller.specs.Level.{backwards}
+use Rattle.bits.proofs.Sum.{sum-ext, sum-add, sum-parity}
 
 -- the sum of the first n values of f that pass the test
 abbrev pub chosen : (ℕ → Bool) → (ℕ → ℕ) → ℕ → ℕ
@@ -52,10 +51,6 @@ module _ (t : ℕ → Bool) (f : ℕ → ℕ) where
 
   pub tested-add : (g : ℕ → ℕ) (n : ℕ) → tested t (λ i. f i + g i) n ≡ (tested t f n + tested t g n) % 2
   tested-add g n = omega (arith, chosen-add g n)
-
-pub message-small : (bytes : List ℕ) (k : ℕ) → messageBit bytes k < 2
-unfolding messageBit
-message-small bytes k = mod-lt _ (lit< tt)
 
 pub backwards-small : (m : ℕ) (value : ℕ → ℕ) (S : ℕ) → backwards m value S < 2
 unfolding backwards

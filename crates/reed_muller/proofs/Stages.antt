@@ -11,11 +11,13 @@ use lib.Pow.{high, pow-mono}
 use lib.ListN.{getD}
 use lib.Bits.{bitAnd, bitXor}
 use borrow.Author.Tests.{eq-eqb, ne-eqb}
-use Rattle.reed_muller.specs.Level.{pick, sumTo, table, backwards}
-use Rattle.reed_muller.proofs.Table.{table-at}
-use Rattle.reed_muller.proofs.Message.{number, number-bit}
+use Rattle.bits.specs.Number.{pick, sumTo, table}
+use Rattle.reed_muller.specs.Level.{backwards}
+use Rattle.bits.proofs.Table.{table-at}
+use Rattle.bits.specs.Number.{number}
+use Rattle.bits.proofs.Message.{number-bit}
 use Rattle.reed_muller.proofs.Transform.{raw, raw-low, raw-high, half-of}
-use Rattle.reed_muller.proofs.Digits.{digit, digit-small, xor-digit, and-clear, and-keep, shift-digit}
+use Rattle.bits.proofs.Digits.{digit, digit-small, xor-digit, and-clear, and-keep, shift-digit}
 
 -- one stage: where p has the digit of h, the value at p − h is added
 abbrev pub stageAt : ℕ → (ℕ → ℕ) → ℕ → ℕ
@@ -135,13 +137,13 @@ module _ (W j mask t : ℕ) (right : (p : ℕ) → p < W → digit mask p ≡ di
 abbrev pub digit-words : List ℕ
 digit-words = 12297829382473034410 ∷ 14757395258967641292 ∷ 17361641481138401520 ∷ 18374966859414961920 ∷ 18446462603027742720 ∷ 18446744069414584320 ∷ []
 
-digit-words-right : digit-words ≡ table 6 (λ j. number (λ p. digit p j) 64)
+digit-words-right : digit-words ≡ table 6 (λ j. number 64 (λ p. digit p j))
 unfolding table sumTo
 digit-words-right = refl
 
 pub digit-word : (j p : ℕ) → j < 6 → p < 64 → digit (getD digit-words j 0) p ≡ digit p j
 digit-word j p hj hp =
-    ap (λ (x : ℕ). digit x p) (ap (λ (xs : List ℕ). getD xs j 0) digit-words-right ∙ table-at (λ j. number (λ p. digit p j) 64) 6 j hj)
+    ap (λ (x : ℕ). digit x p) (ap (λ (xs : List ℕ). getD xs j 0) digit-words-right ∙ table-at (λ j. number 64 (λ p. digit p j)) 6 j hj)
     ∙ number-bit (λ p. digit p j) 64 (λ p l. digit-small p j) p hp
 
 -- six stages, read at the masks of a word of at most 64 positions

@@ -7,25 +7,7 @@ use lib.Dec.{eqb, leb}
 use lib.Bits.{bitAnd}
 use lib.Count.{ones}
 use lib.ListN.{length, getD}
-
--- a where the test holds, and b where it does not
-abbrev pub pick : Bool → ℕ → ℕ → ℕ
-pick true a b = a
-pick false a b = b
-
--- x where the test holds, and 0 where it does not
-abbrev pub given : Bool → ℕ → ℕ
-given t x = pick t x 0
-
--- f 0 + f 1 + .. + f (n − 1)
-unfoldable pub sumTo : ℕ → (ℕ → ℕ) → ℕ
-sumTo zero f = 0
-sumTo (suc n) f = sumTo n f + f n
-
--- the list f 0, f 1, .., f (n − 1)
-unfoldable pub table : ℕ → (ℕ → ℕ) → List ℕ
-table zero f = []
-table (suc n) f = table n f ++ (f n ∷ [])
+use Rattle.bits.specs.Number.{pick, given, sumTo, table}
 
 -- the mask S lies in p: every bit set in S is set in p
 abbrev pub liesIn : ℕ → ℕ → Bool

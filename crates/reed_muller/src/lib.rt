@@ -5,8 +5,9 @@ ghost use mathlib.Core.Path.{_≡_};
 ghost use Prim.Native.Nat.{ℕ, _+_, _*_, _/_, _%_, _^_, _<_, _≤_};
 ghost use lib.Dec.{eqb, leb, ltb};
 ghost use lib.ListN.{length, getD};
-ghost use Rattle.reed_muller.specs.Level.{pick, given, weight, table, order, place, dimension, codeword, backwards, clearAbove, belongs, Tabled};
-ghost use Rattle.reed_muller.specs.Message.{messageBit, bytesOf, withBit, withBits};
+ghost use Rattle.bits.specs.Number.{pick, given, table};
+ghost use Rattle.reed_muller.specs.Level.{weight, order, place, dimension, codeword, backwards, clearAbove, belongs, Tabled};
+ghost use Rattle.bits.specs.Message.{messageBit, bytesOf, withBits};
 
 // The masks of each length by number of set bits, then by value.
 const ORDER_8: [u8; 8] = [0, 1, 2, 4, 3, 5, 6, 7];
@@ -137,20 +138,6 @@ pub fn mask_at(m: usize, k: usize) -> usize
     wide(ORDER_32[k])
 }
 
-// The place of a mask in the order.
-pub fn place_of(m: usize, mask: usize) -> usize
-    requires { ⌜ Tabled m × (mask < 2 ^ m) ⌝ }
-    ensures { λ k. ⌜ k ≡ place (order m) mask ⌝ }
-{
-    if m == 3 {
-        return PLACE_8[mask];
-    }
-    if m == 4 {
-        return PLACE_16[mask];
-    }
-    PLACE_32[mask]
-}
-
 // The dimension of RM(r,m): its number of message bits.
 pub fn dimension_of(m: usize, r: usize) -> usize
     requires { ⌜ Tabled m × (r ≤ m) ⌝ }
@@ -173,69 +160,6 @@ pub fn positions(m: usize) -> usize
     1 << m
 }
 
-// Message bit k.
-pub fn bit(message: &[u8], k: usize) -> u8
-    requires { ⌜ k < 8 * length (now message) ⌝ }
-    ensures { λ b. ⌜ b ≡ messageBit (now (message .entry)) k ⌝ }
-{
-    (message[k / 8] >> (k % 8)) % 2
-}
-
-// Puts b at bit k, whatever stood there, and leaves every other bit as it was.
-pub fn put_bit(out: &mut [u8], k: usize, b: u8)
-    requires { ⌜ (k < 8 * length (now out)) × (b < 2) ⌝ }
-    ensures { λ _. ⌜ now (out .exit) ≡ withBit k b (now (out .entry)) ⌝ }
-{
-    let j = k / 8;
-    let s = k % 8;
-    let x = out[j];
-    let old = (x >> s) % 2;
-    out[j] = x - (old << s) + (b << s);
-}
-
-// The byte x with the bits of v where m has a bit set.
-fn blended(x: u8, v: u8, m: u8) -> u8
-    ensures { λ y. ⌜ ((p : ℕ) → y / 2 ^ p % 2 ≡ pick (eqb (m / 2 ^ p % 2) 1) (v / 2 ^ p % 2) (x / 2 ^ p % 2)) ⌝ }
-{
-    x ^ ((x ^ v) & m)
-}
-
-// Puts the first bits of a number into `out` from bit `from` on, byte by byte, and leaves every other bit as it was.
-pub fn put_bits(bits: u64, count: usize, out: &mut [u8], from: usize)
-    requires { ⌜ (count ≤ 56) × (from ≤ 1000) × (from + count ≤ 8 * length (now out)) ⌝ }
-    ensures { λ _. ⌜ now (out .exit) ≡ bytesOf (length (now (out .entry))) (withBits from count (λ k. bits / 2 ^ k % 2) (messageBit (now (out .entry)))) ⌝ }
-{
-    let first = from / 8;
-    let s = from % 8;
-    let mut v = bits << s;
-    let mut m = ((1u64 << count) - 1) << s;
-    let mut j = first;
-    while 0 < m {
-        let x = out[j];
-        out[j] = blended(x, (v % 256) as u8, (m % 256) as u8);
-        v = v >> 8;
-        m = m >> 8;
-        j += 1;
-    }
-}
-
-// The message bits from bit `from` on, held in a number, byte by byte.
-pub fn bits_at(message: &[u8], from: usize, count: usize) -> u64
-    requires { ⌜ (count ≤ 56) × (from ≤ 1000) × (from + count ≤ 8 * length (now message)) ⌝ }
-    ensures { λ w. ⌜ ((t : ℕ) → t < count → w / 2 ^ t % 2 ≡ messageBit (now (message .entry)) (from + t)) ⌝ }
-{
-    let first = from / 8;
-    let s = from % 8;
-    let mut w: u64 = 0;
-    let mut i = (s + count + 7) / 8;
-    while 0 < i {
-        i -= 1;
-        let j = first + i;
-        w = 256 * w + message[j] as u64;
-    }
-    w >> s
-}
-
 // The value at p of the codeword of RM(r,m) of the message bits from bit `from` on.
 pub fn value_at(message: &[u8], from: usize, m: usize, r: usize, p: usize) -> u8
     requires { ⌜ Tabled m × (r ≤ m) × (from ≤ 1000) × (from + dimension r m ≤ 8 * length (now message)) ⌝ }
@@ -247,26 +171,9 @@ pub fn value_at(message: &[u8], from: usize, m: usize, r: usize, p: usize) -> u8
     while k < count {
         let mask = mask_at(m, k);
         if mask & p == mask {
-            s = (s + bit(message, from + k)) % 2;
+            s = (s + bits::bit(message, from + k)) % 2;
         }
         k += 1;
-    }
-    s
-}
-
-// Backwards: the bit of a mask. Any byte is taken as a value; only its parity counts.
-pub fn bit_of_mask(word: &[u8], m: usize, mask: usize) -> u8
-    requires { ⌜ Tabled m × (2 ^ m ≤ length (now word)) ⌝ }
-    ensures { λ b. ⌜ b ≡ backwards m (λ p. getD (now (word .entry)) p 0) mask ⌝ }
-{
-    let n = positions(m);
-    let mut s: u8 = 0;
-    let mut p: usize = 0;
-    while p < n {
-        if p & mask == p {
-            s = (s + word[p] % 2) % 2;
-        }
-        p += 1;
     }
     s
 }
@@ -290,20 +197,6 @@ pub fn transformed(w: u64) -> u64
         j += 1;
     }
     t
-}
-
-// The parities of a word, held in a number.
-fn parities(word: &[u8], m: usize) -> u64
-    requires { ⌜ Tabled m × (2 ^ m ≤ length (now word)) ⌝ }
-    ensures { λ w. ⌜ ((p : ℕ) → p < 2 ^ m → w / 2 ^ p % 2 ≡ getD (now (word .entry)) p 0 % 2) ⌝ }
-{
-    let mut w: u64 = 0;
-    let mut p = positions(m);
-    while 0 < p {
-        p -= 1;
-        w = 2 * w + (word[p] % 2) as u64;
-    }
-    w
 }
 
 // Message bits held in a number, each at its mask.
@@ -343,34 +236,6 @@ pub fn codeword_held(bits: u64, m: usize, r: usize) -> u64
     codeword_by(bits, m, r, &ORDER_32)
 }
 
-// The first eight values of a word held in a number.
-fn put_eight(w: u64, out: &mut [u8])
-    requires { ⌜ length (now out) ≡ 8 ⌝ }
-    ensures { λ _. ⌜ now (out .exit) ≡ table 8 (λ p. w / 2 ^ p % 2) ⌝ }
-{
-    let mut p: usize = 0;
-    while p < 8 {
-        out[p] = ((w >> p) % 2) as u8;
-        p += 1;
-    }
-}
-
-// The codeword of RM(r,m) of the message bits from bit `from` on.
-pub fn encode(message: &[u8], from: usize, m: usize, r: usize, word: &mut [u8])
-    requires { ⌜ Tabled m × (r ≤ m) × (from ≤ 1000) × (from + dimension r m ≤ 8 * length (now message)) × (length (now word) ≡ 2 ^ m) ⌝ }
-    ensures { λ _. ⌜ now (word .exit) ≡ table (2 ^ m) (codeword r m (λ k. messageBit (now (message .entry)) (from + k))) ⌝ }
-{
-    let n = positions(m);
-    let bits = bits_at(message, from, dimension_of(m, r));
-    let w = codeword_held(bits, m, r);
-    let mut p: usize = 0;
-    while p < n {
-        let e = p + 8;
-        put_eight(w >> p, &mut word[p..e]);
-        p = e;
-    }
-}
-
 // The masks with more than r bits set.
 fn heavy(r: usize) -> u64
     requires { ⌜ r < 7 ⌝ }
@@ -386,14 +251,6 @@ pub fn clear_above(bits: u64, m: usize, r: usize) -> bool
 {
     let heavies = bits & heavy(r);
     heavies << (64 - positions(m)) == 0
-}
-
-// Whether a word belongs to RM(r,m).
-pub fn is_codeword(word: &[u8], m: usize, r: usize) -> bool
-    requires { ⌜ Tabled m × (r ≤ m) × (2 ^ m ≤ length (now word)) ⌝ }
-    ensures { λ b. ⌜ b ≡ belongs r m (λ p. getD (now (word .entry)) p 0) ⌝ }
-{
-    clear_above(transformed(parities(word, m)), m, r)
 }
 
 // The bits of the masks of RM(r,m) in their order, held in a number.
@@ -418,7 +275,7 @@ fn put_by(bits: u64, m: usize, r: usize, masks: &[u8], out: &mut [u8], from: usi
 {
     let count = dimension_of(m, r);
     let message = in_order(bits, m, r, masks);
-    put_bits(message, count, out, from);
+    bits::put_bits(message, count, out, from);
 }
 
 // Writes the message bits of a level into `out` from bit `from` on, given the bits of its masks held in a number, and leaves every other bit as it was.
@@ -436,13 +293,4 @@ pub fn put_message(bits: u64, m: usize, r: usize, out: &mut [u8], from: usize)
         return;
     }
     put_by(bits, m, r, &ORDER_32, out, from);
-}
-
-// The same of a level's word.
-pub fn read_level(word: &[u8], m: usize, r: usize, out: &mut [u8], from: usize)
-    requires { ⌜ Tabled m × (r ≤ m) × (2 ^ m ≤ length (now word)) × (from ≤ 1000) × (from + dimension r m ≤ 8 * length (now out)) ⌝ }
-    ensures { λ _. ⌜ now (out .exit) ≡ bytesOf (length (now (out .entry)))
-        (withBits from (dimension r m) (λ k. backwards m (λ p. getD (now (word .entry)) p 0) (getD (order m) k 0)) (messageBit (now (out .entry)))) ⌝ }
-{
-    put_message(transformed(parities(word, m)), m, r, out, from);
 }

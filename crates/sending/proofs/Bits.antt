@@ -3,9 +3,9 @@ use Prim.Native.Nat.{ℕ, _+_, _*_, _/_, _%_, _^_, _≤_, _<_}
 use mathlib.Core.Path.{_≡_, sym, ap, _∙_}
 use native.Mathlib.Omega.{arith}
 use lib.Pow.{pow-mono}
-use Rattle.reed_muller.proofs.Sum.{sum-ext}
-use Rattle.reed_muller.proofs.Message.{number-lt, number-digits}
-use Rattle.reed_muller.proofs.Digits.{digit-from}
+use Rattle.bits.proofs.Sum.{sum-ext}
+use Rattle.bits.proofs.Message.{number-lt, number-digits}
+use Rattle.bits.proofs.Digits.{digit-from}
 use Rattle.frames.specs.Message.{number}
 
 module _ (bit : ℕ → ℕ) (from : ℕ) (small : (i : ℕ) → bit i < 2) (i : ℕ) where

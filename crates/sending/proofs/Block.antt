@@ -9,7 +9,7 @@ use lib.ListN.{length, getD, take, set}
 use lib.Seq.{take-suc-set}
 use lib.Pow.{pow-mono}
 use lib.IntN.{ℤ, pos}
-use Rattle.reed_muller.specs.Level.{table}
+use Rattle.bits.specs.Number.{table}
 use Rattle.e8.specs.Rows.{ints}
 use Rattle.frames.specs.Message.{widths, number, numbers}
 use Rattle.frames.proofs.Numbers.{total}

@@ -9,11 +9,11 @@ use lib.ListN.{length, getD, take}
 use lib.Seq.{ext-getD}
 use lib.Pow.{pow-mono}
 use lib.IntN.{ℤ, pos}
-use Rattle.reed_muller.specs.Level.{table}
-use Rattle.reed_muller.specs.Message.{messageBit}
-use Rattle.reed_muller.proofs.Parity.{message-small}
-use Rattle.reed_muller.proofs.Table.{length-table, table-at}
-use Rattle.reed_muller.proofs.Digits.{digit-from}
+use Rattle.bits.specs.Number.{table}
+use Rattle.bits.specs.Message.{messageBit}
+use Rattle.bits.proofs.Message.{message-small}
+use Rattle.bits.proofs.Table.{length-table, table-at}
+use Rattle.bits.proofs.Digits.{digit-from}
 use Rattle.e8.specs.Energy.{Within}
 use Rattle.e8.proofs.Within.{within-all}
 use Rattle.e8.specs.Lattice.{part}

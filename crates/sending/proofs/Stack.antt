@@ -8,7 +8,7 @@ use native.Mathlib.Omega.{arith}
 use lib.ListN.{length, getD}
 use Rattle.reed_muller.specs.Level.{dimension, codeword}
 use Rattle.reed_muller.proofs.Codeword.{codeword-small, codeword-cong}
-use Rattle.reed_muller.proofs.Digits.{digit-none, digit-from}
+use Rattle.bits.proofs.Digits.{digit-none, digit-from}
 use Rattle.frames.specs.Kind.{kinds, isKind, degrees, levels, dimensions}
 use Rattle.frames.specs.Message.{stacked}
 use Rattle.frames.proofs.Rows.{each-kind}

@@ -3,8 +3,8 @@ ghost use mathlib.Core.Path.{_≡_};
 ghost use mathlib.Core.Bool.{true};
 ghost use Prim.Native.Nat.{ℕ, _+_, _*_, _/_, _%_, _<_, _≤_, _^_};
 ghost use lib.ListN.{length, getD};
-ghost use Rattle.reed_muller.specs.Level.{table};
-ghost use Rattle.reed_muller.specs.Message.{messageBit};
+ghost use Rattle.bits.specs.Number.{table};
+ghost use Rattle.bits.specs.Message.{messageBit};
 ghost use Rattle.e8.specs.Rows.{ints};
 ghost use Rattle.frames.specs.Kind.{isKind, degrees, levels, levelBits};
 ghost use Rattle.frames.specs.Message.{widths, numbers, stacked};
@@ -21,7 +21,7 @@ pub fn codewords(kind: u8, message: &[u8]) -> Words
     ensures { λ w. ⌜ ((p s : ℕ) → p < 2 ^ kind → stacked kind (degrees kind) (messageBit (now (message .entry))) 0 s p ≡ w .low / 2 ^ p % 2 + 2 * (w .high / 2 ^ p % 2) + 2 ^ levels kind * s) ⌝ }
 {
     let m = kind as usize;
-    let bits = reed_muller::bits_at(message, 0, kind_table::level_bits(kind));
+    let bits = bits::bits_at(message, 0, kind_table::level_bits(kind));
     let r = kind_table::degree(kind, 0);
     let low = reed_muller::codeword_held(bits, m, r);
     if kind_table::levels(kind) == 1 {
@@ -37,7 +37,7 @@ pub fn block(message: &[u8], from: usize, grade: usize, a: u32, low: u64, high: 
     requires { ⌜ (1 ≤ grade) × (grade ≤ 4) × (a ≤ 3) × (from ≤ 400) × (from + 8 * grade ≤ 8 * length (now message)) ⌝ }
     ensures { λ x. ⌜ x ≡ ints (table 8 (λ o. low / 2 ^ o % 2 + 2 * (high / 2 ^ o % 2) + 2 ^ a * getD (numbers (messageBit (now (message .entry))) from (widths grade)) o 0)) ⌝ }
 {
-    let bits = reed_muller::bits_at(message, from, 8 * grade);
+    let bits = bits::bits_at(message, from, 8 * grade);
     let mut x = [0i32; 8];
     let mut at: usize = 0;
     let mut c: usize = 0;

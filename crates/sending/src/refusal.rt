@@ -3,7 +3,7 @@ ghost use mathlib.Core.Path.{_≡_};
 ghost use mathlib.Core.Bool.{true};
 ghost use Prim.Native.Nat.{_+_, _*_, _≤_, _<_};
 ghost use lib.ListN.{length};
-ghost use Rattle.reed_muller.specs.Message.{messageBit};
+ghost use Rattle.bits.specs.Message.{messageBit};
 ghost use Rattle.frames.specs.Sending.{anySet, spareSet, sendRefusal};
 ghost use Rattle.frames.specs.Kind.{isKind, messageBytes};
 
@@ -14,7 +14,7 @@ fn any_set(message: &[u8], from: usize, count: usize) -> bool
 {
     let mut i: usize = 0;
     while i < count {
-        if reed_muller::bit(message, from + i) == 1 {
+        if bits::bit(message, from + i) == 1 {
             return true;
         }
         i += 1;

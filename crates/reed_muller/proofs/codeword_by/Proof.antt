@@ -5,7 +5,7 @@ use borrow.Author.Needs.{needs}
 use native.Mathlib.Omega.{arith}
 use Rattle.reed_muller.proofs.Transform.{backwards-cong}
 use Rattle.reed_muller.proofs.Codeword.{coefficient, codeword-transform}
-use Rattle.reed_muller.proofs.Digits.{digit}
+use Rattle.bits.proofs.Digits.{digit}
 use Rattle.reed_muller.proofs.codeword_by.Statement.{statement}
 use Rattle.reed_muller.proofs.codeword_by.Tie as tie
 

@@ -5,10 +5,11 @@ use mathlib.Core.List.{List}
 use native.Mathlib.Omega.{arith}
 use lib.Dec.{eqb}
 use lib.ListN.{length, getD}
-use Rattle.reed_muller.specs.Level.{given, dimension}
+use Rattle.bits.specs.Number.{given}
+use Rattle.reed_muller.specs.Level.{dimension}
 use Rattle.reed_muller.proofs.MaskTables.{short, mask-short}
 use Rattle.reed_muller.proofs.Order.{order-length, dimension-small}
-use Rattle.reed_muller.proofs.Digits.{digit, digit-small, digit-none, xor-digit, bit-digit}
+use Rattle.bits.proofs.Digits.{digit, digit-small, digit-none, xor-digit, bit-digit}
 use Rattle.reed_muller.proofs.Held.{firstOf, first-none, first-more, first-all}
 use Rattle.reed_muller.proofs.coefficients.Statement.{statement}
 use Rattle.reed_muller.proofs.coefficients.Tie as tie

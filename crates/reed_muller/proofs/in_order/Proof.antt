@@ -8,7 +8,7 @@ use lib.Pow.{pow-pos, pow-mono}
 use Rattle.reed_muller.specs.Level.{dimension}
 use Rattle.reed_muller.proofs.Order.{order-length, dimension-small}
 use Rattle.reed_muller.proofs.MaskTables.{short, mask-short}
-use Rattle.reed_muller.proofs.Digits.{digit, digits-more, digits-fit}
+use Rattle.bits.proofs.Digits.{digit, digits-more, digits-fit}
 use Rattle.reed_muller.proofs.in_order.Statement.{statement}
 use Rattle.reed_muller.proofs.in_order.Tie as tie
 

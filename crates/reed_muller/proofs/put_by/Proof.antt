@@ -5,10 +5,10 @@ use native.Mathlib.Omega.{arith}
 use lib.ListN.{length, getD}
 use borrow.Author.Needs.{needs}
 use Rattle.reed_muller.specs.Level.{order, dimension}
-use Rattle.reed_muller.specs.Message.{messageBit, bytesOf, withBits}
-use Rattle.reed_muller.proofs.Message.{bytes-ext}
-use Rattle.reed_muller.proofs.Digits.{digit}
-use Rattle.reed_muller.proofs.Bytewise.{with-ext}
+use Rattle.bits.specs.Message.{messageBit, bytesOf, withBits}
+use Rattle.bits.proofs.Message.{bytes-ext}
+use Rattle.bits.proofs.Digits.{digit}
+use Rattle.bits.proofs.Bytewise.{with-ext}
 use Rattle.reed_muller.proofs.MaskTables.{few-bits}
 use Rattle.reed_muller.proofs.put_by.Statement.{statement}
 use Rattle.reed_muller.proofs.put_by.Tie as tie

@@ -4,7 +4,7 @@ use mathlib.Core.Path.{_≡_, refl, ap, _∙_}
 use native.Mathlib.Numerals.{add-one}
 use native.Mathlib.Omega.{arith}
 use lib.Pow.{pow-mono}
-use Rattle.reed_muller.proofs.Digits.{digit}
+use Rattle.bits.proofs.Digits.{digit}
 use Rattle.reed_muller.proofs.Stages.{stages, stage-more, all-stages}
 use Rattle.reed_muller.proofs.transformed.Statement.{statement}
 use Rattle.reed_muller.proofs.transformed.Tie as tie

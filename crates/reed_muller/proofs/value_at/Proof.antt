@@ -8,10 +8,11 @@ use mathlib.Core.List.{List}
 use lib.ListN.{getD}
 use borrow.Author.Tests.{eq-eqb, ne-eqb}
 use Rattle.reed_muller.specs.Level.{liesIn, order, dimension, codeword}
-use Rattle.reed_muller.specs.Message.{messageBit}
+use Rattle.bits.specs.Message.{messageBit}
 use Rattle.reed_muller.proofs.MaskTables.{short}
 use Rattle.reed_muller.proofs.Order.{dimension-small}
-use Rattle.reed_muller.proofs.Parity.{tested, tested-none, tested-small, tested-in, tested-out, message-small}
+use Rattle.bits.proofs.Message.{message-small}
+use Rattle.reed_muller.proofs.Parity.{tested, tested-none, tested-small, tested-in, tested-out}
 use Rattle.reed_muller.proofs.value_at.Statement.{statement}
 use Rattle.reed_muller.proofs.value_at.Tie as tie
 

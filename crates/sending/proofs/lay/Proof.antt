@@ -5,8 +5,8 @@ use native.Mathlib.Omega.{arith}
 use lib.ListN.{length, getD, take, length-take, length-drop}
 use lib.Seq.{take-all}
 use borrow.Author.Needs.{needs}
-use Rattle.reed_muller.specs.Level.{table}
-use Rattle.reed_muller.specs.Message.{messageBit}
+use Rattle.bits.specs.Number.{table}
+use Rattle.bits.specs.Message.{messageBit}
 use Rattle.e8.specs.Lattice.{part}
 use Rattle.e8.specs.Rows.{ints}
 use Rattle.frames.specs.Kind.{blocks as blocks-of, levelBits}

@@ -7,7 +7,7 @@ use lib.ListN.{getD}
 use lib.Pow.{pow-pos, pow-mono}
 use borrow.Author.Needs.{needs}
 use Rattle.integers.proofs.Zed.{tz}
-use Rattle.reed_muller.proofs.Digits.{digit, digits-more, digits-fit}
+use Rattle.bits.proofs.Digits.{digit, digits-more, digits-fit}
 use Rattle.frames.specs.Frame.{weightBit, levelWord}
 use Rattle.reading.proofs.Words.{weight-bit-small}
 use Rattle.reading.proofs.level.eight.Statement.{statement}

@@ -7,7 +7,7 @@ use lib.IntN.{ℤ}
 use lib.ListN.{length, take, drop}
 use borrow.Author.Needs.{needs}
 use Rattle.e8.specs.Lattice.{part}
-use Rattle.reed_muller.proofs.Digits.{digit}
+use Rattle.bits.proofs.Digits.{digit}
 use Rattle.frames.specs.Frame.{weightBit, levelWord}
 use Rattle.frames.proofs.Frame.{part-length, part-at}
 use Rattle.reading.proofs.Same.{part-is}

@@ -15,7 +15,7 @@ use mir.Val.{Fits, toZ, ofZ}
 use mir.Facts.{fits-natAbs}
 use borrow.Author.Needs.{needs}
 use Rattle.integers.proofs.Zed.{tz}
-use Rattle.reed_muller.proofs.Digits.{digit}
+use Rattle.bits.proofs.Digits.{digit}
 use Rattle.e8.specs.Rows.{ints}
 use Rattle.e8.proofs.Rows.{ints-length}
 use Rattle.frames.specs.Message.{widths}

@@ -7,7 +7,7 @@ use lib.IntN.{ℤ}
 use lib.ListN.{length, take, getD}
 use borrow.Author.Needs.{needs}
 use Rattle.reed_muller.specs.Level.{dimension}
-use Rattle.reed_muller.proofs.Message.{length-bytes}
+use Rattle.bits.proofs.Message.{length-bytes}
 use Rattle.frames.specs.Kind.{degrees, levels, dimensions, levelBits}
 use Rattle.frames.specs.Frame.{levelWord}
 use Rattle.frames.specs.Reading.{levelMessage, levelMessages}

@@ -10,9 +10,9 @@ use lib.IntN.{pos}
 use mir.Syntax.{w32}
 use mir.Val.{toZ}
 use mir.Facts.{toZ-pos}
-use Rattle.reed_muller.specs.Level.{table}
-use Rattle.reed_muller.specs.Message.{messageBit}
-use Rattle.reed_muller.proofs.Parity.{message-small}
+use Rattle.bits.specs.Number.{table}
+use Rattle.bits.specs.Message.{messageBit}
+use Rattle.bits.proofs.Message.{message-small}
 use Rattle.e8.specs.Rows.{ints}
 use Rattle.frames.specs.Message.{widths, number, numbers}
 use Rattle.frames.proofs.Numbers.{total, total-widths}

@@ -5,7 +5,7 @@ use mathlib.Core.Bool.{true}
 use native.Mathlib.Omega.{arith}
 use lib.ListN.{getD}
 use Rattle.reed_muller.specs.Level.{codeword, dimension}
-use Rattle.reed_muller.specs.Message.{messageBit}
+use Rattle.bits.specs.Message.{messageBit}
 use Rattle.reed_muller.proofs.Order.{dimension-small}
 use Rattle.frames.specs.Kind.{isKind, degrees, levels as levels-of, levelBits}
 use Rattle.frames.proofs.Rows.{degree-fits}

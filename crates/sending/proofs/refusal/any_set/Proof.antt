@@ -3,7 +3,7 @@ use Prim.Native.Nat.{_≤_, _-_}
 use mathlib.Core.Path.{_≡_, sym, _∙_}
 use mathlib.Core.Bool.{false}
 use native.Mathlib.Omega.{arith}
-use Rattle.reed_muller.specs.Message.{messageBit}
+use Rattle.bits.specs.Message.{messageBit}
 use Rattle.frames.specs.Sending.{anySet}
 use Rattle.sending.proofs.Tests.{any-found, any-none, any-more}
 use Rattle.sending.proofs.refusal.any_set.Statement.{statement}

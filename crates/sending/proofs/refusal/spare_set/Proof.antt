@@ -2,7 +2,7 @@
 use Prim.Native.Nat.{ℕ, _*_, _-_}
 use mathlib.Core.Path.{ap₂, _∙_}
 use native.Mathlib.Omega.{arith}
-use Rattle.reed_muller.specs.Message.{messageBit}
+use Rattle.bits.specs.Message.{messageBit}
 use Rattle.frames.specs.Sending.{anySet, spareSet}
 use Rattle.frames.proofs.Rows.{bytes-hold}
 use Rattle.kind_table.proofs.Each.{message-small}

@@ -8,8 +8,8 @@ use lib.Pow.{high, split, shl-shr, shr-shr, pow-mono}
 use lib.Bits.{bitAnd, bitXor, and-step, and-shr, xor-step, xor-shr, differ}
 use borrow.Author.Tests.{eq-eqb, ne-eqb}
 use lib.Dec.{eqb}
-use Rattle.reed_muller.specs.Level.{given}
-use Rattle.reed_muller.proofs.Message.{under}
+use Rattle.bits.specs.Number.{given}
+use Rattle.bits.proofs.Message.{under}
 
 abbrev pub digit : ℕ → ℕ → ℕ
 digit x p = x / 2 ^ p % 2

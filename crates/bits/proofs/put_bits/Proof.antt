@@ -7,13 +7,13 @@ use native.Mathlib.Nat.{mod-eq-of-lt}
 use lib.ListN.{length, getD, set}
 use lib.Pow.{pow-pos, pow-mono}
 use borrow.Author.Needs.{needs}
-use Rattle.reed_muller.specs.Message.{messageBit, withBits}
-use Rattle.reed_muller.proofs.Parity.{message-small}
-use Rattle.reed_muller.proofs.Message.{length-bytes, bytes-of-bits, with-before, with-small}
-use Rattle.reed_muller.proofs.Digits.{digit, digit-small}
-use Rattle.reed_muller.proofs.Bytewise.{Shifted, shifted-first, shifted-next, within, beyond, blend-right, firstBytes, next-byte, byte-put, none-put, all-put}
-use Rattle.reed_muller.proofs.put_bits.Statement.{statement}
-use Rattle.reed_muller.proofs.put_bits.Tie as tie
+use Rattle.bits.specs.Message.{messageBit, withBits}
+use Rattle.bits.proofs.Message.{message-small}
+use Rattle.bits.proofs.Message.{length-bytes, bytes-of-bits, with-before, with-small}
+use Rattle.bits.proofs.Digits.{digit, digit-small}
+use Rattle.bits.proofs.Bytewise.{Shifted, shifted-first, shifted-next, within, beyond, blend-right, firstBytes, next-byte, byte-put, none-put, all-put}
+use Rattle.bits.proofs.put_bits.Statement.{statement}
+use Rattle.bits.proofs.put_bits.Tie as tie
 
 -- the bits once they are put
 abbrev put : ℕ → ℕ → List ℕ → ℕ → ℕ → ℕ

@@ -4,11 +4,11 @@ use mathlib.Core.Path.{_≡_, ap, _∙_, subst}
 use native.Mathlib.Omega.{arith}
 use lib.ListN.{getD}
 use lib.Pow.{pow-pos, pow-mono}
-use Rattle.reed_muller.specs.Message.{messageBit}
-use Rattle.reed_muller.proofs.Digits.{digit, digit-from}
-use Rattle.reed_muller.proofs.Bytewise.{byte-taken, taken-fits}
-use Rattle.reed_muller.proofs.bits_at.Statement.{statement}
-use Rattle.reed_muller.proofs.bits_at.Tie as tie
+use Rattle.bits.specs.Message.{messageBit}
+use Rattle.bits.proofs.Digits.{digit, digit-from}
+use Rattle.bits.proofs.Bytewise.{byte-taken, taken-fits}
+use Rattle.bits.proofs.bits_at.Statement.{statement}
+use Rattle.bits.proofs.bits_at.Tie as tie
 
 abbrev Inv-loop : tie.InvT-loop
 Inv-loop message from count first s w₀ n w i =

@@ -1,8 +1,8 @@
 -- `blended`: digit by digit. Assumes nothing.
 use Prim.Native.Nat.{ℕ}
-use Rattle.reed_muller.proofs.Bytewise.{blend-digit}
-use Rattle.reed_muller.proofs.blended.Statement.{statement}
-use Rattle.reed_muller.proofs.blended.Tie as tie
+use Rattle.bits.proofs.Bytewise.{blend-digit}
+use Rattle.bits.proofs.blended.Statement.{statement}
+use Rattle.bits.proofs.blended.Tie as tie
 
 returns : tie.Need-returns
 returns c = λ (p : ℕ). blend-digit (c .args .x) (c .args .v) (c .args .m) p

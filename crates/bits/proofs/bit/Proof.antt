@@ -1,9 +1,9 @@
 -- `bit`: the shift and the remainder that messageBit names. Assumes nothing.
 use borrow.Author.Needs.{needs}
 use mathlib.Core.Path.{refl}
-use Rattle.reed_muller.specs.Message.{messageBit}
-use Rattle.reed_muller.proofs.bit.Statement.{statement}
-use Rattle.reed_muller.proofs.bit.Tie as tie
+use Rattle.bits.specs.Message.{messageBit}
+use Rattle.bits.proofs.bit.Statement.{statement}
+use Rattle.bits.proofs.bit.Tie as tie
 
 shared-slice-read-result : tie.Need-shared-slice-read-result
 shared-slice-read-result c = search needs

@@ -11,16 +11,17 @@ use lib.Pow.{pow-pos, pow-mono, pow-add, shr-shr}
 use lib.ListN.{length, getD, set, length-set}
 use lib.Seq.{ext-getD, getD-set-same, getD-set-other}
 use borrow.Author.Tests.{eq-eqb, ne-eqb}
-use Rattle.reed_muller.specs.Level.{pick, sumTo}
-use Rattle.reed_muller.specs.Message.{messageBit, byteOf, bytesOf, withBits}
-use Rattle.reed_muller.proofs.Sum.{sum-ext}
-use Rattle.reed_muller.proofs.Table.{table-at}
-use Rattle.reed_muller.proofs.Message.{number, number-bit, number-digits, length-bytes, bit-of-byte, bits-of-bytes, bytes-ext, with-in, with-before, with-past, with-none, with-small}
-use Rattle.reed_muller.proofs.Digits.{digit, xor-digit, and-clear, and-keep, digit-none, digit-mod, digit-from, shift-digit, shift-low, joined-low, joined-high}
+use Rattle.bits.specs.Number.{pick, sumTo}
+use Rattle.bits.specs.Message.{messageBit, byteOf, bytesOf, withBits}
+use Rattle.bits.proofs.Sum.{sum-ext}
+use Rattle.bits.proofs.Table.{table-at}
+use Rattle.bits.specs.Number.{number}
+use Rattle.bits.proofs.Message.{number-bit, number-digits, length-bytes, bit-of-byte, bits-of-bytes, bytes-ext, with-in, with-before, with-past, with-none, with-small}
+use Rattle.bits.proofs.Digits.{digit, xor-digit, and-clear, and-keep, digit-none, digit-mod, digit-from, shift-digit, shift-low, joined-low, joined-high}
 
 -- ---- the number with the first c digits set
 
-ones-number : (c : ℕ) → number (λ i. 1) c + 1 ≡ 2 ^ c
+ones-number : (c : ℕ) → number c (λ i. 1) + 1 ≡ 2 ^ c
 unfolding sumTo
 ones-number zero = refl
 ones-number (suc c) = rw pow-suc (omega (arith, ones-number c))
@@ -28,7 +29,7 @@ ones-number (suc c) = rw pow-suc (omega (arith, ones-number c))
 module _ (c o : ℕ) (is : o ≡ 2 ^ c - 1) where
   ones-below : (p : ℕ) → p < c → digit o p ≡ 1
   ones-below p h =
-      let e : o ≡ number (λ i. 1) c = omega (arith, is, ones-number c) in
+      let e : o ≡ number c (λ i. 1) = omega (arith, is, ones-number c) in
       ap (λ (x : ℕ). digit x p) e ∙ number-bit (λ i. 1) c (λ i l. omega arith) p h
 
   ones-past : (p : ℕ) → c ≤ p → digit o p ≡ 0

@@ -8,7 +8,7 @@ use native.Mathlib.Decide.{decLt}
 use native.Mathlib.Omega.{arith}
 use lib.ListN.{length, getD, take, set, length-append, List·getD-append}
 use lib.Seq.{getD-at, take-suc-set, take-append-add, take-append-seam, length-take-le}
-use Rattle.reed_muller.specs.Level.{table}
+use Rattle.bits.specs.Number.{table}
 
 pub length-table : (f : ℕ → ℕ) (n : ℕ) → length (table n f) ≡ n
 unfolding table
