@@ -1,21 +1,22 @@
--- The levels of a kind: the stack of their codewords, and codewords of bits that are held in a number. Assumes nothing.
-use Prim.Native.Nat.{ℕ, _+_, _*_, _/_, _%_, _^_, _≤_, _<_}
-use mathlib.Core.Path.{_≡_, ap, _∙_}
-use mathlib.Core.Bool.{true}
+-- The levels of a kind: the stack of their codewords as a sum, by the numbers that hold them. Assumes nothing.
+use Prim.Native.Nat.{ℕ, zero, suc, _+_, _*_, _/_, _%_, _^_, _≤_, _<_}
+use mathlib.Core.Path.{_≡_, refl, sym, ap, _∙_}
+use mathlib.Core.Bool.{Bool, true, false}
 use mathlib.Core.List.{List, [], _∷_}
 use native.Mathlib.Nat.{pow-suc}
 use native.Mathlib.Omega.{arith}
-use lib.ListN.{length, getD}
+use lib.Dec.{ltb}
+use lib.ListN.{length, getD, take}
+use Rattle.bits.specs.Number.{given, sumTo, table, number}
+use Rattle.bits.proofs.Sum.{sum-ext, sum-first, sum-times, sum-given}
+use Rattle.bits.proofs.Table.{table-at}
+use Rattle.bits.proofs.Message.{number-bit}
+use Rattle.bits.proofs.Digits.{digit, digit-none}
 use Rattle.reed_muller.specs.Level.{dimension, codeword}
-use Rattle.reed_muller.proofs.Codeword.{codeword-small, codeword-cong}
-use Rattle.bits.proofs.Digits.{digit-none, digit-from}
-use Rattle.frames.specs.Kind.{kinds, isKind, degrees, levels, dimensions}
+use Rattle.reed_muller.proofs.Codeword.{codeword-small}
+use Rattle.frames.specs.Kind.{degrees, levels, dimensions}
 use Rattle.frames.specs.Message.{stacked}
-use Rattle.frames.proofs.Rows.{each-kind}
-
-pub some-level : (k : ℕ) → isKind k ≡ true → 1 ≤ levels k
-unfolding levels degrees kinds
-some-level = each-kind (λ k. 1 ≤ levels k) (omega arith) (omega arith) (omega arith)
+use Rattle.sending.specs.Words.{levelValue, codewordsOf}
 
 -- a stack of a levels over s stays below 2^a·(s + 1)
 pub stacked-below : (m : ℕ) (rs : List ℕ) (bit : ℕ → ℕ) (from s p : ℕ) → stacked m rs bit from s p < 2 ^ length rs * (s + 1)
@@ -24,34 +25,57 @@ stacked-below m [] bit from s p = omega arith
 stacked-below m (r ∷ rs) bit from s p =
     rw (pow-suc 2 (length rs)) (omega (arith, codeword-small r m (λ i. bit (from + i)) p, stacked-below m rs bit (from + dimension r m) s p))
 
--- `bits` holds the message bits of the levels
-abbrev pub Held : ℕ → List ℕ → (ℕ → ℕ) → ℕ → Type 0
-Held m rs bit bits = (t : ℕ) → t < dimensions m rs → bits / 2 ^ t % 2 ≡ bit (0 + t)
+-- the value at p of level i of those of degrees rs, whose message bits begin at `from`
+abbrev valueOf : ℕ → List ℕ → (ℕ → ℕ) → ℕ → ℕ → ℕ → ℕ
+valueOf m rs bit from p i = codeword (getD rs i 0) m (λ t. bit (from + dimensions m (take i rs) + t)) p
 
--- the first level of a stack, and the one after it
-first-held : (m r : ℕ) (rs : List ℕ) (bit : ℕ → ℕ) (bits p : ℕ) → Held m (r ∷ rs) bit bits → codeword r m (λ k. bits / 2 ^ k % 2) p ≡ codeword r m (λ k. bit (0 + k)) p
-first-held m r rs bit bits p held = codeword-cong r m _ _ (λ k h. ap (λ (x : ℕ). x % 2) (held k (omega arith))) p
+-- c0 + 2·c1 + 4·c2 + .. + 2^a·s
+stacked-sum : (m : ℕ) (rs : List ℕ) (bit : ℕ → ℕ) (from s p : ℕ) → stacked m rs bit from s p ≡ sumTo (length rs) (λ i. 2 ^ i * valueOf m rs bit from p i) + 2 ^ length rs * s
+unfolding stacked sumTo
+stacked-sum m [] bit from s p = omega arith
+stacked-sum m (r ∷ rs) bit from s p =
+    rw (pow-suc 2 (length rs), sum-first (length rs) (λ i. 2 ^ i * valueOf m (r ∷ rs) bit from p i))
+    (omega (arith, stacked-sum m rs bit (from + dimension r m) s p, later, ap (λ (n : ℕ). codeword r m (λ t. bit (n + t)) p) zero-more))
+  where
+    zero-more : from + 0 ≡ from
+    zero-more = omega arith
 
-second-held : (m r q : ℕ) (rs : List ℕ) (bit : ℕ → ℕ) (bits p : ℕ) → Held m (r ∷ q ∷ rs) bit bits
-    → codeword q m (λ k. bits / 2 ^ dimension r m / 2 ^ k % 2) p ≡ codeword q m (λ k. bit (0 + dimension r m + k)) p
-second-held m r q rs bit bits p held =
-    codeword-cong q m _ _ (λ k h. ap (λ (x : ℕ). x % 2) (digit-from bits (dimension r m) k ∙ held (dimension r m + k) (omega arith) ∙ ap bit (omega arith))) p
+    each : (i : ℕ) → 2 ^ suc i * valueOf m (r ∷ rs) bit from p (suc i) ≡ 2 * (2 ^ i * valueOf m rs bit (from + dimension r m) p i)
+    each i =
+        let e : from + (dimension r m + dimensions m (take i rs)) ≡ from + dimension r m + dimensions m (take i rs) = omega arith in
+        ap (λ (n : ℕ). 2 ^ suc i * codeword (getD rs i 0) m (λ t. bit (n + t)) p) e ∙ ap (λ (n : ℕ). n * valueOf m rs bit (from + dimension r m) p i) (pow-suc 2 i)
+        ∙ omega arith
 
--- one level, by its codeword
-pub one-level : (m : ℕ) (rs : List ℕ) → length rs ≡ 1 → (bit : ℕ → ℕ) (bits : ℕ) → Held m rs bit bits → (low p s : ℕ)
-    → low / 2 ^ p % 2 ≡ codeword (getD rs 0 0) m (λ k. bits / 2 ^ k % 2) p → stacked m rs bit 0 s p ≡ low / 2 ^ p % 2 + 2 * (0 / 2 ^ p % 2) + 2 ^ length rs * s
-unfolding stacked
-one-level m [] l bit bits held low p s e = absurd (omega arith)
-one-level m (r ∷ []) l bit bits held low p s e = omega (arith, e, first-held m r [] bit bits p held, digit-none p)
-one-level m (r ∷ q ∷ rs) l bit bits held low p s e = absurd (omega arith)
+    later : sumTo (length rs) (λ i. 2 ^ suc i * valueOf m (r ∷ rs) bit from p (suc i)) ≡ 2 * sumTo (length rs) (λ i. 2 ^ i * valueOf m rs bit (from + dimension r m) p i)
+    later = sum-ext (length rs) (λ i l. each i) ∙ sum-times (length rs) 2 (λ i. 2 ^ i * valueOf m rs bit (from + dimension r m) p i)
 
--- two levels, by their codewords
-pub two-levels : (m : ℕ) (rs : List ℕ) → length rs ≡ 2 → (bit : ℕ → ℕ) (bits : ℕ) → Held m rs bit bits → (low high p s : ℕ)
-    → low / 2 ^ p % 2 ≡ codeword (getD rs 0 0) m (λ k. bits / 2 ^ k % 2) p
-    → high / 2 ^ p % 2 ≡ codeword (getD rs 1 0) m (λ k. bits / 2 ^ dimension (getD rs 0 0) m / 2 ^ k % 2) p
-    → stacked m rs bit 0 s p ≡ low / 2 ^ p % 2 + 2 * (high / 2 ^ p % 2) + 2 ^ length rs * s
-unfolding stacked
-two-levels m [] l bit bits held low high p s e f = absurd (omega arith)
-two-levels m (r ∷ []) l bit bits held low high p s e f = absurd (omega arith)
-two-levels m (r ∷ q ∷ []) l bit bits held low high p s e f = omega (arith, e, f, first-held m r (q ∷ []) bit bits p held, second-held m r q [] bit bits p held)
-two-levels m (r ∷ q ∷ t ∷ rs) l bit bits held low high p s e f = absurd (omega arith)
+-- ---- by the numbers that hold the codewords
+
+module _ (k : ℕ) (bit : ℕ → ℕ) (p : ℕ) (h : p < 2 ^ k) where
+  -- bit p of number i
+  word-bit : (i : ℕ) → i < 3 → digit (getD (codewordsOf k bit) i 0) p ≡ given (ltb i (levels k)) (levelValue k bit i p)
+  unfolding codewordsOf
+  word-bit i l = ap (λ (x : ℕ). digit x p) (table-at (λ i. given (ltb i (levels k)) (number (2 ^ k) (levelValue k bit i))) 3 i l) ∙ go (ltb i (levels k))
+    where
+      go : (t : Bool) → digit (given t (number (2 ^ k) (levelValue k bit i))) p ≡ given t (levelValue k bit i p)
+      go true = number-bit (levelValue k bit i) (2 ^ k) (λ q u. codeword-small _ k _ q) p h
+      go false = digit-none p
+
+  -- 2^i times the value, from the number
+  term : (i : ℕ) → i < 3 → given (ltb i (levels k)) (2 ^ i * valueOf k (degrees k) bit 0 p i) ≡ 2 ^ i * digit (getD (codewordsOf k bit) i 0) p
+  term i l =
+      let e : 0 + dimensions k (take i (degrees k)) ≡ dimensions k (take i (degrees k)) = omega arith in
+      ap (λ (n : ℕ). given (ltb i (levels k)) (2 ^ i * codeword (getD (degrees k) i 0) k (λ t. bit (n + t)) p)) e
+      ∙ go (ltb i (levels k)) (levelValue k bit i p) ∙ ap (λ (x : ℕ). 2 ^ i * x) (sym (word-bit i l))
+    where
+      go : (t : Bool) (v : ℕ) → given t (2 ^ i * v) ≡ 2 ^ i * given t v
+      go true v = refl
+      go false v = omega arith
+
+  -- the stack at p, from three numbers
+  pub stacked-words : levels k ≤ 3 → (s : ℕ) → stacked k (degrees k) bit 0 s p
+      ≡ digit (getD (codewordsOf k bit) 0 0) p + 2 * digit (getD (codewordsOf k bit) 1 0) p + 4 * digit (getD (codewordsOf k bit) 2 0) p + 2 ^ levels k * s
+  unfolding sumTo levels
+  stacked-words few s =
+      stacked-sum k (degrees k) bit 0 s p
+      ∙ omega (arith, sum-given 3 (levels k) (λ i. 2 ^ i * valueOf k (degrees k) bit 0 p i) few, term 0 (omega arith), term 1 (omega arith), term 2 (omega arith))
