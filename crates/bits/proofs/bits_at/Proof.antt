@@ -5,7 +5,8 @@ use native.Mathlib.Omega.{arith}
 use lib.ListN.{getD}
 use lib.Pow.{pow-pos, pow-mono}
 use Rattle.bits.specs.Message.{messageBit}
-use Rattle.bits.proofs.Digits.{digit, digit-from}
+use Rattle.bits.proofs.Message.{number-mod}
+use Rattle.bits.proofs.Digits.{digit, digit-from, one-shifted}
 use Rattle.bits.proofs.Bytewise.{byte-taken, taken-fits}
 use Rattle.bits.proofs.bits_at.Statement.{statement}
 use Rattle.bits.proofs.bits_at.Tie as tie
@@ -74,13 +75,21 @@ loop-again c =
 shr-result : tie.Need-shr-result Inv-loop μ-loop
 shr-result c = omega arith
 
+shl-result : tie.Need-shl-result Inv-loop μ-loop
+shl-result c = omega arith
+
+rem-result : tie.Need-rem-result Inv-loop μ-loop
+rem-result c = let count : ℕ = c .before .before .args .count in omega (arith, one-shifted count 64 (omega arith), pow-pos count)
+
 returns : tie.Need-returns Inv-loop μ-loop
 returns c =
     let at = c .before in
     let args = at .before .args in
-    λ t l.
-    let e : 8 * (args .from / 8 + at .loop .i) + (args .from % 8 + t) ≡ args .from + t = omega arith in
-    digit-from (at .loop .w) (args .from % 8) t ∙ at .loop .inv .2 (args .from % 8 + t) (omega arith) ∙ ap (messageBit (args .message .now)) e
+    let s : ℕ = args .from % 8 in
+    ap (λ (x : ℕ). at .loop .w / 2 ^ s % x) (one-shifted (args .count) 64 (omega arith))
+    ∙ number-mod (at .loop .w / 2 ^ s) (args .count) (λ t l.
+    let e : 8 * (args .from / 8 + at .loop .i) + (s + t) ≡ args .from + t = omega arith in
+    digit-from (at .loop .w) s t ∙ at .loop .inv .2 (s + t) (omega arith) ∙ ap (messageBit (args .message .now)) e)
 
 pub bits-at-spec : {M : Type 1} → statement M
 bits-at-spec =
@@ -100,4 +109,6 @@ bits-at-spec =
     loop-less
     loop-again
     shr-result
+    shl-result
+    rem-result
     returns)

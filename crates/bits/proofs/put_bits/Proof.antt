@@ -3,14 +3,12 @@ use Prim.Native.Nat.{ℕ, _+_, _-_, _*_, _/_, _%_, _^_, _≤_, _<_}
 use mathlib.Core.Path.{_≡_, sym, ap, _∙_}
 use mathlib.Core.List.{List}
 use native.Mathlib.Omega.{arith}
-use native.Mathlib.Nat.{mod-eq-of-lt}
 use lib.ListN.{length, getD, set}
-use lib.Pow.{pow-pos, pow-mono}
+use lib.Pow.{pow-pos}
 use borrow.Author.Needs.{needs}
 use Rattle.bits.specs.Message.{messageBit, withBits}
-use Rattle.bits.proofs.Message.{message-small}
-use Rattle.bits.proofs.Message.{length-bytes, bytes-of-bits, with-before, with-small}
-use Rattle.bits.proofs.Digits.{digit, digit-small}
+use Rattle.bits.proofs.Message.{message-small, length-bytes, bytes-of-bits, with-before, with-small}
+use Rattle.bits.proofs.Digits.{digit, digit-small, one-shifted}
 use Rattle.bits.proofs.Bytewise.{Shifted, shifted-first, shifted-next, within, beyond, blend-right, firstBytes, next-byte, byte-put, none-put, all-put}
 use Rattle.bits.proofs.put_bits.Statement.{statement}
 use Rattle.bits.proofs.put_bits.Tie as tie
@@ -32,12 +30,8 @@ abbrev μ-loop : tie.MeasureT-loop
 same : (c : tie.At-loop Inv-loop μ-loop) → length (c .loop .out) ≡ length (c .before .before .args .out .now)
 same c = ap length (c .loop .inv .1) ∙ length-bytes (length (c .before .before .args .out .now)) _
 
--- the power of two in the mask
-power : (n : ℕ) → n ≤ 56 → 1 * 2 ^ n % 2 ^ 64 ≡ 2 ^ n
-power n h = let e : 1 * 2 ^ n ≡ 2 ^ n = omega arith in ap (λ (x : ℕ). x % 2 ^ 64) e ∙ mod-eq-of-lt (omega (arith, pow-mono {i = n} {j = 56} h))
-
-ones : (n : ℕ) → n ≤ 56 → 1 * 2 ^ n % 2 ^ 64 - 1 ≡ 2 ^ n - 1
-ones n h = ap (λ (x : ℕ). x - 1) (power n h)
+ones : (n : ℕ) → n ≤ 63 → 1 * 2 ^ n % 2 ^ 64 - 1 ≡ 2 ^ n - 1
+ones n h = ap (λ (x : ℕ). x - 1) (one-shifted n 64 (omega arith))
 
 -- the byte is one of those that have new bits
 new-here : (c : tie.At-loop Inv-loop μ-loop) → 0 < c .loop .m → 8 * c .loop .j < c .before .before .args .from + c .before .before .args .count
@@ -51,7 +45,7 @@ shl-m : tie.Need-shl-m Inv-loop μ-loop
 shl-m c = search needs
 
 sub-m : tie.Need-sub-m Inv-loop μ-loop
-sub-m c = omega (arith, power (c .before .args .count) (c .before .pre .0), pow-pos (c .before .args .count))
+sub-m c = omega (arith, one-shifted (c .before .args .count) 64 (omega arith), pow-pos (c .before .args .count))
 
 shl-m-2 : tie.Need-shl-m-2 Inv-loop μ-loop
 shl-m-2 c = search needs
@@ -117,7 +111,7 @@ returns c =
     let out = args .out .now in
     at .loop .inv .1
     ∙ all-put (length out) (put (args .bits) (args .count) out (args .from)) (messageBit out) (put-small (args .bits) (args .count) out (args .from)) (message-small out)
-    (at .loop .j) (beyond (at .loop .inv .0) (args .count) (ones (args .count) (start .pre .0)) (messageBit out) (omega (arith, start .pre .0)) (omega arith))
+    (at .loop .j) (beyond (at .loop .inv .0) (args .count) (ones (args .count) (start .pre .0)) (messageBit out) (start .pre .1) (omega arith))
 
 pub put-bits-spec : {M : Type 1} → statement M
 put-bits-spec =
