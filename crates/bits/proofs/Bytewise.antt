@@ -158,7 +158,8 @@ module _ {W bits o from j v m : ℕ} (sh : Shifted W bits o from j v m) (c : ℕ
           kept p y x (masked ∙ shift-low o (from % 8) W (there p) l (omega arith))
           (with-before from c (digit bits) old (8 * j + p) (omega (arith, sh .begun))) (was p h) is
       go (no k) (yes l) =
-          let one : digit (m % 256) p ≡ 1 = masked ∙ shift-digit o (from % 8) W (there p) (omega arith) (omega arith) ∙ ones-below c o ones (there p - from % 8) (omega arith) in
+          let in-mask = shift-digit o (from % 8) W (there p) (omega arith) (omega arith) ∙ ones-below c o ones (there p - from % 8) (omega arith) in
+          let one : digit (m % 256) p ≡ 1 = masked ∙ in-mask in
           let e : 8 * j + p ≡ from + (there p - from % 8) = omega (arith, sh .begun) in
           is ∙ rw one
           (eighth v (bits * 2 ^ (from % 8) % 2 ^ W) p h (sh .is-v) ∙ shift-digit bits (from % 8) W (there p) (omega arith) (omega arith)
@@ -248,7 +249,8 @@ module _ (from count : ℕ) (f g old : ℕ → ℕ) (h : (k : ℕ) → k < count
 -- ---- bytes taken from the last to the first
 
 module _ (xs : List ℕ) (bytes : (j : ℕ) → getD xs j 0 < 256) (j c w : ℕ) where
-  pub byte-taken : ((q : ℕ) → q < c → digit w q ≡ messageBit xs (8 * (j + 1) + q)) → (q : ℕ) → q < 8 + c → digit (256 * w + getD xs j 0) q ≡ messageBit xs (8 * j + q)
+  pub byte-taken : ((q : ℕ) → q < c → digit w q ≡ messageBit xs (8 * (j + 1) + q)) → (q : ℕ) → q < 8 + c
+      → digit (256 * w + getD xs j 0) q ≡ messageBit xs (8 * j + q)
   byte-taken so q l = go (decLt q 8)
     where
       go : Dec (q < 8) → digit (256 * w + getD xs j 0) q ≡ messageBit xs (8 * j + q)

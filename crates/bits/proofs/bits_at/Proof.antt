@@ -46,11 +46,16 @@ shared-slice-read-w : tie.Need-shared-slice-read-w Inv-loop μ-loop
 shared-slice-read-w c = omega arith
 
 cast-w : tie.Need-cast-w Inv-loop μ-loop
-cast-w c = omega (arith, c .shared-slice-known .given (c .before .before .before .args .from / 8 + (c .before .before .loop .i - 1)))
+cast-w c =
+    let at = c .before .before in
+    let first : ℕ = at .before .args .from / 8 in
+    omega (arith, c .shared-slice-known .given (first + (at .loop .i - 1)))
 
 add-w : tie.Need-add-w Inv-loop μ-loop
 add-w c =
-    omega (arith, few (c .before .before) (c .before .loop-test .taken), c .shared-slice-known .given (c .before .before .before .args .from / 8 + (c .before .before .loop .i - 1)))
+    let at = c .before .before in
+    let first : ℕ = at .before .args .from / 8 in
+    omega (arith, few at (c .before .loop-test .taken), c .shared-slice-known .given (first + (at .loop .i - 1)))
 
 loop-less : tie.Need-loop-less Inv-loop μ-loop
 loop-less c = omega arith
@@ -69,7 +74,8 @@ loop-again c =
       omega arith,
       subst (λ (n : ℕ). 256 * at .loop .w + getD message j 0 < 2 ^ n) e (taken-fits message bytes j left (at .loop .w) (at .loop .inv .1)),
       λ q l.
-          byte-taken message bytes j left (at .loop .w) (λ q l. at .loop .inv .2 q l ∙ ap (λ (k : ℕ). messageBit message (8 * k + q)) f) q (omega (arith, e, l)),
+          byte-taken message bytes j left (at .loop .w) (λ q l. at .loop .inv .2 q l ∙ ap (λ (k : ℕ). messageBit message (8 * k + q)) f)
+          q (omega (arith, e, l)),
     )
 
 shr-result : tie.Need-shr-result Inv-loop μ-loop

@@ -36,7 +36,9 @@ ones n h = ap (λ (x : ℕ). x - 1) (one-shifted n 64 (omega arith))
 -- the byte is one of those that have new bits
 new-here : (c : tie.At-loop Inv-loop μ-loop) → 0 < c .loop .m → 8 * c .loop .j < c .before .before .args .from + c .before .before .args .count
 new-here c h =
-    let start = c .before .before in within (c .loop .inv .0) (start .args .count) (ones (start .args .count) (start .pre .0)) (messageBit (start .args .out .now)) h
+    let start = c .before .before in
+    let n = start .args .count in
+    within (c .loop .inv .0) n (ones n (start .pre .0)) (messageBit (start .args .out .now)) h
 
 shl-v : tie.Need-shl-v Inv-loop μ-loop
 shl-v c = search needs
@@ -53,10 +55,12 @@ shl-m-2 c = search needs
 loop-holds : tie.Need-loop-holds Inv-loop μ-loop
 loop-holds c =
     let args = c .before .args in
-    let out = args .out .now in (
+    let out = args .out .now in
+    let new = put (args .bits) (args .count) out (args .from) in
+    let small = put-small (args .bits) (args .count) out (args .from) in (
       shifted-first 64 (args .bits) (1 * 2 ^ args .count % 2 ^ 64 - 1) (args .from),
-      sym (none-put (length out) (put (args .bits) (args .count) out (args .from)) (messageBit out) (put-small (args .bits) (args .count) out (args .from)) (message-small out)
-          (args .from / 8) (λ q l. with-before (args .from) (args .count) (digit (args .bits)) (messageBit out) q (omega arith))
+      sym (none-put (length out) new (messageBit out) small (message-small out) (args .from / 8)
+          (λ q l. with-before (args .from) (args .count) (digit (args .bits)) (messageBit out) q (omega arith))
           ∙ bytes-of-bits out (λ j. c .slice-known .given j .fits)),
     )
 
@@ -89,14 +93,18 @@ loop-again c =
     let out = args .out .now in
     let n = args .count in
     let j = at .loop .j in
+    let new = put (args .bits) n out (args .from) in
     let small = put-small (args .bits) n out (args .from) in
     let here : 8 * j < args .from + n = new-here at (c .before .before .loop-test .taken) in
     let room : j < length out = omega (arith, here, start .pre .2) in (
       shifted-next (at .loop .inv .0),
       ap (λ (xs : List ℕ). set xs j (c .blended .result)) (at .loop .inv .1)
-          ∙ byte-put (length out) (put (args .bits) n out (args .from)) (messageBit out) small (message-small out) j room (c .blended .result) (c .blended .ok)
-          (blend-right (at .loop .inv .0) n (ones n (start .pre .0)) (messageBit out) (omega (arith, here, start .pre .0)) (getD (at .loop .out) j 0) (c .blended .result)
-          (λ p l. ap (λ (xs : List ℕ). digit (getD xs j 0) p) (at .loop .inv .1) ∙ next-byte (length out) (put (args .bits) n out (args .from)) (messageBit out) small (message-small out) j room p l)
+          ∙ byte-put (length out) new (messageBit out) small (message-small out) j room (c .blended .result) (c .blended .ok)
+          (blend-right (at .loop .inv .0) n (ones n (start .pre .0)) (messageBit out) (omega (arith, here, start .pre .0))
+          (getD (at .loop .out) j 0) (c .blended .result)
+          (λ p l.
+          ap (λ (xs : List ℕ). digit (getD xs j 0) p) (at .loop .inv .1)
+          ∙ next-byte (length out) new (messageBit out) small (message-small out) j room p l)
           (c .blended .ensures)),
     )
 
@@ -109,9 +117,10 @@ returns c =
     let start = at .before .before in
     let args = start .args in
     let out = args .out .now in
+    let n = args .count in
     at .loop .inv .1
-    ∙ all-put (length out) (put (args .bits) (args .count) out (args .from)) (messageBit out) (put-small (args .bits) (args .count) out (args .from)) (message-small out)
-    (at .loop .j) (beyond (at .loop .inv .0) (args .count) (ones (args .count) (start .pre .0)) (messageBit out) (start .pre .1) (omega arith))
+    ∙ all-put (length out) (put (args .bits) n out (args .from)) (messageBit out) (put-small (args .bits) n out (args .from)) (message-small out)
+    (at .loop .j) (beyond (at .loop .inv .0) n (ones n (start .pre .0)) (messageBit out) (start .pre .1) (omega arith))
 
 pub put-bits-spec : {M : Type 1} → statement M
 put-bits-spec =
