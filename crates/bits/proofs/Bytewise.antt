@@ -6,18 +6,19 @@ use native.Mathlib.Nat.{add-mul, pow-suc, div-one, div-eq-of-lt, mod-eq-of-lt, m
 use native.Mathlib.Decide.{decLt, ℕ-discrete}
 use native.Mathlib.Omega.{arith}
 use lib.Dec.{eqb}
-use lib.Bits.{bitAnd, bitXor}
+use lib.Bits.{bitAnd, bitXor, and-le-l, xor-lt}
 use lib.Pow.{pow-pos, pow-mono, pow-add, shr-shr}
 use lib.ListN.{length, getD, set, length-set}
 use lib.Seq.{ext-getD, getD-set-same, getD-set-other}
 use borrow.Author.Tests.{eq-eqb, ne-eqb}
-use Rattle.bits.specs.Number.{pick, sumTo}
+use Rattle.bits.specs.Number.{pick, sumTo, number}
 use Rattle.bits.specs.Message.{messageBit, byteOf, bytesOf, withBits}
 use Rattle.bits.proofs.Sum.{sum-ext}
 use Rattle.bits.proofs.Table.{table-at}
-use Rattle.bits.specs.Number.{number}
-use Rattle.bits.proofs.Message.{number-bit, number-digits, length-bytes, bit-of-byte, bits-of-bytes, bytes-ext, with-in, with-before, with-past, with-none, with-small}
-use Rattle.bits.proofs.Digits.{digit, xor-digit, and-clear, and-keep, digit-none, digit-mod, digit-from, shift-digit, shift-low, joined-low, joined-high}
+use Rattle.bits.proofs.Message.{number-bit, number-digits, number-of, length-bytes, bit-of-byte, bits-of-bytes, bytes-ext}
+use Rattle.bits.proofs.Message.{pick-small, with-in, with-before, with-past, with-none, with-small}
+use Rattle.bits.proofs.Digits.{digit, xor-digit, and-clear, and-keep, digit-none, digit-small, digit-mod, digit-from, shift-digit, shift-low}
+use Rattle.bits.proofs.Digits.{joined-low, joined-high}
 
 -- ---- the number with the first c digits set
 
@@ -37,7 +38,7 @@ module _ (c o : ℕ) (is : o ≡ 2 ^ c - 1) where
 
 -- ---- a byte blended
 
-pub blend-digit : (x v m p : ℕ) → digit (bitXor x (bitAnd (bitXor x v) m)) p ≡ pick (eqb (digit m p) 1) (digit v p) (digit x p)
+blend-digit : (x v m p : ℕ) → digit (bitXor x (bitAnd (bitXor x v) m)) p ≡ pick (eqb (digit m p) 1) (digit v p) (digit x p)
 blend-digit x v m p = go (ℕ-discrete (digit m p) 1)
   where
     go : Dec (digit m p ≡ 1) → digit (bitXor x (bitAnd (bitXor x v) m)) p ≡ pick (eqb (digit m p) 1) (digit v p) (digit x p)
@@ -45,6 +46,12 @@ blend-digit x v m p = go (ℕ-discrete (digit m p) 1)
     go (no n) =
         let z : digit m p ≡ 0 = omega arith in
         rw (ne-eqb (digit m p) 1 n) (xor-digit x (bitAnd (bitXor x v) m) p ∙ omega (arith, and-clear (bitXor x v) m p z))
+
+pub blend-number : (x v m : ℕ) → x < 2 ^ 8 → v < 2 ^ 8
+    → bitXor x (bitAnd (bitXor x v) m) ≡ number 8 (λ p. pick (eqb (digit m p) 1) (digit v p) (digit x p))
+blend-number x v m hx hv =
+    let less : bitAnd (bitXor x v) m < 2 ^ 8 = omega (arith, and-le-l (bitXor x v) m, xor-lt 8 x v hx hv) in
+    number-of _ 8 (xor-lt 8 x (bitAnd (bitXor x v) m) hx less) (λ p l. blend-digit x v m p)
 
 -- the mask of c bits from bit s on, in a number of W digits: some are left past e exactly while e is before its end
 module _ (W c o s e : ℕ) (ones : o ≡ 2 ^ c - 1) where
@@ -134,26 +141,33 @@ module _ {W bits o from j v m : ℕ} (sh : Shifted W bits o from j v m) (c : ℕ
   kept p y x z w o e = e ∙ rw z (o ∙ sym w)
 
   pub blend-right : 8 * (j - from / 8) + 8 ≤ W → (x y : ℕ) → ((p : ℕ) → p < 8 → digit x p ≡ old (8 * j + p))
-      → ((p : ℕ) → digit y p ≡ pick (eqb (digit (m % 256) p) 1) (digit (v % 256) p) (digit x p)) → (p : ℕ) → p < 8 → digit y p ≡ then (8 * j + p)
-  blend-right inside x y was is p h = go (decLt (there p) (from % 8)) (decLt (there p) (from % 8 + c))
+      → y ≡ number 8 (λ p. pick (eqb (digit (m % 256) p) 1) (digit (v % 256) p) (digit x p)) → (p : ℕ) → p < 8 → digit y p ≡ then (8 * j + p)
+  blend-right inside x y was made p h = go (decLt (there p) (from % 8)) (decLt (there p) (from % 8 + c))
     where
+      is : digit y p ≡ pick (eqb (digit (m % 256) p) 1) (digit (v % 256) p) (digit x p)
+      is =
+          ap (λ (z : ℕ). digit z p) made
+          ∙ number-bit (λ p. pick (eqb (digit (m % 256) p) 1) (digit (v % 256) p) (digit x p)) 8
+          (λ p l. pick-small (eqb (digit (m % 256) p) 1) _ _ (digit-small (v % 256) p) (digit-small x p)) p h
+
       masked : digit (m % 256) p ≡ digit (o * 2 ^ (from % 8) % 2 ^ W) (there p)
       masked = eighth m (o * 2 ^ (from % 8) % 2 ^ W) p h (sh .is-m)
 
       go : Dec (there p < from % 8) → Dec (there p < from % 8 + c) → digit y p ≡ then (8 * j + p)
       go (yes l) d =
           kept p y x (masked ∙ shift-low o (from % 8) W (there p) l (omega arith))
-          (with-before from c (digit bits) old (8 * j + p) (omega (arith, sh .begun))) (was p h) (is p)
+          (with-before from c (digit bits) old (8 * j + p) (omega (arith, sh .begun))) (was p h) is
       go (no k) (yes l) =
-          let one : digit (m % 256) p ≡ 1 = masked ∙ shift-digit o (from % 8) W (there p) (omega arith) (omega arith) ∙ ones-below c o ones (there p - from % 8) (omega arith) in
+          let in-mask = shift-digit o (from % 8) W (there p) (omega arith) (omega arith) ∙ ones-below c o ones (there p - from % 8) (omega arith) in
+          let one : digit (m % 256) p ≡ 1 = masked ∙ in-mask in
           let e : 8 * j + p ≡ from + (there p - from % 8) = omega (arith, sh .begun) in
-          is p ∙ rw one
+          is ∙ rw one
           (eighth v (bits * 2 ^ (from % 8) % 2 ^ W) p h (sh .is-v) ∙ shift-digit bits (from % 8) W (there p) (omega arith) (omega arith)
           ∙ sym (ap then e ∙ with-in from c (digit bits) old (there p - from % 8) (omega arith)))
       go (no k) (no l) =
           kept p y x
           (masked ∙ shift-digit o (from % 8) W (there p) (omega arith) (omega arith) ∙ ones-past c o ones (there p - from % 8) (omega arith))
-          (with-past from c (digit bits) old (8 * j + p) (omega (arith, sh .begun))) (was p h) (is p)
+          (with-past from c (digit bits) old (8 * j + p) (omega (arith, sh .begun))) (was p h) is
 
 -- ---- bytes put one after another
 
@@ -235,7 +249,8 @@ module _ (from count : ℕ) (f g old : ℕ → ℕ) (h : (k : ℕ) → k < count
 -- ---- bytes taken from the last to the first
 
 module _ (xs : List ℕ) (bytes : (j : ℕ) → getD xs j 0 < 256) (j c w : ℕ) where
-  pub byte-taken : ((q : ℕ) → q < c → digit w q ≡ messageBit xs (8 * (j + 1) + q)) → (q : ℕ) → q < 8 + c → digit (256 * w + getD xs j 0) q ≡ messageBit xs (8 * j + q)
+  pub byte-taken : ((q : ℕ) → q < c → digit w q ≡ messageBit xs (8 * (j + 1) + q)) → (q : ℕ) → q < 8 + c
+      → digit (256 * w + getD xs j 0) q ≡ messageBit xs (8 * j + q)
   byte-taken so q l = go (decLt q 8)
     where
       go : Dec (q < 8) → digit (256 * w + getD xs j 0) q ≡ messageBit xs (8 * j + q)

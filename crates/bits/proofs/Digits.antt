@@ -4,7 +4,7 @@ use mathlib.Core.Path.{_≡_, refl, sym, ap, _∙_}
 use native.Mathlib.Nat.{add-zero, min-zero, min-le-left, min-eq-left, div-one, div-eq-of-lt, zero-div, mod-eq-of-lt, pow-suc, mul-comm}
 use native.Mathlib.Decide.{decLt, ℕ-discrete}
 use native.Mathlib.Omega.{arith}
-use lib.Pow.{high, split, shl-shr, shr-shr, pow-mono}
+use lib.Pow.{high, split, shl-shr, shr-shr, pow-mono, pow-lt}
 use lib.Bits.{bitAnd, bitXor, and-step, and-shr, xor-step, xor-shr, differ}
 use borrow.Author.Tests.{eq-eqb, ne-eqb}
 use lib.Dec.{eqb}
@@ -61,6 +61,10 @@ shift-digit x h W p l u =
 pub shift-low : (x h W p : ℕ) → p < h → p < W → digit (x * 2 ^ h % 2 ^ W) p ≡ 0
 shift-low x h W p l u =
     digit-mod (x * 2 ^ h) W p u ∙ ap (λ (y : ℕ). digit y p) (sym (add-zero (x * 2 ^ h))) ∙ under 0 x h p l ∙ digit-none p
+
+-- the digit p alone
+pub one-shifted : (p W : ℕ) → p < W → 1 * 2 ^ p % 2 ^ W ≡ 2 ^ p
+one-shifted p W h = let e : 1 * 2 ^ p ≡ 2 ^ p = omega arith in ap (λ (x : ℕ). x % 2 ^ W) e ∙ mod-eq-of-lt (pow-lt h)
 
 -- the digits from p on
 pub digit-from : (x p i : ℕ) → digit (x / 2 ^ p) i ≡ digit x (p + i)

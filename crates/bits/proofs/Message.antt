@@ -3,11 +3,11 @@ use Prim.Native.Nat.{ℕ, zero, suc, _+_, _-_, _*_, _/_, _%_, _^_, _≤_, _<_}
 use mathlib.Core.Path.{_≡_, refl, sym, ap, ap₂, _∙_, subst}
 use mathlib.Core.Bool.{Bool, true, false, _&&_, and-false}
 use mathlib.Core.List.{List}
-use native.Mathlib.Nat.{mod-lt, pow-suc, zero-mul, zero-add, add-comm, mul-le-mul-right, le-of-suc-le-suc, div-one, mod-one, mod-eq-of-lt, zero-div}
+use native.Mathlib.Nat.{mod-lt, pow-suc, add-comm, mul-le-mul-right, le-of-suc-le-suc, div-one, div-eq-of-lt, mod-one, mod-eq-of-lt, zero-div}
 use native.Mathlib.Decide.{decLt, ℕ-discrete}
 use native.Mathlib.Omega.{arith}
 use lib.Dec.{leb, ltb, lit<}
-use lib.Pow.{high, mod-pow-add, shr-shr}
+use lib.Pow.{high, mod-pow-add, shr-shr, pow-mono}
 use lib.Bits.{block-half, block-odd}
 use lib.ListN.{length, getD, set, length-set, List·getD-eq-default}
 use lib.Seq.{ext-getD, getD-set-same, getD-set-other}
@@ -56,6 +56,23 @@ number-digits x zero = sym (mod-one x)
 number-digits x (suc n) =
     let e : 1 + n ≡ suc n = omega arith in
     omega (arith, number-digits x n, mod-pow-add x 1 n, ap (λ (j : ℕ). x % 2 ^ j) e)
+
+-- ---- the number of given bits is the only one
+
+pub number-ext : (n : ℕ) {f g : ℕ → ℕ} → ((i : ℕ) → i < n → f i ≡ g i) → number n f ≡ number n g
+number-ext n h = sum-ext n (λ i l. ap (λ (x : ℕ). x * 2 ^ i) (h i l))
+
+-- the low n digits of a number whose first n digits are given
+pub number-mod : (w n : ℕ) {f : ℕ → ℕ} → ((i : ℕ) → i < n → w / 2 ^ i % 2 ≡ f i) → w % 2 ^ n ≡ number n f
+number-mod w n h = sym (number-digits w n) ∙ number-ext n h
+
+-- a number below 2 ^ n whose first n digits are given
+pub number-of : (w n : ℕ) {f : ℕ → ℕ} → w < 2 ^ n → ((i : ℕ) → i < n → w / 2 ^ i % 2 ≡ f i) → w ≡ number n f
+number-of w n l h = sym (mod-eq-of-lt l) ∙ number-mod w n h
+
+-- past the last bit every digit is 0
+pub number-past : (b : ℕ → ℕ) (n : ℕ) → ((i : ℕ) → i < n → b i < 2) → (i : ℕ) → n ≤ i → number n b / 2 ^ i % 2 ≡ 0
+number-past b n h i l = ap (λ (x : ℕ). x % 2) (div-eq-of-lt (omega (arith, number-lt b n h, pow-mono {i = n} {j = i} l)))
 
 -- ---- bytes and bits
 
@@ -119,7 +136,7 @@ bit-past xs k h =
 
 -- ---- bits in a row
 
-pick-small : (t : Bool) (x y : ℕ) → x < 2 → y < 2 → pick t x y < 2
+pub pick-small : (t : Bool) (x y : ℕ) → x < 2 → y < 2 → pick t x y < 2
 pick-small true x y a b = a
 pick-small false x y a b = b
 

@@ -1,4 +1,5 @@
-// The bits of a message's bytes, taken and put byte by byte through numbers that hold them: bit k of the number is message bit from + k.
+// The bits of a message's bytes, taken and put byte by byte through numbers that hold them: bit k of the number is message bit from + k,
+// and no bit is set past the last one.
 ghost use mathlib.Core.Path.{_≡_};
 ghost use Prim.Native.Nat.{ℕ, _+_, _*_, _/_, _%_, _^_, _<_, _≤_};
 ghost use lib.Dec.{eqb};
@@ -14,10 +15,10 @@ pub fn bit(message: &[u8], k: usize) -> u8
     (message[k / 8] >> (k % 8)) % 2
 }
 
-// The message bits from bit `from` on, held in a number, byte by byte.
+// The `count` message bits from bit `from` on, held in a number, taken byte by byte.
 pub fn bits_at(message: &[u8], from: usize, count: usize) -> u64
-    requires { ⌜ (count ≤ 56) × (from ≤ 1000) × (from + count ≤ 8 * length (now message)) ⌝ }
-    ensures { λ w. ⌜ ((t : ℕ) → t < count → w / 2 ^ t % 2 ≡ messageBit (now (message .entry)) (from + t)) ⌝ }
+    requires { ⌜ (count ≤ 63) × (from % 8 + count ≤ 64) × (from + count ≤ 8 * length (now message)) ⌝ }
+    ensures { λ w. ⌜ w ≡ number count (λ t. messageBit (now (message .entry)) (from + t)) ⌝ }
 {
     let first = from / 8;
     let s = from % 8;
@@ -28,20 +29,21 @@ pub fn bits_at(message: &[u8], from: usize, count: usize) -> u64
         let j = first + i;
         w = 256 * w + message[j] as u64;
     }
-    w >> s
+    (w >> s) % (1u64 << count)
 }
 
 // The byte x with the bits of v where m has a bit set.
 fn blended(x: u8, v: u8, m: u8) -> u8
-    ensures { λ y. ⌜ ((p : ℕ) → y / 2 ^ p % 2 ≡ pick (eqb (m / 2 ^ p % 2) 1) (v / 2 ^ p % 2) (x / 2 ^ p % 2)) ⌝ }
+    ensures { λ y. ⌜ y ≡ number 8 (λ p. pick (eqb (m / 2 ^ p % 2) 1) (v / 2 ^ p % 2) (x / 2 ^ p % 2)) ⌝ }
 {
     x ^ ((x ^ v) & m)
 }
 
-// Puts the first bits of a number into `out` from bit `from` on, byte by byte, and leaves every other bit as it was.
+// Puts the first `count` bits of a number into `out` from bit `from` on, byte by byte, and leaves every other bit as it was.
 pub fn put_bits(bits: u64, count: usize, out: &mut [u8], from: usize)
-    requires { ⌜ (count ≤ 56) × (from ≤ 1000) × (from + count ≤ 8 * length (now out)) ⌝ }
-    ensures { λ _. ⌜ now (out .exit) ≡ bytesOf (length (now (out .entry))) (withBits from count (λ k. bits / 2 ^ k % 2) (messageBit (now (out .entry)))) ⌝ }
+    requires { ⌜ (count ≤ 63) × (from % 8 + count ≤ 64) × (from + count ≤ 8 * length (now out)) ⌝ }
+    ensures { λ _. ⌜ now (out .exit) ≡ bytesOf (length (now (out .entry)))
+        (withBits from count (λ k. bits / 2 ^ k % 2) (messageBit (now (out .entry)))) ⌝ }
 {
     let first = from / 8;
     let s = from % 8;

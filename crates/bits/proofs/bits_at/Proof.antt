@@ -5,7 +5,8 @@ use native.Mathlib.Omega.{arith}
 use lib.ListN.{getD}
 use lib.Pow.{pow-pos, pow-mono}
 use Rattle.bits.specs.Message.{messageBit}
-use Rattle.bits.proofs.Digits.{digit, digit-from}
+use Rattle.bits.proofs.Message.{number-mod}
+use Rattle.bits.proofs.Digits.{digit, digit-from, one-shifted}
 use Rattle.bits.proofs.Bytewise.{byte-taken, taken-fits}
 use Rattle.bits.proofs.bits_at.Statement.{statement}
 use Rattle.bits.proofs.bits_at.Tie as tie
@@ -45,11 +46,16 @@ shared-slice-read-w : tie.Need-shared-slice-read-w Inv-loop μ-loop
 shared-slice-read-w c = omega arith
 
 cast-w : tie.Need-cast-w Inv-loop μ-loop
-cast-w c = omega (arith, c .shared-slice-known .given (c .before .before .before .args .from / 8 + (c .before .before .loop .i - 1)))
+cast-w c =
+    let at = c .before .before in
+    let first : ℕ = at .before .args .from / 8 in
+    omega (arith, c .shared-slice-known .given (first + (at .loop .i - 1)))
 
 add-w : tie.Need-add-w Inv-loop μ-loop
 add-w c =
-    omega (arith, few (c .before .before) (c .before .loop-test .taken), c .shared-slice-known .given (c .before .before .before .args .from / 8 + (c .before .before .loop .i - 1)))
+    let at = c .before .before in
+    let first : ℕ = at .before .args .from / 8 in
+    omega (arith, few at (c .before .loop-test .taken), c .shared-slice-known .given (first + (at .loop .i - 1)))
 
 loop-less : tie.Need-loop-less Inv-loop μ-loop
 loop-less c = omega arith
@@ -68,19 +74,28 @@ loop-again c =
       omega arith,
       subst (λ (n : ℕ). 256 * at .loop .w + getD message j 0 < 2 ^ n) e (taken-fits message bytes j left (at .loop .w) (at .loop .inv .1)),
       λ q l.
-          byte-taken message bytes j left (at .loop .w) (λ q l. at .loop .inv .2 q l ∙ ap (λ (k : ℕ). messageBit message (8 * k + q)) f) q (omega (arith, e, l)),
+          byte-taken message bytes j left (at .loop .w) (λ q l. at .loop .inv .2 q l ∙ ap (λ (k : ℕ). messageBit message (8 * k + q)) f)
+          q (omega (arith, e, l)),
     )
 
 shr-result : tie.Need-shr-result Inv-loop μ-loop
 shr-result c = omega arith
 
+shl-result : tie.Need-shl-result Inv-loop μ-loop
+shl-result c = omega arith
+
+rem-result : tie.Need-rem-result Inv-loop μ-loop
+rem-result c = let count : ℕ = c .before .before .args .count in omega (arith, one-shifted count 64 (omega arith), pow-pos count)
+
 returns : tie.Need-returns Inv-loop μ-loop
 returns c =
     let at = c .before in
     let args = at .before .args in
-    λ t l.
-    let e : 8 * (args .from / 8 + at .loop .i) + (args .from % 8 + t) ≡ args .from + t = omega arith in
-    digit-from (at .loop .w) (args .from % 8) t ∙ at .loop .inv .2 (args .from % 8 + t) (omega arith) ∙ ap (messageBit (args .message .now)) e
+    let s : ℕ = args .from % 8 in
+    ap (λ (x : ℕ). at .loop .w / 2 ^ s % x) (one-shifted (args .count) 64 (omega arith))
+    ∙ number-mod (at .loop .w / 2 ^ s) (args .count) (λ t l.
+    let e : 8 * (args .from / 8 + at .loop .i) + (s + t) ≡ args .from + t = omega arith in
+    digit-from (at .loop .w) s t ∙ at .loop .inv .2 (s + t) (omega arith) ∙ ap (messageBit (args .message .now)) e)
 
 pub bits-at-spec : {M : Type 1} → statement M
 bits-at-spec =
@@ -100,4 +115,6 @@ bits-at-spec =
     loop-less
     loop-again
     shr-result
+    shl-result
+    rem-result
     returns)

@@ -1,11 +1,10 @@
 -- `blended`: digit by digit. Assumes nothing.
-use Prim.Native.Nat.{ℕ}
-use Rattle.bits.proofs.Bytewise.{blend-digit}
+use Rattle.bits.proofs.Bytewise.{blend-number}
 use Rattle.bits.proofs.blended.Statement.{statement}
 use Rattle.bits.proofs.blended.Tie as tie
 
 returns : tie.Need-returns
-returns c = λ (p : ℕ). blend-digit (c .args .x) (c .args .v) (c .args .m) p
+returns c = blend-number (c .args .x) (c .args .v) (c .args .m) (c .fits .x .fits) (c .fits .v .fits)
 
 pub blended-spec : {M : Type 1} → statement M
 blended-spec = tie.close (tie.spec returns)

@@ -3,14 +3,12 @@ use Prim.Native.Nat.{ℕ, _+_, _-_, _*_, _/_, _%_, _^_, _≤_, _<_}
 use mathlib.Core.Path.{_≡_, sym, ap, _∙_}
 use mathlib.Core.List.{List}
 use native.Mathlib.Omega.{arith}
-use native.Mathlib.Nat.{mod-eq-of-lt}
 use lib.ListN.{length, getD, set}
-use lib.Pow.{pow-pos, pow-mono}
+use lib.Pow.{pow-pos}
 use borrow.Author.Needs.{needs}
 use Rattle.bits.specs.Message.{messageBit, withBits}
-use Rattle.bits.proofs.Message.{message-small}
-use Rattle.bits.proofs.Message.{length-bytes, bytes-of-bits, with-before, with-small}
-use Rattle.bits.proofs.Digits.{digit, digit-small}
+use Rattle.bits.proofs.Message.{message-small, length-bytes, bytes-of-bits, with-before, with-small}
+use Rattle.bits.proofs.Digits.{digit, digit-small, one-shifted}
 use Rattle.bits.proofs.Bytewise.{Shifted, shifted-first, shifted-next, within, beyond, blend-right, firstBytes, next-byte, byte-put, none-put, all-put}
 use Rattle.bits.proofs.put_bits.Statement.{statement}
 use Rattle.bits.proofs.put_bits.Tie as tie
@@ -32,17 +30,15 @@ abbrev μ-loop : tie.MeasureT-loop
 same : (c : tie.At-loop Inv-loop μ-loop) → length (c .loop .out) ≡ length (c .before .before .args .out .now)
 same c = ap length (c .loop .inv .1) ∙ length-bytes (length (c .before .before .args .out .now)) _
 
--- the power of two in the mask
-power : (n : ℕ) → n ≤ 56 → 1 * 2 ^ n % 2 ^ 64 ≡ 2 ^ n
-power n h = let e : 1 * 2 ^ n ≡ 2 ^ n = omega arith in ap (λ (x : ℕ). x % 2 ^ 64) e ∙ mod-eq-of-lt (omega (arith, pow-mono {i = n} {j = 56} h))
-
-ones : (n : ℕ) → n ≤ 56 → 1 * 2 ^ n % 2 ^ 64 - 1 ≡ 2 ^ n - 1
-ones n h = ap (λ (x : ℕ). x - 1) (power n h)
+ones : (n : ℕ) → n ≤ 63 → 1 * 2 ^ n % 2 ^ 64 - 1 ≡ 2 ^ n - 1
+ones n h = ap (λ (x : ℕ). x - 1) (one-shifted n 64 (omega arith))
 
 -- the byte is one of those that have new bits
 new-here : (c : tie.At-loop Inv-loop μ-loop) → 0 < c .loop .m → 8 * c .loop .j < c .before .before .args .from + c .before .before .args .count
 new-here c h =
-    let start = c .before .before in within (c .loop .inv .0) (start .args .count) (ones (start .args .count) (start .pre .0)) (messageBit (start .args .out .now)) h
+    let start = c .before .before in
+    let n = start .args .count in
+    within (c .loop .inv .0) n (ones n (start .pre .0)) (messageBit (start .args .out .now)) h
 
 shl-v : tie.Need-shl-v Inv-loop μ-loop
 shl-v c = search needs
@@ -51,7 +47,7 @@ shl-m : tie.Need-shl-m Inv-loop μ-loop
 shl-m c = search needs
 
 sub-m : tie.Need-sub-m Inv-loop μ-loop
-sub-m c = omega (arith, power (c .before .args .count) (c .before .pre .0), pow-pos (c .before .args .count))
+sub-m c = omega (arith, one-shifted (c .before .args .count) 64 (omega arith), pow-pos (c .before .args .count))
 
 shl-m-2 : tie.Need-shl-m-2 Inv-loop μ-loop
 shl-m-2 c = search needs
@@ -59,10 +55,12 @@ shl-m-2 c = search needs
 loop-holds : tie.Need-loop-holds Inv-loop μ-loop
 loop-holds c =
     let args = c .before .args in
-    let out = args .out .now in (
+    let out = args .out .now in
+    let new = put (args .bits) (args .count) out (args .from) in
+    let small = put-small (args .bits) (args .count) out (args .from) in (
       shifted-first 64 (args .bits) (1 * 2 ^ args .count % 2 ^ 64 - 1) (args .from),
-      sym (none-put (length out) (put (args .bits) (args .count) out (args .from)) (messageBit out) (put-small (args .bits) (args .count) out (args .from)) (message-small out)
-          (args .from / 8) (λ q l. with-before (args .from) (args .count) (digit (args .bits)) (messageBit out) q (omega arith))
+      sym (none-put (length out) new (messageBit out) small (message-small out) (args .from / 8)
+          (λ q l. with-before (args .from) (args .count) (digit (args .bits)) (messageBit out) q (omega arith))
           ∙ bytes-of-bits out (λ j. c .slice-known .given j .fits)),
     )
 
@@ -95,14 +93,18 @@ loop-again c =
     let out = args .out .now in
     let n = args .count in
     let j = at .loop .j in
+    let new = put (args .bits) n out (args .from) in
     let small = put-small (args .bits) n out (args .from) in
     let here : 8 * j < args .from + n = new-here at (c .before .before .loop-test .taken) in
     let room : j < length out = omega (arith, here, start .pre .2) in (
       shifted-next (at .loop .inv .0),
       ap (λ (xs : List ℕ). set xs j (c .blended .result)) (at .loop .inv .1)
-          ∙ byte-put (length out) (put (args .bits) n out (args .from)) (messageBit out) small (message-small out) j room (c .blended .result) (c .blended .ok)
-          (blend-right (at .loop .inv .0) n (ones n (start .pre .0)) (messageBit out) (omega (arith, here, start .pre .0)) (getD (at .loop .out) j 0) (c .blended .result)
-          (λ p l. ap (λ (xs : List ℕ). digit (getD xs j 0) p) (at .loop .inv .1) ∙ next-byte (length out) (put (args .bits) n out (args .from)) (messageBit out) small (message-small out) j room p l)
+          ∙ byte-put (length out) new (messageBit out) small (message-small out) j room (c .blended .result) (c .blended .ok)
+          (blend-right (at .loop .inv .0) n (ones n (start .pre .0)) (messageBit out) (omega (arith, here, start .pre .0))
+          (getD (at .loop .out) j 0) (c .blended .result)
+          (λ p l.
+          ap (λ (xs : List ℕ). digit (getD xs j 0) p) (at .loop .inv .1)
+          ∙ next-byte (length out) new (messageBit out) small (message-small out) j room p l)
           (c .blended .ensures)),
     )
 
@@ -115,9 +117,10 @@ returns c =
     let start = at .before .before in
     let args = start .args in
     let out = args .out .now in
+    let n = args .count in
     at .loop .inv .1
-    ∙ all-put (length out) (put (args .bits) (args .count) out (args .from)) (messageBit out) (put-small (args .bits) (args .count) out (args .from)) (message-small out)
-    (at .loop .j) (beyond (at .loop .inv .0) (args .count) (ones (args .count) (start .pre .0)) (messageBit out) (omega (arith, start .pre .0)) (omega arith))
+    ∙ all-put (length out) (put (args .bits) n out (args .from)) (messageBit out) (put-small (args .bits) n out (args .from)) (message-small out)
+    (at .loop .j) (beyond (at .loop .inv .0) n (ones n (start .pre .0)) (messageBit out) (start .pre .1) (omega arith))
 
 pub put-bits-spec : {M : Type 1} → statement M
 put-bits-spec =
