@@ -10,9 +10,8 @@ use lib.Pow.{pow-mono}
 use lib.IntN.{ℤ}
 use Rattle.e8.specs.Energy.{energy, Within}
 use Rattle.e8.proofs.Within.{within-to, energy-within}
-use Rattle.frames.specs.Kind.{kinds, isKind, degrees, levels, scale}
+use Rattle.frames.specs.Kind.{kinds, isKind, isGrade, degrees, levels, scale}
 use Rattle.frames.specs.Frame.{sentFrame}
-use Rattle.frames.specs.Sending.{isGrade}
 use Rattle.frames.proofs.Rows.{each-kind, grade-low, grade-high}
 use Rattle.frames.proofs.Demands.{sent-length, sent-within}
 

@@ -13,10 +13,9 @@ use Rattle.bits.specs.Number.{sumTo}
 use Rattle.bits.specs.Message.{messageBit}
 use Rattle.e8.specs.Energy.{sq, energy, distance, Within}
 use Rattle.e8.proofs.Frame.{differ-refl, differ-sym, differ-trans, leastFrame-is, least-only, leastFrame-within}
-use Rattle.frames.specs.Kind.{isKind, degrees, levels, blocks, scale}
+use Rattle.frames.specs.Kind.{isKind, isGrade, degrees, levels, blocks, scale}
 use Rattle.frames.specs.Message.{Message, blockNumbers, coordinate, leader}
 use Rattle.frames.specs.Frame.{InCodingSet, half, SameClass, Sent, sentFrame, leastDistance}
-use Rattle.frames.specs.Sending.{isGrade}
 use Rattle.frames.specs.Reading.{openMessage}
 use Rattle.frames.proofs.Levels.{Codes, apartBy, apart}
 use Rattle.frames.proofs.Stacked.{stacked-codes, codes-plus}

@@ -13,7 +13,7 @@ use Rattle.e8.specs.Order.{before}
 use Rattle.e8.specs.Rows.{ints}
 use Rattle.e8.specs.Least.{cent, better, best, leastBlock, leastFrame}
 use Rattle.frames.specs.Kind.{kinds, degrees, levels, levelBits}
-use Rattle.frames.specs.Message.{number, numbers, blockNumbers, stacked, coordinate, leader}
+use Rattle.frames.specs.Message.{numbers, blockNumbers, stacked, coordinate, leader}
 use Rattle.frames.specs.Frame.{half, sentFrame}
 
 pub record Exam : Type 0 where
@@ -45,5 +45,5 @@ exams =
 -- each message is sent as its frame, with its energy
 pub exam-frames : map {B = List ℤ × ℕ} (λ (e : Exam). (sentFrame (e .kind) (e .grade) (e .message), energy (sentFrame (e .kind) (e .grade) (e .message)))) exams
     ≡ map {B = List ℤ × ℕ} (λ (e : Exam). (e .frame, e .energy)) exams
-unfolding exams sentFrame half leastFrame leastBlock best better cent before energy sq leader coordinate stacked blockNumbers numbers number degrees kinds levels levelBits sumTo codeword order dimension masks ofWeight table messageBit ones
+unfolding exams sentFrame half leastFrame leastBlock best better cent before energy sq leader coordinate stacked blockNumbers numbers degrees kinds levels levelBits sumTo codeword order dimension masks ofWeight table messageBit ones
 exam-frames = refl

@@ -7,11 +7,12 @@ use native.Mathlib.Decide.{decLt}
 use native.Mathlib.Omega.{arith}
 use lib.ListN.{length, getD, length-append, List·getD-append}
 use lib.Seq.{getD-append-add}
+use Rattle.bits.specs.Number.{number}
 use Rattle.bits.proofs.Sum.{sum-ext}
 use Rattle.bits.proofs.Table.{length-table, table-at}
 use Rattle.bits.proofs.Message.{number-lt, number-bit, number-digits}
 use Rattle.e8.specs.Rows.{Below, Ranged}
-use Rattle.frames.specs.Message.{number, numbers, widths}
+use Rattle.frames.specs.Message.{numbers, widths}
 use Rattle.frames.specs.Reading.{digits, allDigits}
 
 -- the bits that numbers of the given widths take
@@ -27,12 +28,10 @@ Fits (w ∷ ws) [] = ⊥
 Fits (w ∷ ws) (s ∷ ss) = (s < 2 ^ w) × Fits ws ss
 
 module _ (bit : ℕ → ℕ) (small : (i : ℕ) → bit i < 2) where
-  number-below : (from w : ℕ) → number bit from w < 2 ^ w
-  unfolding number
+  number-below : (from w : ℕ) → number w (λ i. bit (from + i)) < 2 ^ w
   number-below from w = number-lt (λ i. bit (from + i)) w (λ i l. small (from + i))
 
-  number-digit : (from w t : ℕ) → t < w → number bit from w / 2 ^ t % 2 ≡ bit (from + t)
-  unfolding number
+  number-digit : (from w t : ℕ) → t < w → number w (λ i. bit (from + i)) / 2 ^ t % 2 ≡ bit (from + t)
   number-digit from w t h = number-bit (λ i. bit (from + i)) w (λ i l. small (from + i)) t h
 
   pub numbers-fit : (from : ℕ) (ws : List ℕ) → Fits ws (numbers bit from ws)
@@ -54,7 +53,7 @@ unfolding numbers
 numbers-agree bit bit′ small small′ [] from from′ e o h = absurd (omega arith)
 numbers-agree bit bit′ small small′ (w ∷ ws) from from′ e o h = go (numbers-agree bit bit′ small small′ ws (from + w) (from′ + w) (cc) (o - w)) (decLt o w)
   where
-    first : number bit from w ≡ number bit′ from′ w
+    first : number w (λ i. bit (from + i)) ≡ number w (λ i. bit′ (from′ + i))
     first = cc
 
     go : (o - w < total ws → bit (from + w + (o - w)) ≡ bit′ (from′ + w + (o - w))) → Dec (o < w) → bit (from + o) ≡ bit′ (from′ + o)
@@ -81,7 +80,7 @@ all-length (w ∷ ws) [] h = absurd (omega arith)
 all-length (w ∷ ws) (s ∷ ss) h = length-append (digits w s) (allDigits ws ss) ∙ ap₂ _+_ (digits-length w s) (all-length ws ss (omega arith))
 
 pub numbers-read : (bit : ℕ → ℕ) (ws ss : List ℕ) (from : ℕ) → Fits ws ss → ((o : ℕ) → o < total ws → bit (from + o) ≡ getD (allDigits ws ss) o 0) → numbers bit from ws ≡ ss
-unfolding numbers number allDigits
+unfolding numbers allDigits
 numbers-read bit [] [] from h e = refl
 numbers-read bit [] (s ∷ ss) from h e = absurd h
 numbers-read bit (w ∷ ws) [] from h e = absurd h
@@ -93,7 +92,7 @@ numbers-read bit (w ∷ ws) (s ∷ ss) from h e = ap₂ _∷_ first (numbers-rea
     B : List ℕ
     B = allDigits ws ss
 
-    first : number bit from w ≡ s
+    first : number w (λ i. bit (from + i)) ≡ s
     first =
         sum-ext w (λ t l. ap (λ (n : ℕ). n * 2 ^ t) (e t (omega arith) ∙ List·getD-append A B 0 t (omega (arith, digits-length w s)) ∙ digits-at w s t l))
         ∙ number-digits s w ∙ mod-eq-of-lt (h .0)

@@ -14,10 +14,9 @@ use Rattle.bits.specs.Message.{messageBit}
 use Rattle.e8.specs.Energy.{sq, energy, distance}
 use Rattle.e8.specs.Order.{before}
 use Rattle.e8.specs.Least.{cent, better, best, leastBlock, leastFrame}
-use Rattle.frames.specs.Kind.{kinds, isKind, degrees, levels, levelBits, messageBits, messageBytes}
-use Rattle.frames.specs.Message.{Message, number, numbers, blockNumbers, stacked, coordinate, leader}
+use Rattle.frames.specs.Kind.{kinds, isKind, isGrade, degrees, levels, levelBits, messageBits, messageBytes}
+use Rattle.frames.specs.Message.{Message, numbers, blockNumbers, stacked, coordinate, leader}
 use Rattle.frames.specs.Frame.{half, sentFrame, leastDistance}
-use Rattle.frames.specs.Sending.{isGrade}
 use Rattle.frames.proofs.Rows.{bits-3, bits-4, bits-5, each-kind, each-grade, grade-low}
 
 -- the message whose first byte is x and whose other bytes are 0
@@ -65,7 +64,7 @@ Exactly k b = distance (sentFrame k b (first 0 k b)) (sentFrame k b (first 2 k b
 
 -- the twelve pairs, computed
 exactly-at : (k : ℕ) → isKind k ≡ true → (b : ℕ) → isGrade b ≡ true → Exactly k b
-unfolding sentFrame half leastFrame leastBlock best better cent before energy sq distance leader coordinate stacked blockNumbers numbers number messageBytes messageBits degrees kinds levels levelBits sumTo codeword order dimension masks ofWeight table messageBit ones
+unfolding sentFrame half leastFrame leastBlock best better cent before energy sq distance leader coordinate stacked blockNumbers numbers messageBytes messageBits degrees kinds levels levelBits sumTo codeword order dimension masks ofWeight table messageBit ones
 exactly-at = each-kind (λ k. (b : ℕ) → isGrade b ≡ true → Exactly k b)
     (each-grade (Exactly 3) refl refl refl refl) (each-grade (Exactly 4) refl refl refl refl) (each-grade (Exactly 5) refl refl refl refl)
 

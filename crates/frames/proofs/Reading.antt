@@ -15,10 +15,10 @@ use Rattle.e8.specs.Lattice.{Differ}
 use Rattle.e8.specs.Least.{IsLeast, leastFrame}
 use Rattle.e8.proofs.Frame.{differ-refl, differ-sym, differ-trans, leastFrame-is}
 use Rattle.e8.proofs.Within.{within-to}
-use Rattle.frames.specs.Kind.{isKind, degrees, blocks, messageBytes, scale}
+use Rattle.frames.specs.Kind.{isKind, isGrade, degrees, blocks, messageBytes, scale}
 use Rattle.frames.specs.Message.{Message, leader}
 use Rattle.frames.specs.Frame.{InCodingSet, half, SameClass, sentFrame}
-use Rattle.frames.specs.Sending.{isGrade, unless}
+use Rattle.frames.specs.Sending.{unless}
 use Rattle.frames.specs.Reading.{openMessage, sameFrame, inRange, broken, openRefusal, isSent, strictRefusal, messageAfter, energyRead}
 use Rattle.frames.proofs.Rows.{shape, grade-low}
 use Rattle.frames.proofs.Demands.{OneMessage, half-pos, sent-only, sent-within, sent-in-set, read-message, leader-class, read-class, exactly-one}

@@ -11,9 +11,8 @@ use lib.ListN.{length, getD}
 use borrow.Author.Tests.{eqb-true, leb-true}
 use Rattle.bits.specs.Number.{table}
 use Rattle.reed_muller.specs.Level.{dimension, masks, ofWeight}
-use Rattle.frames.specs.Kind.{kinds, isKind, degrees, levels, blocks, levelBits, messageBits, messageBytes}
+use Rattle.frames.specs.Kind.{kinds, isKind, isGrade, degrees, levels, blocks, levelBits, messageBits, messageBytes}
 use Rattle.frames.specs.Frame.{leastDistance}
-use Rattle.frames.specs.Sending.{isGrade}
 use Rattle.frames.proofs.Levels.{Fit, apartBy}
 use Rattle.frames.proofs.Class.{Shape}
 

@@ -1,9 +1,9 @@
--- Kinds and grades: document 01's table, and what a row of it says of messages and of the scale. Assumes nothing.
+-- Kinds and grades: document 01's table, the numbers for its levels, and what a row says of messages and of the scale. Assumes nothing.
 use Prim.Native.Nat.{ℕ, _+_, _*_, _/_, _^_}
-use mathlib.Core.Bool.{Bool, false, _||_, cond}
+use mathlib.Core.Bool.{Bool, false, _&&_, _||_, cond}
 use mathlib.Core.List.{List, [], _∷_}
-use lib.Dec.{eqb}
-use lib.ListN.{length}
+use lib.Dec.{eqb, leb}
+use lib.ListN.{length, getD}
 use Rattle.reed_muller.specs.Level.{dimension}
 
 -- a row of the table: the kind m, whose frames have 2^m coordinates, and the degrees r of its level codes RM(r,m), level 0 first
@@ -19,6 +19,15 @@ kinds =
     ∷ record { kind = 5; degrees = 1 ∷ 3 ∷ [] }
     ∷ []
 
+-- the numbers for a broken level, level 0 first: one for each level that a kind has
+abbrev pub brokenNumbers : List ℕ
+brokenNumbers = 7 ∷ 8 ∷ []
+
+-- the number for a broken level i
+abbrev pub brokenNumber : ℕ → ℕ
+brokenNumber i = getD brokenNumbers i 0
+
+-- k stands in a row
 abbrev pub listed : ℕ → List Row → Bool
 listed k [] = false
 listed k (row ∷ rows) = eqb k (row .kind) || listed k rows
@@ -28,6 +37,11 @@ unfoldable pub isKind : ℕ → Bool
 unfolding kinds
 isKind k = listed k kinds
 
+-- the grades are 1 to 4
+unfoldable pub isGrade : ℕ → Bool
+isGrade b = leb 1 b && leb b 4
+
+-- the degrees in the row of k
 abbrev pub degreesIn : ℕ → List Row → List ℕ
 degreesIn k [] = []
 degreesIn k (row ∷ rows) = cond (eqb k (row .kind)) (row .degrees) (degreesIn k rows)
@@ -46,11 +60,12 @@ levels k = length (degrees k)
 abbrev pub blocks : ℕ → ℕ
 blocks k = 2 ^ k / 8
 
--- the message bits of the levels together: the dimensions of their codes
+-- the message bits of levels of the degrees rs together: the dimensions of their codes
 abbrev pub dimensions : ℕ → List ℕ → ℕ
 dimensions m [] = 0
 dimensions m (r ∷ rs) = dimension r m + dimensions m rs
 
+-- those of kind k
 unfoldable pub levelBits : ℕ → ℕ
 unfolding degrees
 levelBits k = dimensions k (degrees k)

@@ -4,7 +4,7 @@ use mathlib.Core.Path.{_≡_}
 use mathlib.Core.List.{List, [], _∷_}
 use lib.ListN.{length, getD}
 use lib.IntN.{ℤ}
-use Rattle.bits.specs.Number.{sumTo, table}
+use Rattle.bits.specs.Number.{sumTo, table, number}
 use Rattle.reed_muller.specs.Level.{dimension, codeword}
 use Rattle.bits.specs.Message.{messageBit}
 use Rattle.e8.specs.Rows.{ints}
@@ -20,16 +20,11 @@ pub record Message (k b : ℕ) (bytes : List ℕ) : Type 0 where
 abbrev pub widths : ℕ → List ℕ
 widths b = (b - 1) ∷ b ∷ b ∷ b ∷ b ∷ b ∷ b ∷ (b + 1) ∷ []
 
--- the number of w bits, lowest first, that begins at bit `from`
-unfoldable pub number : (ℕ → ℕ) → ℕ → ℕ → ℕ
-unfolding sumTo
-number bit from w = sumTo w (λ i. bit (from + i) * 2 ^ i)
-
--- numbers of the given widths, one after the other
+-- numbers of the given widths, one after the other from bit `from` on, each lowest bit first
 unfoldable pub numbers : (ℕ → ℕ) → ℕ → List ℕ → List ℕ
-unfolding number
+unfolding sumTo
 numbers bit from [] = []
-numbers bit from (w ∷ ws) = number bit from w ∷ numbers bit (from + w) ws
+numbers bit from (w ∷ ws) = number w (λ i. bit (from + i)) ∷ numbers bit (from + w) ws
 
 -- the numbers s1 to s8 of block j: the blocks' bits, 8b for each, stand behind those of the levels
 unfoldable pub blockNumbers : ℕ → ℕ → List ℕ → ℕ → List ℕ

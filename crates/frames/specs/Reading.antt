@@ -1,5 +1,5 @@
--- What a reading takes from a frame: its message, and the number of the first test that is not passed (document 01, "Shaping", last paragraph, and "Numbers").
--- Assumes nothing.
+-- What a reading takes from a frame: its message, and the number of the first test that is not passed
+-- (document 01, "Shaping", last paragraph, and "Numbers"). Assumes nothing.
 use Prim.Native.Nat.{ℕ, zero, suc, _+_, _-_, _/_, _%_, _^_}
 use mathlib.Core.Bool.{Bool, true, false, _&&_, cond}
 use mathlib.Core.List.{List, [], _∷_, _++_, map}
@@ -13,10 +13,10 @@ use Rattle.bits.specs.Message.{bytesOf}
 use Rattle.e8.specs.Energy.{energy, isWithin}
 use Rattle.e8.specs.Lattice.{part}
 use Rattle.e8.specs.Rows.{reduced}
-use Rattle.frames.specs.Kind.{isKind, degrees, levels, blocks, messageBytes}
+use Rattle.frames.specs.Kind.{brokenNumber, isKind, isGrade, degrees, levels, blocks, messageBytes}
 use Rattle.frames.specs.Message.{widths}
 use Rattle.frames.specs.Frame.{levelWord, sentFrame}
-use Rattle.frames.specs.Sending.{isGrade, unless}
+use Rattle.frames.specs.Sending.{unless}
 
 -- the message bits of a level: backwards, the bits of the first masks of the order
 unfoldable pub levelMessage : ℕ → ℕ → (ℕ → ℕ) → List ℕ
@@ -81,10 +81,6 @@ sameFrame (x ∷ f) (y ∷ g) = sameNumber x y && sameFrame f g
 unfoldable pub inRange : List ℤ → Bool
 unfolding isWithin
 inRange f = isWithin 1048576 f
-
--- the numbers for a broken level 0 and a broken level 1
-abbrev pub brokenNumber : ℕ → ℕ
-brokenNumber i = getD (7 ∷ 8 ∷ []) i 0
 
 -- the number of the first level from i on that is not a codeword, 0 where each one is
 unfoldable pub broken : ℕ → ℕ → List ℕ → List ℤ → ℕ

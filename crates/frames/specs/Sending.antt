@@ -1,14 +1,14 @@
 -- What sending answers: the number of the first test that is not passed, the frame and the energy (document 01, "Numbers"). Assumes nothing.
 use Prim.Native.Nat.{ℕ, zero, suc, _+_, _-_, _*_, _^_, _≤_}
 use mathlib.Core.Path.{_≡_}
-use mathlib.Core.Bool.{Bool, false, _&&_, _||_, cond}
+use mathlib.Core.Bool.{Bool, false, _||_, cond}
 use mathlib.Core.List.{List}
-use lib.Dec.{eqb, leb}
+use lib.Dec.{eqb}
 use lib.ListN.{length}
 use lib.IntN.{ℤ}
 use Rattle.bits.specs.Message.{messageBit}
 use Rattle.e8.specs.Energy.{energy, Within}
-use Rattle.frames.specs.Kind.{isKind, messageBits, messageBytes, scale}
+use Rattle.frames.specs.Kind.{isKind, isGrade, messageBits, messageBytes, scale}
 use Rattle.frames.specs.Frame.{SameClass, sentFrame}
 
 -- one of the n bits from `from` on is set
@@ -20,10 +20,6 @@ anySet bit from (suc n) = anySet bit from n || eqb (bit (from + n)) 1
 unfoldable pub spareSet : ℕ → ℕ → List ℕ → Bool
 unfolding anySet messageBits messageBytes
 spareSet k b bytes = anySet (messageBit bytes) (messageBits k b) (8 * messageBytes k b - messageBits k b)
-
--- the grades are 1 to 4
-unfoldable pub isGrade : ℕ → Bool
-isGrade b = leb 1 b && leb b 4
 
 -- a test that refuses by its number where it is not passed, and else goes on
 abbrev pub unless : Bool → ℕ → ℕ → ℕ
@@ -39,15 +35,15 @@ sendRefusal k b bytes n =
     (unless (eqb n (2 ^ k)) 4
     (cond (spareSet k b bytes) 5 0))))
 
--- the lent frame f after sending: the sent frame, or as it was where sending is refused
-unfoldable pub frameAfter : ℕ → ℕ → List ℕ → List ℤ → List ℤ
-unfolding sendRefusal sentFrame
-frameAfter k b bytes f = cond (eqb (sendRefusal k b bytes (length f)) 0) (sentFrame k b bytes) f
+-- ---- what sending that answers `number` leaves: the sent frame and its energy, or the lent frame f as it was and 0
 
--- the energy reported: that of the sent frame, or 0 where sending is refused
-unfoldable pub energySent : ℕ → ℕ → List ℕ → ℕ → ℕ
-unfolding sendRefusal sentFrame
-energySent k b bytes n = cond (eqb (sendRefusal k b bytes n) 0) (energy (sentFrame k b bytes)) 0
+unfoldable pub frameAfter : ℕ → ℕ → ℕ → List ℕ → List ℤ → List ℤ
+unfolding sentFrame
+frameAfter number k b bytes f = cond (eqb number 0) (sentFrame k b bytes) f
+
+unfoldable pub energySent : ℕ → ℕ → ℕ → List ℕ → ℕ
+unfolding sentFrame energy
+energySent number k b bytes = cond (eqb number 0) (energy (sentFrame k b bytes)) 0
 
 -- what sending promises of the frame that it wrote and of the energy e that it reports: e is the frame's energy, every integer frame
 -- that differs from it by a point of the shaping lattice has at least that, and no coordinate is larger than M in size
