@@ -20,13 +20,14 @@ pub struct Outcome {
 }
 
 // Writes the coset leader of a message over the lent frame, block by block.
-fn lay(kind: u8, grade: usize, message: &[u8], frame: &mut [i32])
+fn write_leader(kind: u8, grade: usize, message: &[u8], frame: &mut [i32])
     requires { ⌜ (isKind kind ≡ true) × (1 ≤ grade) × (grade ≤ 4) × (length (now message) ≡ messageBytes kind grade) × (length (now frame) ≡ 2 ^ kind) ⌝ }
     ensures { λ _. ⌜ now (frame .exit) ≡ leader kind grade (now (message .entry)) ⌝ }
 {
     let words = leader::codewords(kind, message);
-    let low = words.low;
-    let high = words.high;
+    let c0 = words[0];
+    let c1 = words[1];
+    let c2 = words[2];
     let base = kind_table::level_bits(kind);
     let weight = kind_table::levels(kind) as u32;
     let blocks = frame.len() / 8;
@@ -35,8 +36,8 @@ fn lay(kind: u8, grade: usize, message: &[u8], frame: &mut [i32])
         let s = 8 * j;
         let e = s + 8;
         let from = base + 8 * grade * j;
-        let x = leader::block(message, from, grade, weight, low >> s, high >> s);
-        shaping::store(x, &mut frame[s..e]);
+        let x = leader::block(message, from, grade, weight, c0 >> s, c1 >> s, c2 >> s);
+        coordinates::store(x, &mut frame[s..e]);
         j += 1;
     }
 }
@@ -46,20 +47,20 @@ fn shape(k: u32, frame: &mut [i32])
     requires { ⌜ (k ≤ 6) × (length (now frame) % 8 ≡ 0) × (length (now frame) ≤ 1024) × Within (2 ^ 24) (now frame) ⌝ }
     ensures { λ _. ⌜ now (frame .exit) ≡ leastFrame (2 ^ k) (length (now (frame .entry)) / 8) (now (frame .entry)) ⌝ }
 {
-    let n = frame.len() / 8;
+    let all = frame.len() / 8;
     let mut j: usize = 0;
-    while j < n {
+    while j < all {
         let s = 8 * j;
         let e = s + 8;
-        let x = shaping::load(&frame[s..e]);
+        let x = coordinates::load(&frame[s..e]);
         let y = shaping::least(k, x);
-        shaping::store(y, &mut frame[s..e]);
+        coordinates::store(y, &mut frame[s..e]);
         j += 1;
     }
 }
 
 // The energy of a shaped frame, block by block.
-fn total(frame: &[i32]) -> u64
+fn shaped_energy(frame: &[i32]) -> u64
     requires { ⌜ (length (now frame) % 8 ≡ 0) × (length (now frame) ≤ 1024) × Within (2 ^ 10) (now frame) ⌝ }
     ensures { λ r. ⌜ r ≡ energyOf (now (frame .entry)) ⌝ }
 {
@@ -69,22 +70,22 @@ fn total(frame: &[i32]) -> u64
     while j < n {
         let s = 8 * j;
         let e = s + 8;
-        energy += shaping::block_energy(&frame[s..e]);
+        energy += coordinates::block_energy(&frame[s..e]);
         j += 1;
     }
     energy
 }
 
-// Sends a message of a good kind, grade and length: its leader is laid, and shaped.
-fn fill(kind: u8, grade: usize, message: &[u8], frame: &mut [i32]) -> u64
+// Writes the sent frame of a message of a good kind, grade and length, and gives its energy: the leader is written, and shaped.
+fn write_sent(kind: u8, grade: usize, message: &[u8], frame: &mut [i32]) -> u64
     requires { ⌜ (isKind kind ≡ true) × (1 ≤ grade) × (grade ≤ 4) × (length (now message) ≡ messageBytes kind grade) × (length (now frame) ≡ 2 ^ kind) ⌝ }
     ensures frame { λ _. ⌜ now (frame .exit) ≡ sentFrame kind grade (now (message .entry)) ⌝ }
     ensures energy { λ r. ⌜ r ≡ energyOf (sentFrame kind grade (now (message .entry))) ⌝ }
 {
-    lay(kind, grade, message, frame);
+    write_leader(kind, grade, message, frame);
     let k = kind_table::levels(kind) + grade - 1;
     shape(k as u32, frame);
-    total(frame)
+    shaped_energy(frame)
 }
 
 // The tests alone, for a caller that has a test of its own to make before anything is written; n coordinates are lent.
@@ -97,8 +98,8 @@ pub fn test(kind: u8, grade: u8, message: &[u8], n: usize) -> u8
 // Sends a message: tests 1, 2, 3, 4, 5, and then writes the sent frame and gives its energy. A refusal writes nothing.
 pub fn send(kind: u8, grade: u8, message: &[u8], frame: &mut [i32]) -> Outcome
     ensures number { λ r. ⌜ r .number ≡ sendRefusal kind grade (now (message .entry)) (length (now (frame .entry))) ⌝ }
-    ensures frame { λ r. ⌜ now (frame .exit) ≡ frameAfter kind grade (now (message .entry)) (now (frame .entry)) ⌝ }
-    ensures energy { λ r. ⌜ r .energy ≡ energySent kind grade (now (message .entry)) (length (now (frame .entry))) ⌝ }
+    ensures frame { λ r. ⌜ now (frame .exit) ≡ frameAfter (r .number) kind grade (now (message .entry)) (now (frame .entry)) ⌝ }
+    ensures energy { λ r. ⌜ r .energy ≡ energySent (r .number) kind grade (now (message .entry)) ⌝ }
     ensures least { λ r. ⌜ (r .number ≡ 0 → LeastEnergy kind grade (now (frame .exit)) (r .energy)) ⌝ }
 {
     let n = frame.len();
@@ -106,6 +107,6 @@ pub fn send(kind: u8, grade: u8, message: &[u8], frame: &mut [i32]) -> Outcome
     if number != 0 {
         return Outcome { number, energy: 0 };
     }
-    let energy = fill(kind, grade as usize, message, frame);
-    Outcome { number: 0, energy }
+    let energy = write_sent(kind, grade as usize, message, frame);
+    Outcome { number, energy }
 }

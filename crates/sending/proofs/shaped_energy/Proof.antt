@@ -1,4 +1,4 @@
--- `total` meets its contract: the energy of the blocks passed so far. Assumes nothing.
+-- `shaped_energy` meets its contract: the energy of the blocks passed so far. Assumes nothing.
 use Prim.Native.Nat.{ℕ, _+_, _-_, _*_, _/_, _^_, _<_, _≤_}
 use mathlib.Core.Path.{_≡_, refl, sym, ap, _∙_, subst}
 use native.Mathlib.Omega.{arith}
@@ -10,8 +10,8 @@ use Rattle.e8.specs.Lattice.{part}
 use Rattle.e8.proofs.Order.{energy-append}
 use Rattle.e8.proofs.Within.{energy-within, within-part}
 use Rattle.sending.proofs.Blocks.{taken-made}
-use Rattle.sending.proofs.total.Statement.{statement}
-use Rattle.sending.proofs.total.Tie as tie
+use Rattle.sending.proofs.shaped_energy.Statement.{statement}
+use Rattle.sending.proofs.shaped_energy.Tie as tie
 
 abbrev Inv-loop : tie.InvT-loop
 Inv-loop frame n energy₀ j₀ energy j = (8 * j ≤ length frame) × (energy ≡ energy-of (take (8 * j) frame)) × (energy ≤ 8388608 * j)
@@ -85,8 +85,8 @@ returns c =
     let f = a .before .args .frame .now in
     a .loop .inv .1 ∙ ap energy-of (take-all (8 * a .loop .j) f (omega (arith, c .loop-test .left)))
 
-pub total-spec : {M : Type 1} → statement M
-total-spec =
+pub shaped-energy-spec : {M : Type 1} → statement M
+shaped-energy-spec =
     tie.close
     (tie.spec
     Inv-loop

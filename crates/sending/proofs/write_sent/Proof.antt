@@ -1,4 +1,4 @@
--- `fill` meets its contract: the shaped leader is the sent frame. Assumes nothing.
+-- `write_sent` meets its contract: the shaped leader is the sent frame. Assumes nothing.
 use Prim.Native.Nat.{ℕ, _+_, _-_, _/_, _^_, _≤_}
 use mathlib.Core.Path.{_≡_, sym, ap, ap₂, _∙_, subst}
 use mathlib.Core.Bool.{true}
@@ -19,8 +19,8 @@ use Rattle.frames.proofs.Demands.{sent-length, sent-within}
 use Rattle.kind_table.proofs.Each.{size}
 use Rattle.sending.proofs.Laid.{long, leader-within}
 use borrow.Author.Needs.{needs}
-use Rattle.sending.proofs.fill.Statement.{statement}
-use Rattle.sending.proofs.fill.Tie as tie
+use Rattle.sending.proofs.write_sent.Statement.{statement}
+use Rattle.sending.proofs.write_sent.Tie as tie
 
 -- the leader shaped by half the scale
 sent-is : (k b a : ℕ) (bytes : List ℕ) (f : List ℤ) → a ≡ levels-of k → f ≡ leader k b bytes → leastFrame (2 ^ (a + b - 1)) (length f / 8) f ≡ sentFrame k b bytes
@@ -34,8 +34,8 @@ few c =
     let s = c .before .before .before .before .before in
     omega (arith, c .levels .ensures, few-levels (s .args .kind) (s .pre .0))
 
-lay-requires : tie.Need-lay-requires
-lay-requires c κs = search needs
+write-leader-requires : tie.Need-write-leader-requires
+write-leader-requires c κs = search needs
 
 levels-requires : tie.Need-levels-requires
 levels-requires c κs = search needs
@@ -54,12 +54,12 @@ shape-requires c κs =
     let l = c .before .before .before in
     let s = l .before .before .before in
     let k = s .args .kind in
-    let e = ap length (l .lay .ensures) in
+    let e = ap length (l .write-leader .ensures) in
     let n = long k (s .args .grade) (s .pre .0) (s .args .message .now) in (
       omega (arith, few (c .before)),
       omega (arith, e, n),
       omega (arith, e, leader-length k (s .args .grade) (s .args .message .now), size k (s .pre .0) .positions),
-      subst (Within (2 ^ 24)) (sym (l .lay .ensures)) (leader-within k (s .args .grade) (s .pre .0) (s .args .message .now) (s .pre .2)),
+      subst (Within (2 ^ 24)) (sym (l .write-leader .ensures)) (leader-within k (s .args .grade) (s .pre .0) (s .args .message .now) (s .pre .2)),
     )
 
 -- what is shaped is the sent frame, and small
@@ -68,14 +68,14 @@ shaped h =
     let v = h .before .before in
     let l = v .before .before in
     let s = l .before .before .before in
-    h .shape .ensures ∙ sent-is (s .args .kind) (s .args .grade) (v .levels .result) (s .args .message .now) (l .lay .last .1 .1 .1 .0) (v .levels .ensures) (l .lay .ensures)
+    h .shape .ensures ∙ sent-is (s .args .kind) (s .args .grade) (v .levels .result) (s .args .message .now) (l .write-leader .last .1 .1 .1 .0) (v .levels .ensures) (l .write-leader .ensures)
 
 near : (k b : ℕ) (bytes : List ℕ) → isKind k ≡ true → 1 ≤ b → b ≤ 4 → Within (2 ^ 10) (sentFrame k b bytes)
 unfolding scale
 near k b bytes kind low high = within-to (scale k b) (2 ^ 10) (sentFrame k b bytes) (pow-mono {j = 10} (omega (arith, few-levels k kind))) (sent-within k b kind low bytes)
 
-total-requires : tie.Need-total-requires
-total-requires c κs =
+shaped-energy-requires : tie.Need-shaped-energy-requires
+shaped-energy-requires c κs =
     let h = c .before .before in
     let s = h .before .before .before .before .before .before .before in
     let k = s .args .kind in
@@ -89,18 +89,18 @@ same-length : tie.Need-same-length
 same-length c = search needs
 
 returns : tie.Need-returns
-returns c = let h = c .before .before .before in (shaped h, c .total .ensures ∙ ap energy (shaped h))
+returns c = let h = c .before .before .before in (shaped h, c .shaped-energy .ensures ∙ ap energy (shaped h))
 
-pub fill-spec : {M : Type 1} → statement M
-fill-spec =
+pub write-sent-spec : {M : Type 1} → statement M
+write-sent-spec =
     tie.close
     (tie.spec
-    lay-requires
+    write-leader-requires
     levels-requires
     add-k
     sub-k
     cast-shape
     shape-requires
-    total-requires
+    shaped-energy-requires
     same-length
     returns)

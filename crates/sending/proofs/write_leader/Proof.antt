@@ -1,4 +1,4 @@
--- `lay` meets its contract: the blocks passed so far are the leader's. Assumes nothing.
+-- `write_leader` meets its contract: the blocks passed so far are the leader's. Assumes nothing.
 use Prim.Native.Nat.{ℕ, _+_, _-_, _*_, _/_, _%_, _^_, _≤_, _<_}
 use mathlib.Core.Path.{_≡_, sym, ap₂, _∙_, subst}
 use native.Mathlib.Omega.{arith}
@@ -16,8 +16,8 @@ use Rattle.frames.proofs.Bounds.{few-levels}
 use Rattle.kind_table.proofs.Each.{size, bits-row}
 use Rattle.sending.proofs.Blocks.{Made, Over, over-start, over-same, over-end, over-step, taken-made}
 use Rattle.sending.proofs.Laid.{long, block-is, offset-small}
-use Rattle.sending.proofs.lay.Statement.{statement}
-use Rattle.sending.proofs.lay.Tie as tie
+use Rattle.sending.proofs.write_leader.Statement.{statement}
+use Rattle.sending.proofs.write_leader.Tie as tie
 
 abbrev Inv-loop : tie.InvT-loop
 Inv-loop kind grade message frame₀ low high base weight blocks j₀ frame j =
@@ -171,8 +171,8 @@ returns c =
     over-end (made s) (whole s) (a .loop .inv) (omega (arith, s .pre .4))
     ∙ take-all (8 * blocks-of (s .args .kind)) L (omega (arith, long (s .args .kind) (s .args .grade) (s .pre .0) (s .args .message .now)))
 
-pub lay-spec : {M : Type 1} → statement M
-lay-spec =
+pub write-leader-spec : {M : Type 1} → statement M
+write-leader-spec =
     tie.close
     (tie.spec
     Inv-loop
