@@ -36,7 +36,7 @@ fn lay(kind: u8, grade: usize, message: &[u8], frame: &mut [i32])
         let e = s + 8;
         let from = base + 8 * grade * j;
         let x = leader::block(message, from, grade, weight, low >> s, high >> s);
-        shaping::store(x, &mut frame[s..e]);
+        coordinates::store(x, &mut frame[s..e]);
         j += 1;
     }
 }
@@ -51,9 +51,9 @@ fn shape(k: u32, frame: &mut [i32])
     while j < n {
         let s = 8 * j;
         let e = s + 8;
-        let x = shaping::load(&frame[s..e]);
+        let x = coordinates::load(&frame[s..e]);
         let y = shaping::least(k, x);
-        shaping::store(y, &mut frame[s..e]);
+        coordinates::store(y, &mut frame[s..e]);
         j += 1;
     }
 }
@@ -69,7 +69,7 @@ fn total(frame: &[i32]) -> u64
     while j < n {
         let s = 8 * j;
         let e = s + 8;
-        energy += shaping::block_energy(&frame[s..e]);
+        energy += coordinates::block_energy(&frame[s..e]);
         j += 1;
     }
     energy
