@@ -21,10 +21,10 @@ pub extern "C" fn block_least(k: u32, block: &[i32], least: &mut [i32]) -> bool
     if least.len() != 8 {
         return false;
     }
-    if !shaping::within(block, 16777216) {
+    if !coordinates::within(block, 16777216) {
         return false;
     }
-    let y = shaping::least(k, shaping::load(block));
-    shaping::store(y, least);
+    let y = shaping::least(k, coordinates::load(block));
+    coordinates::store(y, least);
     true
 }

@@ -32,7 +32,7 @@ fn read(strict: bool, kind: u8, grade: u8, frame: &[i32], message: &mut [u8]) ->
         };
     }
     write_message(kind, grade, frame, &words, message);
-    let energy = shaping::energy(frame);
+    let energy = coordinates::energy(frame);
     Reading {
         number: 0,
         energy: energy,

@@ -72,8 +72,8 @@ pub fn block_numbers(a: usize, grade: usize, frame: &[i32], j: usize) -> [i32; 8
 {
     let from = 8 * j;
     let to = from + 8;
-    let v = floor_quotients(a, shaping::load(&frame[from..to]));
-    shaping::reduce((grade - 1) as u32, v)
+    let v = floor_quotients(a, coordinates::load(&frame[from..to]));
+    reduction::reduce((grade - 1) as u32, v)
 }
 
 // The bits of the blocks, behind those of the levels.

@@ -44,7 +44,7 @@ pub fn open_refusal(kind: u8, grade: u8, frame: &[i32], n: usize, words: &mut [u
     if n != kind_table::message_bytes(kind, grade as usize) {
         return 3;
     }
-    if !shaping::within(frame, 1048576) {
+    if !coordinates::within(frame, 1048576) {
         return 6;
     }
     level_words(kind, frame, words);

@@ -35,7 +35,7 @@ pub fn is_least(k: u32, frame: &[i32]) -> bool
     while j < n {
         let a = 8 * j;
         let e = a + 8;
-        let block = shaping::load(&frame[a..e]);
+        let block = coordinates::load(&frame[a..e]);
         if !same_block(block, shaping::least(k, block)) {
             return false;
         }

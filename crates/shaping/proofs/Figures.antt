@@ -14,7 +14,7 @@ use Rattle.integers.proofs.Zed.{`_, #_, _⊕_, _⊖_, eq! }
 use Rattle.integers.proofs.Floor.{modZ-lt}
 use Rattle.e8.specs.Energy.{Within}
 use Rattle.e8.specs.Least.{cent}
-use Rattle.shaping.proofs.Size.{sum-abs, less-abs}
+use Rattle.coordinates.proofs.Size.{sum-abs, less-abs}
 use Rattle.shaping.proofs.Passing.{cent-abs}
 use Rattle.shaping.specs.Rounded.{rankOf, rounded, off, floors, sizes, highest, lowest, Rounded}
 

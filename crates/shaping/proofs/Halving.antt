@@ -21,7 +21,7 @@ use Rattle.e8.proofs.Best.{All}
 use Rattle.e8.proofs.Rounding.{cent-only, cost-one}
 use Rattle.e8.proofs.Rows.{lowered-length}
 use Rattle.shaping.proofs.Passing.{placeOf, ranked, changed, across-none, Passed, passed, Mended, mended, least-is}
-use Rattle.shaping.specs.Rounded.{across, sooner, rankOf, rounded, off, floors, sizes, highest, lowest, memberOf, members}
+use Rattle.shaping.specs.Rounded.{across, wholeFirst, rankOf, rounded, off, floors, sizes, highest, lowest, memberOf, members}
 
 -- ---- one coordinate
 
@@ -300,7 +300,7 @@ module _ (H : ℕ) (xs : List ℤ) (h : 0 < H) (s : H ≤ 64) (l : length xs ≡
       ∙ members-changed half-odd top 0 (acrossed (pos H) rs) (omega (arith, acrossed-eight)) (omega arith) (halved .taken) ∙ halved .is
 
   -- the first by cost and first coordinate is the least block
-  pub chosen-is : (t : Bool) → t ≡ sooner (pos whole-cost) (memberOf odd (pos 0) (highest rs 0) (getD rs 0 (pos 0)) 0) (pos half-cost) (memberOf (pos H -ℤ half-odd) (pos H) (lowest rs 0) (getD rs 0 (pos 0)) 0)
+  pub chosen-is : (t : Bool) → t ≡ wholeFirst (pos whole-cost) (memberOf odd (pos 0) (highest rs 0) (getD rs 0 (pos 0)) 0) (pos half-cost) (memberOf (pos H -ℤ half-odd) (pos H) (lowest rs 0) (getD rs 0 (pos 0)) 0)
       → cond t (members odd (pos 0) (highest rs 0) 0 rs) (members (pos H -ℤ half-odd) (pos H) (lowest rs 0) 0 rs) ≡ leastBlock H xs
   chosen-is t e =
       let a : List ℤ = best (2 * H) false xs in
@@ -310,6 +310,6 @@ module _ (H : ℕ) (xs : List ℤ) (h : 0 < H) (s : H ≤ 64) (l : length xs ≡
       let d : getD b 0 (pos 0) ≡ memberOf (pos H -ℤ half-odd) (pos H) (lowest rs 0) (getD rs 0 (pos 0)) 0 =
       ap (λ v. getD v 0 (pos 0)) (sym half-is) ∙ members-at (pos H -ℤ half-odd) (pos H) (lowest rs 0) 0 rs 0 (omega (arith, eight)) in
       let g = compare (2 * H) whole-cost half-cost (energy a) (energy b) (2 * H * sizes rs) (energy rs) (omega arith) whole-energy half-energy in
-      let f : sooner (pos (energy a)) (getD a 0 (pos 0)) (pos (energy b)) (getD b 0 (pos 0)) ≡ t =
+      let f : wholeFirst (pos (energy a)) (getD a 0 (pos 0)) (pos (energy b)) (getD b 0 (pos 0)) ≡ t =
       (λ j. cond (ltZ (c j) (d j)) (g .0 j) (g .1 j)) ∙ sym e in
       ap₂ (cond t) whole-is half-is ∙ ap (λ u. cond u a b) (sym f) ∙ least-is H xs (energy a) (energy b) h (omega arith) refl refl

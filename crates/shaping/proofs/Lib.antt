@@ -1,9 +1,3 @@
-pub mod Size
-pub mod Filled
-pub mod Range
 pub mod Passing
 pub mod Halving
 pub mod Figures
-pub mod Rest
-pub mod Reading
-pub mod Reducing

@@ -24,12 +24,9 @@ use Rattle.e8.proofs.Points.{rest}
 use Rattle.e8.proofs.Best.{best-head, parts-differ, best-length}
 use Rattle.e8.proofs.Rounding.{Parity, parity-none, parity-more, parity-rest, Turned, turned, Rounding, round-one, round-here, round-later}
 use Rattle.e8.proofs.Rows.{lowered-length}
-use Rattle.shaping.specs.Rounded.{across, sooner, rankOf, rounded, off, highest}
+use Rattle.shaping.specs.Rounded.{across, wholeFirst, rankOf, rounded, off, highest}
 
 -- ---- sizes
-
-pub scale-pos : (k : ℕ) → k ≤ 7 → (0 < 2 ^ k) × (2 ^ k ≤ 2 ^ 7)
-scale-pos k h = (pow-pos k, pow-mono {j = 7} h)
 
 pub cent-abs : (M : ℕ) (x : ℤ) → 0 < M → natAbs (cent M x) ≤ M
 cent-abs M x h = go (cent M x) (cent-range M x h)
@@ -37,9 +34,6 @@ cent-abs M x h = go (cent M x) (cent-range M x h)
     go : (z : ℤ) → Range M z → natAbs z ≤ M
     go (pos n) r = omega (arith, r .high)
     go (negsuc n) r = omega (arith, r .low)
-
-pub drop-last : (xs : List ℤ) (i : ℕ) → length xs ≡ suc i → drop i xs ≡ getD xs i (pos 0) ∷ []
-drop-last xs i h = drop-cons xs i (pos 0) (omega arith) ∙ ap (λ l. getD xs i (pos 0) ∷ l) (drop-of-length-le xs {i = suc i} (omega arith))
 
 -- ---- ranks
 
@@ -249,7 +243,7 @@ firsts-differ H (x ∷ xs) h l e =
     parts-differ H x (p .0) (q .0) h (sym (p .1) ∙ e ∙ q .1)
 
 pub least-is : (H : ℕ) (x : List ℤ) (e f : ℕ) → 0 < H → 0 < length x → e ≡ energy (best (2 * H) false x) → f ≡ energy (best (2 * H) false (lowered (pos H) x))
-    → cond (sooner (pos e) (getD (best (2 * H) false x) 0 (pos 0)) (pos f) (getD (best (2 * H) false (lowered (pos H) x)) 0 (pos 0))) (best (2 * H) false x) (best (2 * H) false (lowered (pos H) x)) ≡ leastBlock H x
+    → cond (wholeFirst (pos e) (getD (best (2 * H) false x) 0 (pos 0)) (pos f) (getD (best (2 * H) false (lowered (pos H) x)) 0 (pos 0))) (best (2 * H) false x) (best (2 * H) false (lowered (pos H) x)) ≡ leastBlock H x
 unfolding leastBlock
 least-is H x e f h l he hf =
     let a : List ℤ = best (2 * H) false x in
@@ -258,6 +252,6 @@ least-is H x e f h l he hf =
     let d : ℤ = getD b 0 (pos 0) in
     let ea : a ≡ c ∷ drop 1 a = head-on a (omega (arith, best-length (2 * H) false x)) in
     let eb : b ≡ d ∷ drop 1 b = head-on b (omega (arith, best-length (2 * H) false (lowered (pos H) x), lowered-length (pos H) x)) in
-    ap₂ (cond (sooner (pos e) c (pos f) d)) ea eb
+    ap₂ (cond (wholeFirst (pos e) c (pos f) d)) ea eb
     ∙ sym (better-heads c d (drop 1 a) (drop 1 b) e f (firsts-differ H x h l) (he ∙ ap energy ea) (hf ∙ ap energy eb))
     ∙ ap₂ better (sym ea) (sym eb)

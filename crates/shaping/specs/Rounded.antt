@@ -15,8 +15,8 @@ abbrev pub across : ℤ → ℤ → ℤ
 across m c = cond (ltZ c (pos 0)) (c +ℤ m) (c -ℤ m)
 
 -- cost e with first coordinate c comes before cost f with first coordinate d, where c and d differ
-abbrev pub sooner : ℤ → ℤ → ℤ → ℤ → Bool
-sooner e c f d = cond (ltZ c d) (leZ e f) (ltZ e f)
+abbrev pub wholeFirst : ℤ → ℤ → ℤ → ℤ → Bool
+wholeFirst e c f d = cond (ltZ c d) (leZ e f) (ltZ e f)
 
 -- the rank of coordinate c at place i: by size, then 15 − i where it is not negative, and i where it is
 abbrev pub rankOf : ℤ → ℕ → ℕ

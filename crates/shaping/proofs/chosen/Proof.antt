@@ -8,7 +8,7 @@ use lib.IntN.{ℤ, pos}
 use lib.ListN.{length, getD}
 use borrow.Author.Needs.{needs}
 use Rattle.integers.proofs.Zed.{tz}
-use Rattle.shaping.proofs.Filled.{Filled, filled-none, filled-next, filled-all}
+use Rattle.coordinates.proofs.Filled.{Filled, filled-none, filled-next, filled-all}
 use Rattle.shaping.proofs.chosen.Statement.{statement}
 use Rattle.shaping.proofs.chosen.Tie as tie
 

@@ -9,8 +9,8 @@ use mir.Syntax.{w32}
 use mir.Val.{SFits}
 use borrow.Author.Needs.{needs}
 use Rattle.integers.proofs.Zed.{`_, #_, _⊗_, tz, sfits-to, abs-ud}
-use Rattle.shaping.proofs.Size.{fits, abs!, sum-abs, double-abs, where-abs, shr-abs}
-use Rattle.shaping.proofs.Reading.{read}
+use Rattle.coordinates.proofs.Size.{fits, abs!, sum-abs, double-abs, where-abs, shr-abs}
+use Rattle.coordinates.proofs.Reading.{read}
 use Rattle.shaping.proofs.half_cost.Statement.{statement}
 use Rattle.shaping.proofs.half_cost.Tie as tie
 

@@ -16,12 +16,12 @@ use Rattle.e8.specs.Energy.{Within}
 use Rattle.e8.specs.Lattice.{bit}
 use Rattle.e8.specs.Least.{leastBlock}
 use Rattle.e8.proofs.Within.{within-at}
-use Rattle.shaping.proofs.Size.{fits, abs!, less-abs}
-use Rattle.shaping.proofs.Rest.{double}
-use Rattle.shaping.proofs.Reading.{read, plain, plain-size, power-read, power-size}
+use Rattle.coordinates.proofs.Size.{fits, abs!, less-abs}
+use Rattle.coordinates.proofs.Rest.{double}
+use Rattle.coordinates.proofs.Reading.{read, plain, plain-size, power-read, power-size}
 use Rattle.shaping.proofs.Halving.{whole, halved, odd as whole-odd, half-odd as halved-odd, whole-cost, half-cost, turned, ranged, rounded-length, highest-low, chosen-is}
 use Rattle.shaping.proofs.Figures.{off-size, floors-size, sizes-low, rounded-within}
-use Rattle.shaping.specs.Rounded.{sooner, rounded, sizes, highest, lowest, memberOf, members, Rounded}
+use Rattle.shaping.specs.Rounded.{wholeFirst, rounded, sizes, highest, lowest, memberOf, members, Rounded}
 use Rattle.shaping.proofs.least.Statement.{statement}
 use Rattle.shaping.proofs.least.Tie as tie
 
@@ -111,10 +111,10 @@ module _ {k : ℕ} {x rs : List ℤ} {s t n u v : ℤ} (low : k ≤ 6) (w : With
   back-low true = abs! (# H ⊖ # (1 * (2 * H))) (2 ^ 7) (omega (arith, H-small)) (omega (arith, H-small))
 
   -- the choice
-  least-is : (b : Bool) → b ≡ sooner (pos (whole-cost H x H-pos H-small eight)) (memberOf odd (pos 0) (highest cs 0) (getD rs 0 (pos 0)) 0) (pos (half-cost H x H-pos H-small eight)) (memberOf (pos H -ℤ half-odd) (pos H) (lowest cs 0) (getD rs 0 (pos 0)) 0)
+  least-is : (b : Bool) → b ≡ wholeFirst (pos (whole-cost H x H-pos H-small eight)) (memberOf odd (pos 0) (highest cs 0) (getD rs 0 (pos 0)) 0) (pos (half-cost H x H-pos H-small eight)) (memberOf (pos H -ℤ half-odd) (pos H) (lowest cs 0) (getD rs 0 (pos 0)) 0)
       → cond b (members odd (pos 0) (highest cs 0) 0 rs) (members (pos H -ℤ half-odd) (pos H) (lowest cs 0) 0 rs) ≡ leastBlock H x
   least-is b e = ap (λ l. cond b (members odd (pos 0) (highest cs 0) 0 l) (members (pos H -ℤ half-odd) (pos H) (lowest cs 0) 0 l)) (q .block)
-      ∙ chosen-is H x H-pos H-small eight b (e ∙ ap (λ l. sooner (pos (whole-cost H x H-pos H-small eight)) (memberOf odd (pos 0) (highest cs 0) (getD l 0 (pos 0)) 0) (pos (half-cost H x H-pos H-small eight)) (memberOf (pos H -ℤ half-odd) (pos H) (lowest cs 0) (getD l 0 (pos 0)) 0)) (q .block))
+      ∙ chosen-is H x H-pos H-small eight b (e ∙ ap (λ l. wholeFirst (pos (whole-cost H x H-pos H-small eight)) (memberOf odd (pos 0) (highest cs 0) (getD l 0 (pos 0)) 0) (pos (half-cost H x H-pos H-small eight)) (memberOf (pos H -ℤ half-odd) (pos H) (lowest cs 0) (getD l 0 (pos 0)) 0)) (q .block))
 
 -- the facts at a place after `quantize`
 module _ (c : tie.After-quantize) where
@@ -196,6 +196,12 @@ module _ (c : tie.After-quantize) where
   low-rank : read (c .quantize .result .low) ≡ pos lo
   low-rank = low-read ∙ low-is (st .pre .0) (st .pre .1) long (c .quantize .ensures)
 
+  top-pos : read (c .quantize .result .top) ≡ pos (natAbs (read (c .quantize .result .top)))
+  top-pos = top-rank ∙ ap (λ (y : ℤ). pos (natAbs y)) (sym top-rank)
+
+  low-pos : read (c .quantize .result .low) ≡ pos (natAbs (read (c .quantize .result .low)))
+  low-pos = low-rank ∙ ap (λ (y : ℤ). pos (natAbs y)) (sym low-rank)
+
   head-size : natAbs (getD block 0 (pos 0)) ≤ 2 ^ 7
   head-size = within-at (2 ^ 7) block 0 within-here
 
@@ -223,7 +229,7 @@ module _ (c : tie.After-quantize) where
   half-is-here : pos 4 *ℤ pos M +ℤ cond (ltZ (pos 0) ho) (pos 2 *ℤ shrZ (c .quantize .result .low) 16) (pos 0) ≡ he
   half-is-here = half-is (st .pre .0) (st .pre .1) long (c .quantize .ensures)
 
-  least-is-here : (b : Bool) → b ≡ sooner we (memberOf o (pos 0) hi (getD block 0 (pos 0)) 0) he (memberOf ba (pos M) lo (getD block 0 (pos 0)) 0) → cond b (members o (pos 0) hi 0 block) (members ba (pos M) lo 0 block) ≡ leastBlock M (st .args .x)
+  least-is-here : (b : Bool) → b ≡ wholeFirst we (memberOf o (pos 0) hi (getD block 0 (pos 0)) 0) he (memberOf ba (pos M) lo (getD block 0 (pos 0)) 0) → cond b (members o (pos 0) hi 0 block) (members ba (pos M) lo 0 block) ≡ leastBlock M (st .args .x)
   least-is-here = least-is (st .pre .0) (st .pre .1) long (c .quantize .ensures)
 
 o-read : (c : tie.After-remainder) → read (c .remainder .result) ≡ o (c .before .before)
@@ -246,10 +252,10 @@ module _ (c : tie.After-remainder2) where
   back-size = subst (λ (y : ℤ). natAbs y ≤ 2 ^ 7) (sym back-read) (ba-size zz)
 
 whole-block : (c : tie.After-candidate) → c .candidate .result ≡ members (o (c .before .before .before .before .before .before .before .before)) (pos 0) (hi (c .before .before .before .before .before .before .before .before)) 0 (block (c .before .before .before .before .before .before .before .before))
-whole-block c = let z = c .before .before .before .before .before .before .before .before in c .candidate .ensures (hi z) (top-rank z) ∙ ap (λ (y : ℤ). members y (pos 0) (hi z) 0 (block z)) (o-read (c .before .before .before .before .before .before))
+whole-block c = let z = c .before .before .before .before .before .before .before .before in c .candidate .ensures ∙ (λ j. members (o-read (c .before .before .before .before .before .before) j) (pos 0) (natAbs (top-rank z j)) 0 (block z))
 
 half-block : (c : tie.After-candidate2) → c .candidate2 .result ≡ members (ba (c .before .before .before .before .before .before .before .before .before .before)) (pos (M (c .before .before .before .before .before .before .before .before .before .before))) (lo (c .before .before .before .before .before .before .before .before .before .before)) 0 (block (c .before .before .before .before .before .before .before .before .before .before))
-half-block c = let z = c .before .before .before .before .before .before .before .before .before .before in c .candidate2 .ensures (lo z) (low-rank z) ∙ ap₂ (λ (y w : ℤ). members y w (lo z) 0 (block z)) (back-read (c .before .before .before .before .before .before)) (height z)
+half-block c = let z = c .before .before .before .before .before .before .before .before .before .before in c .candidate2 .ensures ∙ (λ j. members (back-read (c .before .before .before .before .before .before) j) (height z j) (natAbs (low-rank z j)) 0 (block z))
 
 we-read : (c : tie.After-whole-cost) → read (c .whole-cost .result) ≡ we (c .before .before .before .before .before .before .before .before .before .before .before .before .before)
 we-read c =
@@ -263,19 +269,19 @@ he-read c =
     tz refl (record { sfits = c .half-cost .ok }) ∙ c .half-cost .ensures
     ∙ (λ j. pos 4 *ℤ height z j +ℤ cond (ltZ (pos 0) (ho-read (c .before .before .before .before .before .before .before .before .before .before .before) j)) (pos 2 *ℤ shrZ (low-read z j) 16) (pos 0)) ∙ half-is-here z
 
-whole-first : (c : tie.After-member) → read (c .member .result) ≡ memberOf (o (c .before .before .before .before .before .before .before .before .before .before .before .before .before .before .before .before .before)) (pos 0) (hi (c .before .before .before .before .before .before .before .before .before .before .before .before .before .before .before .before .before)) (getD (block (c .before .before .before .before .before .before .before .before .before .before .before .before .before .before .before .before .before)) 0 (pos 0)) 0
-whole-first c =
+whole-head : (c : tie.After-member) → read (c .member .result) ≡ memberOf (o (c .before .before .before .before .before .before .before .before .before .before .before .before .before .before .before .before .before)) (pos 0) (hi (c .before .before .before .before .before .before .before .before .before .before .before .before .before .before .before .before .before)) (getD (block (c .before .before .before .before .before .before .before .before .before .before .before .before .before .before .before .before .before)) 0 (pos 0)) 0
+whole-head c =
     let z = c .before .before .before .before .before .before .before .before .before .before .before .before .before .before .before .before .before in
-    tz refl (record { sfits = c .member .ok }) ∙ c .member .ensures (hi z) (top-rank z) ∙ (λ j. memberOf (o-read (c .before .before .before .before .before .before .before .before .before .before .before .before .before .before .before) j) (pos 0) (hi z) (head-read z j) 0)
+    tz refl (record { sfits = c .member .ok }) ∙ c .member .ensures ∙ (λ j. memberOf (o-read (c .before .before .before .before .before .before .before .before .before .before .before .before .before .before .before) j) (pos 0) (natAbs (top-rank z j)) (head-read z j) 0)
 
-half-first : (c : tie.After-member2) → read (c .member2 .result) ≡ memberOf (ba (c .before .before .before .before .before .before .before .before .before .before .before .before .before .before .before .before .before .before .before)) (pos (M (c .before .before .before .before .before .before .before .before .before .before .before .before .before .before .before .before .before .before .before))) (lo (c .before .before .before .before .before .before .before .before .before .before .before .before .before .before .before .before .before .before .before)) (getD (block (c .before .before .before .before .before .before .before .before .before .before .before .before .before .before .before .before .before .before .before)) 0 (pos 0)) 0
-half-first c =
+half-head : (c : tie.After-member2) → read (c .member2 .result) ≡ memberOf (ba (c .before .before .before .before .before .before .before .before .before .before .before .before .before .before .before .before .before .before .before)) (pos (M (c .before .before .before .before .before .before .before .before .before .before .before .before .before .before .before .before .before .before .before))) (lo (c .before .before .before .before .before .before .before .before .before .before .before .before .before .before .before .before .before .before .before)) (getD (block (c .before .before .before .before .before .before .before .before .before .before .before .before .before .before .before .before .before .before .before)) 0 (pos 0)) 0
+half-head c =
     let z = c .before .before .before .before .before .before .before .before .before .before .before .before .before .before .before .before .before .before .before in
-    tz refl (record { sfits = c .member2 .ok }) ∙ c .member2 .ensures (lo z) (low-rank z) ∙ (λ j. memberOf (back-read (c .before .before .before .before .before .before .before .before .before .before .before .before .before .before .before) j) (height z j) (lo z) (head-read z j) 0)
+    tz refl (record { sfits = c .member2 .ok }) ∙ c .member2 .ensures ∙ (λ j. memberOf (back-read (c .before .before .before .before .before .before .before .before .before .before .before .before .before .before .before) j) (height z j) (natAbs (low-rank z j)) (head-read z j) 0)
 
 -- the choice
-choice : (c : tie.After-first) → c .first .result ≡ sooner (we (c .before .before .before .before .before .before .before .before .before .before .before .before .before .before .before .before .before .before .before .before)) (memberOf (o (c .before .before .before .before .before .before .before .before .before .before .before .before .before .before .before .before .before .before .before .before)) (pos 0) (hi (c .before .before .before .before .before .before .before .before .before .before .before .before .before .before .before .before .before .before .before .before)) (getD (block (c .before .before .before .before .before .before .before .before .before .before .before .before .before .before .before .before .before .before .before .before)) 0 (pos 0)) 0) (he (c .before .before .before .before .before .before .before .before .before .before .before .before .before .before .before .before .before .before .before .before)) (memberOf (ba (c .before .before .before .before .before .before .before .before .before .before .before .before .before .before .before .before .before .before .before .before)) (pos (M (c .before .before .before .before .before .before .before .before .before .before .before .before .before .before .before .before .before .before .before .before))) (lo (c .before .before .before .before .before .before .before .before .before .before .before .before .before .before .before .before .before .before .before .before)) (getD (block (c .before .before .before .before .before .before .before .before .before .before .before .before .before .before .before .before .before .before .before .before)) 0 (pos 0)) 0)
-choice c = c .first .ensures ∙ (λ j. sooner (we-read (c .before .before .before .before .before .before .before) j) (whole-first (c .before .before .before) j) (he-read (c .before .before .before .before .before) j) (half-first (c .before) j))
+choice : (c : tie.After-whole-first) → c .whole-first .result ≡ wholeFirst (we (c .before .before .before .before .before .before .before .before .before .before .before .before .before .before .before .before .before .before .before .before)) (memberOf (o (c .before .before .before .before .before .before .before .before .before .before .before .before .before .before .before .before .before .before .before .before)) (pos 0) (hi (c .before .before .before .before .before .before .before .before .before .before .before .before .before .before .before .before .before .before .before .before)) (getD (block (c .before .before .before .before .before .before .before .before .before .before .before .before .before .before .before .before .before .before .before .before)) 0 (pos 0)) 0) (he (c .before .before .before .before .before .before .before .before .before .before .before .before .before .before .before .before .before .before .before .before)) (memberOf (ba (c .before .before .before .before .before .before .before .before .before .before .before .before .before .before .before .before .before .before .before .before)) (pos (M (c .before .before .before .before .before .before .before .before .before .before .before .before .before .before .before .before .before .before .before .before))) (lo (c .before .before .before .before .before .before .before .before .before .before .before .before .before .before .before .before .before .before .before .before)) (getD (block (c .before .before .before .before .before .before .before .before .before .before .before .before .before .before .before .before .before .before .before .before)) 0 (pos 0)) 0)
+choice c = c .whole-first .ensures ∙ (λ j. wholeFirst (we-read (c .before .before .before .before .before .before .before) j) (whole-head (c .before .before .before) j) (he-read (c .before .before .before .before .before) j) (half-head (c .before) j))
 
 power-requires : tie.Need-power-requires
 power-requires c κs = search needs
@@ -302,10 +308,10 @@ array-copy-out-c : tie.Need-array-copy-out-c
 array-copy-out-c c = search needs
 
 candidate-requires : tie.Need-candidate-requires
-candidate-requires c κs = let z = c .before .before .before .before .before .before .before in (subst (λ (y : ℤ). natAbs y ≤ 2 ^ 7) (sym (o-read (c .before .before .before .before .before))) (o-size z), omega arith, within-here z)
+candidate-requires c κs = let z = c .before .before .before .before .before .before .before in (subst (λ (y : ℤ). natAbs y ≤ 2 ^ 7) (sym (o-read (c .before .before .before .before .before))) (o-size z), omega arith, top-pos z, within-here z)
 
 candidate-requires-2 : tie.Need-candidate-requires-2
-candidate-requires-2 c κs = let z = c .before .before .before .before .before .before .before .before .before in (back-size (c .before .before .before .before .before), h-size z, within-here z)
+candidate-requires-2 c κs = let z = c .before .before .before .before .before .before .before .before .before in (back-size (c .before .before .before .before .before), h-size z, low-pos z, within-here z)
 
 whole-cost-requires : tie.Need-whole-cost-requires
 whole-cost-requires c κs =
@@ -318,13 +324,13 @@ half-cost-requires c κs = let z = c .before .before .before .before .before .be
 member-requires : tie.Need-member-requires
 member-requires c κs =
     let z = c .before .before .before .before .before .before .before .before .before .before .before .before .before .before .before .before in
-    (subst (λ (y : ℤ). natAbs y ≤ 2 ^ 7) (sym (o-read (c .before .before .before .before .before .before .before .before .before .before .before .before .before .before))) (o-size z), omega arith, plain-size (getD (block z) 0 (pos 0)) (2 ^ 7) (head-size z) (omega arith), omega arith)
+    (subst (λ (y : ℤ). natAbs y ≤ 2 ^ 7) (sym (o-read (c .before .before .before .before .before .before .before .before .before .before .before .before .before .before))) (o-size z), omega arith, top-pos z, plain-size (getD (block z) 0 (pos 0)) (2 ^ 7) (head-size z) (omega arith), omega arith)
 
 member-requires-2 : tie.Need-member-requires-2
-member-requires-2 c κs = let z = c .before .before .before .before .before .before .before .before .before .before .before .before .before .before .before .before .before .before in (back-size (c .before .before .before .before .before .before .before .before .before .before .before .before .before .before), h-size z, plain-size (getD (block z) 0 (pos 0)) (2 ^ 7) (head-size z) (omega arith), omega arith)
+member-requires-2 c κs = let z = c .before .before .before .before .before .before .before .before .before .before .before .before .before .before .before .before .before .before in (back-size (c .before .before .before .before .before .before .before .before .before .before .before .before .before .before), h-size z, low-pos z, plain-size (getD (block z) 0 (pos 0)) (2 ^ 7) (head-size z) (omega arith), omega arith)
 
-first-requires : tie.Need-first-requires
-first-requires c κs = search needs
+whole-first-requires : tie.Need-whole-first-requires
+whole-first-requires c κs = search needs
 
 chosen-requires : tie.Need-chosen-requires
 chosen-requires c κs = search needs
@@ -332,7 +338,7 @@ chosen-requires c κs = search needs
 returns : tie.Need-returns
 returns c =
     let z = c .before .before .before .before .before .before .before .before .before .before .before .before .before .before .before .before .before .before .before .before .before in
-    c .chosen .ensures ∙ ap₂ (cond (c .before .first .result)) (whole-block (c .before .before .before .before .before .before .before .before .before .before .before .before .before)) (half-block (c .before .before .before .before .before .before .before .before .before .before .before)) ∙ least-is-here z (c .before .first .result) (choice (c .before))
+    c .chosen .ensures ∙ ap₂ (cond (c .before .whole-first .result)) (whole-block (c .before .before .before .before .before .before .before .before .before .before .before .before .before)) (half-block (c .before .before .before .before .before .before .before .before .before .before .before)) ∙ least-is-here z (c .before .whole-first .result) (choice (c .before))
 
 pub least-spec : {M : Type 1} → statement M
 least-spec =
@@ -352,6 +358,6 @@ least-spec =
     half-cost-requires
     member-requires
     member-requires-2
-    first-requires
+    whole-first-requires
     chosen-requires
     returns)

@@ -15,9 +15,9 @@ use Rattle.integers.proofs.Zed.{tz, sfits-to}
 use Rattle.e8.specs.Energy.{Within}
 use Rattle.e8.specs.Least.{cent}
 use Rattle.e8.proofs.Within.{within-at, within-drop}
-use Rattle.shaping.proofs.Size.{fits, sum-abs}
-use Rattle.shaping.proofs.Rest.{double}
-use Rattle.shaping.proofs.Reading.{read, power-read, plain}
+use Rattle.coordinates.proofs.Size.{fits, sum-abs}
+use Rattle.coordinates.proofs.Rest.{double}
+use Rattle.coordinates.proofs.Reading.{read, power-read, plain}
 use Rattle.shaping.proofs.Figures.{rounded-turn, off-is, back, cent-low, off-one, floor-one, off-size, floors-size, sizes-low}
 use Rattle.shaping.specs.Rounded.{rankOf, sizes, Rounded}
 use Rattle.shaping.proofs.quantize.Statement.{statement}
@@ -141,12 +141,12 @@ module _ (c : tie.After-floor2 Inv-loop μ-loop) where
   halves-fits : SFits w32 (toZ w32 (l f .loop .halves) +ℤ low)
   halves-fits = fits (toZ w32 (l f .loop .halves) +ℤ low) (omega (arith, sum-abs (toZ w32 (l f .loop .halves)) low (2 ^ 28) (2 ^ 25) (halves-size (l f)) low-size))
 
-module _ (c : tie.After-absolute Inv-loop μ-loop) where
+module _ (c : tie.After-magnitude Inv-loop μ-loop) where
   abbrev g : tie.After-floor Inv-loop μ-loop
   g = c .before .before
 
-  sizes-is : toZ w32 (l g .loop .sizes) +ℤ read (c .absolute .result) ≡ toZ w32 (l g .loop .sizes) +ℤ pos (natAbs (value g))
-  sizes-is = ap (λ (z : ℤ). toZ w32 (l g .loop .sizes) +ℤ z) (tz (c .absolute .ensures) (fits (pos (natAbs (value g))) (omega (arith, value-low g))))
+  sizes-is : toZ w32 (l g .loop .sizes) +ℤ read (c .magnitude .result) ≡ toZ w32 (l g .loop .sizes) +ℤ pos (natAbs (value g))
+  sizes-is = ap (λ (z : ℤ). toZ w32 (l g .loop .sizes) +ℤ z) (tz (c .magnitude .ensures) (fits (pos (natAbs (value g))) (omega (arith, value-low g))))
 
   sizes-fits : SFits w32 (toZ w32 (l g .loop .sizes) +ℤ pos (natAbs (value g)))
   sizes-fits = fits (toZ w32 (l g .loop .sizes) +ℤ pos (natAbs (value g))) (omega (arith, sum-abs (toZ w32 (l g .loop .sizes)) (pos (natAbs (value g))) (2 ^ 9) (2 ^ 7) (sizes-size (l g)) (value-low g)))
@@ -204,8 +204,8 @@ floor-requires-2 c κs =
 add-halves : tie.Need-add-halves Inv-loop μ-loop
 add-halves c = sfits-to (halves-is c) (halves-fits c)
 
-absolute-requires : tie.Need-absolute-requires Inv-loop μ-loop
-absolute-requires c κs = value-low (c .before)
+magnitude-requires : tie.Need-magnitude-requires Inv-loop μ-loop
+magnitude-requires c κs = omega (arith, value-low (c .before))
 
 add-sizes : tie.Need-add-sizes Inv-loop μ-loop
 add-sizes c = sfits-to (sizes-is c) (sizes-fits c)
@@ -271,7 +271,7 @@ quantize-spec =
     add-floor-3
     floor-requires-2
     add-halves
-    absolute-requires
+    magnitude-requires
     add-sizes
     rank-requires
     larger-requires

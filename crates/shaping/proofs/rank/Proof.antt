@@ -12,8 +12,8 @@ use borrow.Author.Needs.{needs}
 use borrow.Author.Tests.{ltb-true}
 use Rattle.integers.proofs.Zed.{`_, #_, _⊕_, _⊖_, _⊗_, eq!, tz, sfits-to, abs-ud}
 use Rattle.shaping.specs.Rounded.{rankOf}
-use Rattle.shaping.proofs.Size.{fits, abs! }
-use Rattle.shaping.proofs.Reading.{read}
+use Rattle.coordinates.proofs.Size.{fits, abs! }
+use Rattle.coordinates.proofs.Reading.{read}
 use Rattle.shaping.proofs.rank.Statement.{statement}
 use Rattle.shaping.proofs.rank.Tie as tie
 

@@ -9,8 +9,8 @@ use mir.Syntax.{w32}
 use mir.Val.{SFits}
 use borrow.Author.Needs.{needs}
 use Rattle.integers.proofs.Zed.{tz, sfits-to}
-use Rattle.shaping.proofs.Size.{fits, sum-abs, less-abs, double-abs, where-abs, shr-abs}
-use Rattle.shaping.proofs.Reading.{read}
+use Rattle.coordinates.proofs.Size.{fits, sum-abs, less-abs, double-abs, where-abs, shr-abs}
+use Rattle.coordinates.proofs.Reading.{read}
 use Rattle.shaping.proofs.whole_cost.Statement.{statement}
 use Rattle.shaping.proofs.whole_cost.Tie as tie
 

@@ -9,7 +9,7 @@ use mir.Syntax.{w32}
 use mir.Val.{SFits}
 use borrow.Author.Needs.{needs}
 use Rattle.integers.proofs.Zed.{tz}
-use Rattle.shaping.proofs.Filled.{Filled, filled-none, filled-next, filled-all}
+use Rattle.coordinates.proofs.Filled.{Filled, filled-none, filled-next, filled-all}
 use Rattle.frames.specs.Reading.{quotients}
 use Rattle.frames.proofs.Frame.{quotient-at, quotients-length}
 use Rattle.reading.proofs.Halves.{fits-quotient}

@@ -1,0 +1,93 @@
+-- `block_energy` meets its contract: the sum so far and the energy of the coordinates left make the energy
+use mathlib.Core.Path.{_≡_, sym, _∙_, ap, subst}
+use Prim.Native.Nat.{ℕ, _+_, _*_, _-_, _^_, _≤_}
+use native.Mathlib.Omega.{arith}
+use lib.IntN.{ℤ, pos, natAbs}
+use lib.ListN.{length, getD, drop, drop-of-length-le}
+use borrow.Author.Needs.{needs}
+use Rattle.e8.specs.Energy.{sq, energy}
+use Rattle.e8.proofs.Within.{within-at}
+use Rattle.coordinates.proofs.Size.{sq-le, energy-drop}
+use Rattle.coordinates.proofs.Reading.{plain, plain-size}
+use Rattle.coordinates.proofs.block_energy.Statement.{statement}
+use Rattle.coordinates.proofs.block_energy.Tie as tie
+
+abbrev Inv-loop : tie.InvT-loop
+Inv-loop part sum₀ i₀ sum i = (i ≤ 8) × ((sum + energy (drop i part) ≡ energy part) × (sum ≤ 2 ^ 20 * i))
+
+abbrev μ-loop : tie.MeasureT-loop
+μ-loop part sum₀ i₀ sum i = 8 - i
+
+module _ (s : tie.Start Inv-loop μ-loop) where
+  eight : length (s .args .part .now) ≡ 8
+  eight = s .pre .0
+
+  small : (i : ℕ) → natAbs (getD (s .args .part .now) i (pos 0)) ≤ 2 ^ 10
+  small i = within-at (2 ^ 10) (s .args .part .now) i (s .pre .1)
+
+module _ (c : tie.After-square Inv-loop μ-loop) where
+  abbrev l : tie.At-loop Inv-loop μ-loop
+  l = c .before .before .before
+
+  abbrev z : ℤ
+  z = getD (l .before .args .part .now) (l .loop .i) (pos 0)
+
+  square-is : c .square .result ≡ sq z
+  square-is = c .square .ensures ∙ ap sq (plain z (omega (arith, small (l .before) (l .loop .i))))
+
+  square-low : c .square .result ≤ 2 ^ 20
+  unfolding sq
+  square-low = subst (λ (n : ℕ). n ≤ 2 ^ 20) (sym square-is) (sq-le (natAbs z) (2 ^ 10) (small (l .before) (l .loop .i)))
+
+loop-holds : tie.Need-loop-holds Inv-loop μ-loop
+loop-holds c = (omega arith, (omega arith, omega arith))
+
+mul-z : tie.Need-mul-z Inv-loop μ-loop
+mul-z c = search needs
+
+shared-slice-copy-out-z : tie.Need-shared-slice-copy-out-z Inv-loop μ-loop
+shared-slice-copy-out-z c = search needs
+
+square-requires : tie.Need-square-requires Inv-loop μ-loop
+square-requires c κs = let l = c .before .before in plain-size (getD (l .before .args .part .now) (l .loop .i) (pos 0)) (2 ^ 10) (small (l .before) (l .loop .i)) (omega arith)
+
+add-sum : tie.Need-add-sum Inv-loop μ-loop
+add-sum c = record { fits = omega (arith, square-low c, l c .loop .inv .1 .1, c .before .before .loop-test .taken) }
+
+add-i : tie.Need-add-i Inv-loop μ-loop
+add-i c = search needs
+
+loop-less : tie.Need-loop-less Inv-loop μ-loop
+loop-less c = search needs
+
+loop-again : tie.Need-loop-again Inv-loop μ-loop
+loop-again c =
+    let p = l c in
+    (omega (arith, c .before .before .loop-test .taken), (omega (arith, energy-drop (p .before .args .part .now) (p .loop .i) (omega (arith, eight (p .before), c .before .before .loop-test .taken)), square-is c, p .loop .inv .1 .0), omega (arith, square-low c, p .loop .inv .1 .1)))
+
+cast-result : tie.Need-cast-result Inv-loop μ-loop
+cast-result c = search needs
+
+returns : tie.Need-returns Inv-loop μ-loop
+unfolding energy
+returns c =
+    let x = c .before .before .args .part .now in
+    let e : energy (drop (c .before .loop .i) x) ≡ 0 = ap energy (drop-of-length-le x {i = c .before .loop .i} (omega (arith, eight (c .before .before), c .loop-test .left))) in
+    omega (arith, e, c .before .loop .inv .1 .0)
+
+pub block-energy-spec : {M : Type 1} → statement M
+block-energy-spec =
+    tie.close
+    (tie.spec
+    Inv-loop
+    μ-loop
+    loop-holds
+    mul-z
+    shared-slice-copy-out-z
+    square-requires
+    add-sum
+    add-i
+    loop-less
+    loop-again
+    cast-result
+    returns)

@@ -1,0 +1,39 @@
+-- `magnitude` meets its contract
+use mathlib.Core.Path.{_≡_, refl, sym, _∙_, ap}
+use mathlib.Core.Bool.{true, false, true≢false}
+use native.Mathlib.Omega.{arith}
+use borrow.Author.Tests.{ltb-true}
+use lib.IntN.{ℤ, pos, negsuc, _-ℤ_, natAbs}
+use lib.Signed.{ltZ}
+use Rattle.integers.proofs.Zed.{`_, #_, _⊖_, eq!, tz, sfits-to}
+use Rattle.coordinates.proofs.Size.{fits}
+use Rattle.coordinates.proofs.Reading.{read}
+use Rattle.coordinates.proofs.magnitude.Statement.{statement}
+use Rattle.coordinates.proofs.magnitude.Tie as tie
+
+below : (z : ℤ) → ltZ z (pos 0) ≡ true → pos 0 -ℤ z ≡ pos (natAbs z)
+below (pos n) l = absurd (omega (arith, ltb-true n 0 l))
+below (negsuc n) l = eq! (# 0 ⊖ ` (negsuc n)) (# (natAbs (negsuc n))) (omega arith)
+
+above : (z : ℤ) → ltZ z (pos 0) ≡ false → z ≡ pos (natAbs z)
+above (pos n) l = refl
+above (negsuc n) l = absurd (true≢false l)
+
+module _ (s : tie.Start) where
+  number : read (s .args .z) ≡ s .args .z
+  number = tz refl (s .fits .z)
+
+  turned : ltZ (read (s .args .z)) (pos 0) ≡ true → pos 0 -ℤ read (s .args .z) ≡ pos (natAbs (s .args .z))
+  turned l = ap (λ (z : ℤ). pos 0 -ℤ z) number ∙ below (s .args .z) (rw number at l)
+
+sub-result : tie.Need-sub-result
+sub-result c = sfits-to (turned (c .before) (c .if1 .taken)) (fits (pos (natAbs (c .before .args .z))) (omega (arith, c .before .pre)))
+
+returns : tie.Need-returns
+returns c = tz (turned (c .before) (c .if1 .taken)) (fits (pos (natAbs (c .before .args .z))) (omega (arith, c .before .pre)))
+
+returns-2 : tie.Need-returns-2
+returns-2 c = number (c .before) ∙ above (c .before .args .z) (sym (ap (λ (z : ℤ). ltZ z (pos 0)) (number (c .before))) ∙ c .if1 .left)
+
+pub magnitude-spec : {M : Type 1} → statement M
+magnitude-spec = tie.close (tie.spec sub-result returns returns-2)
