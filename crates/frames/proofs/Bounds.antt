@@ -1,4 +1,4 @@
--- Sizes that the table of kinds bounds: at most two levels, 32 coordinates and a scale of 64, and so the energy of a sent frame. Assumes nothing.
+-- The energy of a sent frame is bounded, since its length and its scale are. Assumes nothing.
 use Prim.Native.Nat.{ℕ, _*_, _^_, _≤_}
 use mathlib.Core.Path.{_≡_}
 use mathlib.Core.Bool.{true}
@@ -6,25 +6,14 @@ use mathlib.Core.List.{List}
 use native.Mathlib.Nat.{mul-le-mul-right}
 use native.Mathlib.Omega.{arith}
 use lib.ListN.{length}
-use lib.Pow.{pow-mono}
 use lib.IntN.{ℤ}
 use Rattle.e8.specs.Energy.{energy, Within}
 use Rattle.e8.proofs.Within.{within-to, energy-within}
-use Rattle.frames.specs.Kind.{kinds, isKind, isGrade, degrees, levels, scale}
+use Rattle.frames.specs.Kind.{isKind, isGrade, scale}
 use Rattle.frames.specs.Frame.{sentFrame}
-use Rattle.frames.proofs.Rows.{each-kind, grade-low, grade-high}
+use Rattle.frames.proofs.Rows.{grade-low}
+use Rattle.frames.proofs.Limits.{few-positions, scale-64}
 use Rattle.frames.proofs.Demands.{sent-length, sent-within}
-
-pub few-levels : (k : ℕ) → isKind k ≡ true → levels k ≤ 2
-unfolding levels degrees kinds
-few-levels = each-kind (λ k. levels k ≤ 2) (omega arith) (omega arith) (omega arith)
-
-pub few-positions : (k : ℕ) → isKind k ≡ true → 2 ^ k ≤ 32
-few-positions = each-kind (λ k. 2 ^ k ≤ 32) (omega arith) (omega arith) (omega arith)
-
-pub scale-64 : (k b : ℕ) → isKind k ≡ true → isGrade b ≡ true → scale k b ≤ 64
-unfolding scale
-scale-64 k b kind grade = pow-mono {j = 6} (omega (arith, few-levels k kind, grade-high b grade))
 
 -- a frame of at most 32 coordinates, each at most B in size
 pub short-energy : (B : ℕ) (f : List ℤ) → length f ≤ 32 → Within B f → energy f ≤ 32 * (B * B)

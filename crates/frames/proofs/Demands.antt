@@ -22,7 +22,8 @@ use Rattle.frames.proofs.Stacked.{stacked-codes, codes-plus}
 use Rattle.frames.proofs.Frame.{at, codes-of, of-codes}
 use Rattle.frames.proofs.Class.{Shape, scale-is, class-codes}
 use Rattle.frames.proofs.One.{leader-length, leader-at, open-message, open-class, one-message}
-use Rattle.frames.proofs.Rows.{shape, distances, grade-low}
+use Rattle.frames.proofs.Rows.{grade-low}
+use Rattle.frames.proofs.Limits.{shape, distances}
 use Rattle.frames.proofs.Distance.{distance-sum, Apart, somewhere}
 use Rattle.frames.proofs.Reached.{Reached, reached}
 

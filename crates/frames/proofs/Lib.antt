@@ -6,6 +6,7 @@ pub mod Lengths
 pub mod Class
 pub mod One
 pub mod Rows
+pub mod Limits
 pub mod Distance
 pub mod Reached
 pub mod Demands

@@ -31,7 +31,7 @@ use Rattle.frames.proofs.Numbers.{total, Fits, numbers-fit, fits-length
 use Rattle.frames.proofs.Frame.{at, codes-of, messages-of, quotient-at, quotients-length, ints-at, part-length, part-at, moved-at, is-moved}
 use Rattle.frames.proofs.Lengths.{levels-length, blocks-length, read-length}
 use Rattle.frames.proofs.Class.{Shape, half-is, point, point-at, point-long, minus-at}
-use Rattle.frames.proofs.Rows.{bytes-hold}
+use Rattle.frames.proofs.Limits.{bytes-hold}
 
 -- ---- lists of bits
 

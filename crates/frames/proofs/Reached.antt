@@ -7,7 +7,9 @@ use mathlib.Core.List.{List, _∷_}
 use native.Mathlib.Nat.{zero-div}
 use native.Mathlib.Omega.{arith}
 use lib.Count.{ones}
+use lib.Dec.{eqb}
 use lib.ListN.{getD, replicate, length-replicate}
+use borrow.Author.Tests.{eqb-true}
 use Rattle.bits.specs.Number.{sumTo, table}
 use Rattle.reed_muller.specs.Level.{ofWeight, masks, order, dimension, codeword}
 use Rattle.bits.specs.Message.{messageBit}
@@ -17,7 +19,8 @@ use Rattle.e8.specs.Least.{cent, better, best, leastBlock, leastFrame}
 use Rattle.frames.specs.Kind.{kinds, isKind, isGrade, degrees, levels, levelBits, messageBits, messageBytes}
 use Rattle.frames.specs.Message.{Message, numbers, blockNumbers, stacked, coordinate, leader}
 use Rattle.frames.specs.Frame.{half, sentFrame, leastDistance}
-use Rattle.frames.proofs.Rows.{bits-3, bits-4, bits-5, each-kind, each-grade, grade-low}
+use Rattle.frames.proofs.Rows.{each-row-and-grade}
+use Rattle.frames.proofs.Limits.{some-bits}
 
 -- the message whose first byte is x and whose other bytes are 0
 abbrev pub first : ℕ → ℕ → ℕ → List ℕ
@@ -65,20 +68,18 @@ Exactly k b = distance (sentFrame k b (first 0 k b)) (sentFrame k b (first 2 k b
 -- the twelve pairs, computed
 exactly-at : (k : ℕ) → isKind k ≡ true → (b : ℕ) → isGrade b ≡ true → Exactly k b
 unfolding sentFrame half leastFrame leastBlock best better cent before energy sq distance leader coordinate stacked blockNumbers numbers messageBytes messageBits degrees kinds levels levelBits sumTo codeword order dimension masks ofWeight table messageBit ones
-exactly-at = each-kind (λ k. (b : ℕ) → isGrade b ≡ true → Exactly k b)
-    (each-grade (Exactly 3) refl refl refl refl) (each-grade (Exactly 4) refl refl refl refl) (each-grade (Exactly 5) refl refl refl refl)
-
-enough : (k : ℕ) → isKind k ≡ true → (b : ℕ) → isGrade b ≡ true → 8 ≤ messageBits k b
-enough = each-kind (λ k. (b : ℕ) → isGrade b ≡ true → 8 ≤ messageBits k b)
-    (λ b g. omega (arith, bits-3 b, grade-low b g)) (λ b g. omega (arith, bits-4 b)) (λ b g. omega (arith, bits-5 b))
+exactly-at k kind b grade = eqb-true (apartAt k b) (leastDistance k) (each-row-and-grade (λ k b. eqb (apartAt k b) (leastDistance k)) refl k b kind grade)
+  where
+    apartAt : ℕ → ℕ → ℕ
+    apartAt k b = distance (sentFrame k b (first 0 k b)) (sentFrame k b (first 2 k b))
 
 -- "at each grade two messages are sent at exactly that"
 pub reached : (k b : ℕ) → isKind k ≡ true → isGrade b ≡ true → Reached k b
 reached k b kind grade = record {
   x = first 0 k b;
   y = first 2 k b;
-  message-x = first-message 0 k b (omega arith) (enough k kind b grade);
-  message-y = first-message 2 k b (omega arith) (enough k kind b grade);
+  message-x = first-message 0 k b (omega arith) (some-bits k b kind grade);
+  message-y = first-message 2 k b (omega arith) (some-bits k b kind grade);
   different = λ e. omega (arith, ap (λ (l : List ℕ). getD l 0 0) e);
   exactly = exactly-at k kind b grade;
 }

@@ -20,9 +20,9 @@ use Rattle.frames.specs.Message.{Message, leader}
 use Rattle.frames.specs.Frame.{InCodingSet, half, SameClass, sentFrame}
 use Rattle.frames.specs.Sending.{unless}
 use Rattle.frames.specs.Reading.{openMessage, sameFrame, inRange, broken, openRefusal, isSent, strictRefusal, messageAfter, energyRead}
-use Rattle.frames.proofs.Rows.{shape, grade-low}
+use Rattle.frames.proofs.Rows.{grade-low}
+use Rattle.frames.proofs.Limits.{shape, few-levels, scale-64}
 use Rattle.frames.proofs.Demands.{OneMessage, half-pos, sent-only, sent-within, sent-in-set, read-message, leader-class, read-class, exactly-one}
-use Rattle.frames.proofs.Bounds.{few-levels, scale-64}
 use Rattle.frames.proofs.Refusals.{passed, same-frame, frame-same, within-range, levels-answer, set-passes, Accepted, accepted, levels-decide}
 
 module _ (k b : ℕ) (kind : isKind k ≡ true) (grade : isGrade b ≡ true) where
