@@ -1,15 +1,14 @@
 -- The answer of sending by the tests that were passed, and what an answer of 0 says. Assumes nothing.
 use Prim.Native.Nat.{ℕ, suc, _+_, _*_, _^_, _≤_}
-use mathlib.Core.Path.{_≡_, refl}
-use mathlib.Core.Bool.{Bool, true, false, cond}
+use mathlib.Core.Path.{_≡_, refl, _∙_}
+use mathlib.Core.Bool.{Bool, true, false}
 use mathlib.Core.List.{List}
 use native.Mathlib.Omega.{arith}
 use lib.Dec.{eqb}
 use lib.ListN.{length}
 use borrow.Author.Tests.{eq-eqb, ne-eqb, eqb-true}
-use Rattle.frames.specs.Kind.{isKind, messageBits, messageBytes}
-use Rattle.frames.specs.Sending.{isGrade, spareSet, sendRefusal}
-use Rattle.frames.proofs.Refusals.{passed}
+use Rattle.frames.specs.Kind.{isKind, isGrade, messageBits, messageBytes}
+use Rattle.frames.specs.Sending.{spareSet, unless, sendRefusal}
 
 module _ (k b : ℕ) (bytes : List ℕ) (n : ℕ) (good : (isKind k ≡ true) × (isGrade b ≡ true)) where
   pub other-bytes : (length bytes ≡ messageBytes k b → ⊥) → 3 ≡ sendRefusal k b bytes n
@@ -30,27 +29,28 @@ module _ (k b : ℕ) (bytes : List ℕ) (n : ℕ) (good : (isKind k ≡ true) ×
       unfolding sendRefusal
       accepts e = simp (good .0, good .1, eq-eqb _ _ long, eq-eqb _ _ positions, e)
 
--- ---- back: each test was passed
+-- ---- back: what is known where none of the first four tests refuses
 
-clear : (t : Bool) (a : ℕ) → cond t (suc a) 0 ≡ 0 → t ≡ false
-clear true a e = let z : ⊥ = omega arith in absurd z
-clear false a e = refl
-
-pub record Accepted (k b : ℕ) (bytes : List ℕ) (n : ℕ) : Type 0 where
+pub record Fits (k b : ℕ) (bytes : List ℕ) (n : ℕ) : Type 0 where
   pub kind : isKind k ≡ true
   pub grade : isGrade b ≡ true
   pub long : length bytes ≡ messageBytes k b
   pub positions : n ≡ 2 ^ k
-  pub spare : spareSet k b bytes ≡ false
 
-pub accepted : (k b : ℕ) (bytes : List ℕ) (n : ℕ) → sendRefusal k b bytes n ≡ 0 → Accepted k b bytes n
+-- a test that does not refuse is passed, and the next one answers
+past : (t : Bool) (number next : ℕ) → (unless t number next ≡ number → ⊥) → (t ≡ true) × (unless t number next ≡ next)
+past true number next h = (refl, refl)
+past false number next h = absurd (h refl)
+
+pub fits : (k b : ℕ) (bytes : List ℕ) (n : ℕ) → (sendRefusal k b bytes n ≡ 1 → ⊥) → (sendRefusal k b bytes n ≡ 2 → ⊥)
+    → (sendRefusal k b bytes n ≡ 3 → ⊥) → (sendRefusal k b bytes n ≡ 4 → ⊥) → Fits k b bytes n
 unfolding sendRefusal
-accepted k b bytes n e =
-    let e₁ = passed (isKind k) 0 _ e in
-    let e₂ = passed (isGrade b) 1 _ (e₁ .1) in
-    let e₃ = passed (eqb (length bytes) (messageBytes k b)) 2 _ (e₂ .1) in
-    let e₄ = passed (eqb n (2 ^ k)) 3 _ (e₃ .1) in
-    record { kind = e₁ .0; grade = e₂ .0; long = eqb-true _ _ (e₃ .0); positions = eqb-true _ _ (e₄ .0); spare = clear (spareSet k b bytes) 4 (e₄ .1) }
+fits k b bytes n h₁ h₂ h₃ h₄ =
+    let p₁ = past (isKind k) 1 _ h₁ in
+    let p₂ = past (isGrade b) 2 _ (λ e. h₂ (p₁ .1 ∙ e)) in
+    let p₃ = past (eqb (length bytes) (messageBytes k b)) 3 _ (λ e. h₃ (p₁ .1 ∙ p₂ .1 ∙ e)) in
+    let p₄ = past (eqb n (2 ^ k)) 4 _ (λ e. h₄ (p₁ .1 ∙ p₂ .1 ∙ p₃ .1 ∙ e)) in
+    record { kind = p₁ .0; grade = p₂ .0; long = eqb-true _ _ (p₃ .0); positions = eqb-true _ _ (p₄ .0) }
 
 -- ---- sizes of an accepted message
 

@@ -1,22 +1,21 @@
--- Laws of a number in a row of bits: how large it is, and how it is taken from bits that are held in a number. Assumes nothing.
+-- Laws of a number in a row of bits: how large it is, and how it is taken from the number that holds the row. Assumes nothing.
 use Prim.Native.Nat.{ℕ, _+_, _*_, _/_, _%_, _^_, _≤_, _<_}
-use mathlib.Core.Path.{_≡_, sym, ap, _∙_}
+use mathlib.Core.Path.{_≡_, ap, _∙_}
 use native.Mathlib.Omega.{arith}
 use lib.Pow.{pow-mono}
-use Rattle.bits.proofs.Sum.{sum-ext}
-use Rattle.bits.proofs.Message.{number-lt, number-digits}
+use Rattle.bits.specs.Number.{number}
+use Rattle.bits.proofs.Message.{number-lt, number-bit, number-mod}
 use Rattle.bits.proofs.Digits.{digit-from}
-use Rattle.frames.specs.Message.{number}
 
-module _ (bit : ℕ → ℕ) (from : ℕ) (small : (i : ℕ) → bit i < 2) (i : ℕ) where
-  pub number-small : i ≤ 5 → number bit from i < 32
-  unfolding number
-  number-small h = omega (arith, number-lt (λ t. bit (from + t)) i (λ t l. small (from + t)), pow-mono {j = 5} h)
+module _ (bit : ℕ → ℕ) (small : (i : ℕ) → bit i < 2) (from : ℕ) where
+  pub number-small : (w : ℕ) → w ≤ 5 → number w (λ i. bit (from + i)) < 32
+  number-small w h = omega (arith, number-lt (λ i. bit (from + i)) w (λ i l. small (from + i)), pow-mono {j = 5} h)
 
--- n bits are held; those of a number among them, shifted and cut
-module _ (bit : ℕ → ℕ) (from n bits : ℕ) (held : (t : ℕ) → t < n → bits / 2 ^ t % 2 ≡ bit (from + t)) where
-  pub number-held : (at w : ℕ) → at + w ≤ n → bits / 2 ^ at % 2 ^ w ≡ number bit (from + at) w
-  unfolding number
-  number-held at w h =
-      sym (number-digits (bits / 2 ^ at) w)
-      ∙ sum-ext w (λ i l. ap (λ (b : ℕ). b * 2 ^ i) (digit-from bits at i ∙ held (at + i) (omega arith) ∙ ap bit (omega arith)))
+  -- w bits of a row of n, shifted and cut
+  pub number-part : (n at w : ℕ) → at + w ≤ n → number n (λ t. bit (from + t)) / 2 ^ at % 2 ^ w ≡ number w (λ i. bit (from + at + i))
+  number-part n at w h = number-mod (number n (λ t. bit (from + t)) / 2 ^ at) w each
+    where
+      each : (i : ℕ) → i < w → number n (λ t. bit (from + t)) / 2 ^ at / 2 ^ i % 2 ≡ bit (from + at + i)
+      each i l =
+          let e : from + (at + i) ≡ from + at + i = omega arith in
+          digit-from (number n (λ t. bit (from + t))) at i ∙ number-bit (λ t. bit (from + t)) n (λ t u. small (from + t)) (at + i) (omega arith) ∙ ap bit e

@@ -9,19 +9,20 @@ use lib.ListN.{length, getD, take, set}
 use lib.Seq.{take-suc-set}
 use lib.Pow.{pow-mono}
 use lib.IntN.{ℤ, pos}
-use Rattle.bits.specs.Number.{table}
+use Rattle.bits.specs.Number.{table, number}
 use Rattle.e8.specs.Rows.{ints}
-use Rattle.frames.specs.Message.{widths, number, numbers}
+use Rattle.frames.specs.Message.{widths, numbers}
 use Rattle.frames.proofs.Numbers.{total}
 
 -- number c of the numbers begins where those before it end
-pub numbers-at : (bit : ℕ → ℕ) (from : ℕ) (ws : List ℕ) (c : ℕ) → c < length ws → getD (numbers bit from ws) c 0 ≡ number bit (from + total (take c ws)) (getD ws c 0)
+pub numbers-at : (bit : ℕ → ℕ) (from : ℕ) (ws : List ℕ) (c : ℕ) → c < length ws
+    → getD (numbers bit from ws) c 0 ≡ number (getD ws c 0) (λ i. bit (from + total (take c ws) + i))
 unfolding numbers
 numbers-at bit from [] c h = absurd (omega arith)
-numbers-at bit from (w ∷ ws) zero h = let e : from ≡ from + 0 = omega arith in ap (λ (n : ℕ). number bit n w) e
+numbers-at bit from (w ∷ ws) zero h = let e : from ≡ from + 0 = omega arith in ap (λ (n : ℕ). number w (λ i. bit (n + i))) e
 numbers-at bit from (w ∷ ws) (suc c) h =
     let e : from + w + total (take c ws) ≡ from + (w + total (take c ws)) = omega arith in
-    numbers-at bit (from + w) ws c (omega arith) ∙ ap (λ (n : ℕ). number bit n (getD ws c 0)) e
+    numbers-at bit (from + w) ws c (omega arith) ∙ ap (λ (n : ℕ). number (getD ws c 0) (λ i. bit (n + i))) e
 
 pub total-suc : (ws : List ℕ) (c : ℕ) → c < length ws → total (take (suc c) ws) ≡ total (take c ws) + getD ws c 0
 total-suc [] c h = absurd (omega arith)

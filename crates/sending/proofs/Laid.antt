@@ -13,7 +13,7 @@ use Rattle.bits.specs.Number.{table}
 use Rattle.bits.specs.Message.{messageBit}
 use Rattle.bits.proofs.Message.{message-small}
 use Rattle.bits.proofs.Table.{length-table, table-at}
-use Rattle.bits.proofs.Digits.{digit-from}
+use Rattle.bits.proofs.Digits.{digit, digit-from}
 use Rattle.e8.specs.Energy.{Within}
 use Rattle.e8.proofs.Within.{within-all}
 use Rattle.e8.specs.Lattice.{part}
@@ -23,46 +23,53 @@ use Rattle.frames.specs.Kind.{isKind, degrees, levels, blocks, levelBits}
 use Rattle.frames.specs.Message.{widths, numbers, blockNumbers, stacked, coordinate, leader}
 use Rattle.frames.proofs.Frame.{at, ints-at, part-length, part-at}
 use Rattle.frames.proofs.One.{leader-length, leader-at}
-use Rattle.frames.proofs.Rows.{shape}
 use Rattle.frames.proofs.Numbers.{total}
-use Rattle.frames.proofs.Bounds.{few-levels}
+use Rattle.frames.proofs.Limits.{few-levels, whole-blocks}
 use Rattle.sending.proofs.Bits.{number-small}
 use Rattle.sending.proofs.Block.{numbers-at, width-small}
-use Rattle.sending.proofs.Stack.{stacked-below}
+use Rattle.sending.specs.Words.{codewordsOf}
+use Rattle.sending.proofs.Stack.{stacked-below, stacked-words}
 
--- `low` and `high` hold the codewords of the levels
-abbrev Stacks : ℕ → List ℕ → ℕ → ℕ → Type 0
-Stacks k bytes low high = (p s : ℕ) → p < 2 ^ k → stacked k (degrees k) (messageBit bytes) 0 s p ≡ low / 2 ^ p % 2 + 2 * (high / 2 ^ p % 2) + 2 ^ levels k * s
+-- coordinate o of the block at position q, from the numbers ws that hold the codewords of the levels and the block's numbers ns
+abbrev pub laid : ℕ → List ℕ → ℕ → List ℕ → ℕ → ℕ
+laid a ws q ns o =
+    getD ws 0 0 / 2 ^ q / 2 ^ o % 2 + 2 * (getD ws 1 0 / 2 ^ q / 2 ^ o % 2) + 4 * (getD ws 2 0 / 2 ^ q / 2 ^ o % 2) + 2 ^ a * getD ns o 0
 
 module _ (k b : ℕ) (kind : isKind k ≡ true) (bytes : List ℕ) where
   pub long : length (leader k b bytes) ≡ 8 * blocks k
-  long = leader-length k b bytes ∙ sym (shape k kind .whole)
+  long = leader-length k b bytes ∙ sym (whole-blocks k kind)
 
   -- the code's block of the leader
-  pub block-is : (low high : ℕ) → Stacks k bytes low high → (j : ℕ) → j < blocks k
-      → ints (table 8 (λ o. low / 2 ^ (8 * j) / 2 ^ o % 2 + 2 * (high / 2 ^ (8 * j) / 2 ^ o % 2) + 2 ^ levels k * getD (numbers (messageBit bytes) (levelBits k + 8 * b * j) (widths b)) o 0)) ≡ part j (leader k b bytes)
-  unfolding coordinate blockNumbers
-  block-is low high stacks j h =
-      ext-getD (pos 0) _ (part j L) (ints-length (table 8 F) ∙ length-table F 8 ∙ sym (part-length L (blocks k) j long h)) (λ o l. at-o o (omega (arith, l, ints-length (table 8 F), length-table F 8)))
+  pub block-is : (j : ℕ) → j < blocks k
+      → ints (table 8 (laid (levels k) (codewordsOf k (messageBit bytes)) (8 * j) (blockNumbers k b bytes j))) ≡ part j (leader k b bytes)
+  unfolding coordinate
+  block-is j h =
+      ext-getD (pos 0) _ (part j L) (ints-length (table 8 F) ∙ length-table F 8 ∙ sym (part-length L (blocks k) j long h))
+      (λ o l. at-o o (omega (arith, l, ints-length (table 8 F), length-table F 8)))
     where
       L : List ℤ
       L = leader k b bytes
 
+      W : List ℕ
+      W = codewordsOf k (messageBit bytes)
+
       N : ℕ → ℕ
-      N o = getD (numbers (messageBit bytes) (levelBits k + 8 * b * j) (widths b)) o 0
+      N o = getD (blockNumbers k b bytes j) o 0
 
       F : ℕ → ℕ
-      F o = low / 2 ^ (8 * j) / 2 ^ o % 2 + 2 * (high / 2 ^ (8 * j) / 2 ^ o % 2) + 2 ^ levels k * N o
+      F = laid (levels k) W (8 * j) (blockNumbers k b bytes j)
+
+      -- a digit of the shifted word is one of the word
+      digits : (o : ℕ) → F o ≡ digit (getD W 0 0) (8 * j + o) + 2 * digit (getD W 1 0) (8 * j + o) + 4 * digit (getD W 2 0) (8 * j + o) + 2 ^ levels k * N o
+      digits o = omega (arith, digit-from (getD W 0 0) (8 * j) o, digit-from (getD W 1 0) (8 * j) o, digit-from (getD W 2 0) (8 * j) o)
 
       at-o : (o : ℕ) → o < 8 → at (ints (table 8 F)) o ≡ at (part j L) o
       at-o o ho =
-          let w : 8 * blocks k ≡ 2 ^ k = shape k kind .whole in
-          let p : 8 * j + o < 2 ^ k = omega arith in
+          let p : 8 * j + o < 2 ^ k = omega (arith, whole-blocks k kind) in
           let ej : (8 * j + o) / 8 ≡ j = omega arith in
           let eo : (8 * j + o) % 8 ≡ o = omega arith in
-          ints-at (table 8 F) o ∙ ap pos (table-at F 8 o ho
-          ∙ ap₂ (λ (x y : ℕ). x + 2 * y + 2 ^ levels k * N o) (digit-from low (8 * j) o) (digit-from high (8 * j) o)
-          ∙ sym (stacks (8 * j + o) (N o) p)
+          ints-at (table 8 F) o
+          ∙ ap pos (table-at F 8 o ho ∙ digits o ∙ sym (stacked-words k (messageBit bytes) (8 * j + o) p (omega (arith, few-levels k kind)) (N o))
           ∙ ap₂ (λ (i r : ℕ). stacked k (degrees k) (messageBit bytes) 0 (getD (blockNumbers k b bytes i) r 0) (8 * j + o)) (sym ej) (sym eo))
           ∙ sym (leader-at k b bytes (8 * j + o) p) ∙ sym (part-at L (blocks k) j long h o ho)
 
@@ -71,21 +78,19 @@ module _ (k b : ℕ) (kind : isKind k ≡ true) (bytes : List ℕ) where
   module _ (high : b ≤ 4) where
     number-below : (j r : ℕ) → r < 8 → getD (blockNumbers k b bytes j) r 0 < 32
     unfolding blockNumbers
-    number-below j r h = rw (numbers-at (messageBit bytes) (levelBits k + 8 * b * j) (widths b) r h)
-        (number-small (messageBit bytes) (levelBits k + 8 * b * j + total (take r (widths b))) (message-small bytes) (getD (widths b) r 0) (width-small b r high h))
+    number-below j r h =
+        rw (numbers-at (messageBit bytes) (levelBits k + 8 * b * j) (widths b) r h)
+        (number-small (messageBit bytes) (message-small bytes) (levelBits k + 8 * b * j + total (take r (widths b))) (getD (widths b) r 0) (width-small b r high h))
 
     coordinate-below : (p : ℕ) → coordinate k b bytes p ≤ 127
     unfolding coordinate levels
     coordinate-below p =
-        let r : p % 8 < 8 = omega arith in
-        let s : getD (blockNumbers k b bytes (p / 8)) (p % 8) 0 < 32 = number-below (p / 8) (p % 8) r in
-        let f : 2 ^ length (degrees k) * (getD (blockNumbers k b bytes (p / 8)) (p % 8) 0 + 1) ≤ 4 * 32 = mul-le-mul {n₁ = 2 ^ length (degrees k)} {m₁ = getD (blockNumbers k b bytes (p / 8)) (p % 8) 0 + 1} {n₂ = 4} {m₂ = 32} (pow-mono {j = 2} (few-levels k kind)) (omega arith) in
-        omega (arith, stacked-below k (degrees k) (messageBit bytes) 0 (getD (blockNumbers k b bytes (p / 8)) (p % 8) 0) p)
+        let s : ℕ = getD (blockNumbers k b bytes (p / 8)) (p % 8) 0 in
+        let l : s < 32 = number-below (p / 8) (p % 8) (omega arith) in
+        let f : 2 ^ length (degrees k) * (s + 1) ≤ 4 * 32 = mul-le-mul {n₁ = 2 ^ length (degrees k)} {m₁ = s + 1} {n₂ = 4} {m₂ = 32} (pow-mono {j = 2} (few-levels k kind)) (omega arith) in
+        omega (arith, stacked-below k (degrees k) (messageBit bytes) 0 s p)
 
     pub leader-within : Within (2 ^ 24) (leader k b bytes)
     leader-within =
-        within-all (2 ^ 24) (leader k b bytes) (λ p l. rw (leader-at k b bytes p (omega (arith, leader-length k b bytes))) (omega (arith, coordinate-below p)))
-
--- the offset of a block's bits among those of all blocks
-pub offset-small : (b j : ℕ) → b ≤ 4 → j ≤ 4 → 8 * b * j ≤ 128
-offset-small b j h g = mul-le-mul {n₂ = 32} (omega arith) g
+        within-all (2 ^ 24) (leader k b bytes)
+        (λ p l. rw (leader-at k b bytes p (omega (arith, leader-length k b bytes))) (omega (arith, coordinate-below p)))

@@ -42,13 +42,13 @@ pub fn block(message: &[u8], from: usize, grade: usize, a: u32, c0: u64, c1: u64
     let bits = bits::bits_at(message, from, 8 * grade);
     let mut x = [0i32; 8];
     let mut at: usize = 0;
-    let mut c: usize = 0;
-    while c < 8 {
-        let w = kind_table::width(grade, c);
+    let mut o: usize = 0;
+    while o < 8 {
+        let w = kind_table::width(grade, o);
         let s = (bits >> at) % (1u64 << w);
-        x[c] = ((c0 >> c) % 2 + 2 * ((c1 >> c) % 2) + 4 * ((c2 >> c) % 2) + (s << a)) as i32;
+        x[o] = ((c0 >> o) % 2 + 2 * ((c1 >> o) % 2) + 4 * ((c2 >> o) % 2) + (s << a)) as i32;
         at += w;
-        c += 1;
+        o += 1;
     }
     x
 }

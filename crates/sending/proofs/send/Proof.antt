@@ -1,32 +1,33 @@
--- `send` meets its contract: the definitions by whether there is a refusal, and the demands of what is sent. Assumes nothing.
+-- `send` meets its contract: the definitions by its number, and the demands of what is sent. Assumes nothing.
 use Prim.Native.Nat.{ℕ, _≤_}
 use mathlib.Core.Path.{_≡_, sym, _∙_, subst}
 use mathlib.Core.Bool.{true, false}
 use mathlib.Core.List.{List}
+use native.Mathlib.Omega.{arith}
 use lib.Dec.{eqb}
 use lib.ListN.{length}
 use lib.IntN.{ℤ}
-use borrow.Author.Tests.{ne-eqb}
+use borrow.Author.Tests.{eq-eqb, ne-eqb}
 use Rattle.e8.specs.Energy.{energy}
 use Rattle.frames.specs.Kind.{isKind}
 use Rattle.frames.specs.Frame.{sentFrame}
-use Rattle.frames.specs.Sending.{sendRefusal, frameAfter, energySent, LeastEnergy}
+use Rattle.frames.specs.Sending.{frameAfter, energySent, LeastEnergy}
 use Rattle.frames.proofs.Rows.{grade-low, grade-high}
 use Rattle.frames.proofs.Demands.{sent-least, sent-within}
-use Rattle.sending.proofs.Answers.{Accepted, accepted}
+use Rattle.sending.proofs.Answers.{Fits, fits}
 use borrow.Author.Needs.{needs}
 use Rattle.sending.proofs.send.Statement.{statement}
 use Rattle.sending.proofs.send.Tie as tie
 
--- the definitions, by whether there is a refusal
-module _ (k b : ℕ) (m : List ℕ) (f : List ℤ) where
-  refused : (sendRefusal k b m (length f) ≡ 0 → ⊥) → (0 ≡ energySent k b m (length f)) × (f ≡ frameAfter k b m f)
+-- what sending leaves, by its number
+module _ (number k b : ℕ) (m : List ℕ) (f : List ℤ) where
+  refused : (number ≡ 0 → ⊥) → (f ≡ frameAfter number k b m f) × (0 ≡ energySent number k b m)
   unfolding energySent frameAfter
-  refused n = let e : eqb (sendRefusal k b m (length f)) 0 ≡ false = ne-eqb _ _ n in (simp e, simp e)
+  refused n = let e : eqb number 0 ≡ false = ne-eqb number 0 n in (simp e, simp e)
 
-  sent : sendRefusal k b m (length f) ≡ 0 → (energy (sentFrame k b m) ≡ energySent k b m (length f)) × (sentFrame k b m ≡ frameAfter k b m f)
+  sent : number ≡ 0 → (sentFrame k b m ≡ frameAfter number k b m f) × (energy (sentFrame k b m) ≡ energySent number k b m)
   unfolding energySent frameAfter
-  sent e = (simp e, simp e)
+  sent z = let e : eqb number 0 ≡ true = eq-eqb number 0 z in (simp e, simp e)
 
 -- what is written has the least energy of its class
 least : (k b : ℕ) (m : List ℕ) (f : List ℤ) (e : ℕ) → isKind k ≡ true → 1 ≤ b → f ≡ sentFrame k b m → e ≡ energy (sentFrame k b m) → LeastEnergy k b f e
@@ -36,23 +37,26 @@ least k b m f e kind grade q w = subst (λ (x : List ℤ). LeastEnergy k b x e) 
   small = sent-within k b kind grade m;
 })
 
-no-refusal : (c : tie.Else1) → let s = c .before .before .before .args in sendRefusal (s .kind) (s .grade) (s .message .now) (length (s .frame .now)) ≡ 0
-no-refusal c = sym (c .before .refusal .ensures) ∙ c .if1 .left
-
-passed : (c : tie.Else1) → let s = c .before .before .before .args in Accepted (s .kind) (s .grade) (s .message .now) (length (s .frame .now))
-passed c = let s = c .before .before .before .args in accepted (s .kind) (s .grade) (s .message .now) (length (s .frame .now)) (no-refusal c)
-
 refusal-requires : tie.Need-refusal-requires
 refusal-requires c κs = search needs
 
+-- a refusal leaves all as it was
 returns : tie.Need-returns
 returns c =
     let s = c .before .before .before .args in
-    let n = refused (s .kind) (s .grade) (s .message .now) (s .frame .now) (λ e. c .if1 .taken (c .before .refusal .ensures ∙ e)) in
-    (c .before .refusal .ensures, (n .1, (n .0, (λ e. absurd (c .if1 .taken e)))))
+    let n = refused (c .before .refusal .result) (s .kind) (s .grade) (s .message .now) (s .frame .now) (λ e. omega (arith, e)) in
+    (c .before .refusal .ensures, (n .0, (n .1, (λ e. absurd (omega (arith, e))))))
 
-fill-requires : tie.Need-fill-requires
-fill-requires c κs =
+-- past the first four tests a frame can be written
+passed : (c : tie.Else1) → let s = c .before .before .before .args in Fits (s .kind) (s .grade) (s .message .now) (length (s .frame .now))
+passed c =
+    let s = c .before .before .before .args in
+    let r = c .before .refusal .ensures in
+    fits (s .kind) (s .grade) (s .message .now) (length (s .frame .now))
+    (λ e. omega (arith, e, r)) (λ e. omega (arith, e, r)) (λ e. omega (arith, e, r)) (λ e. omega (arith, e, r))
+
+write-sent-requires : tie.Need-write-sent-requires
+write-sent-requires c κs =
     let s = c .before .before .before .before .args in
     let a = passed (c .before) in
     (a .kind, grade-low (s .grade) (a .grade), grade-high (s .grade) (a .grade), a .long, a .positions)
@@ -64,11 +68,11 @@ returns-2 : tie.Need-returns-2
 returns-2 c =
     let d = c .before .before .before in
     let s = d .before .before .before .args in
-    let z = no-refusal d in
     let a = passed d in
-    let t = sent (s .kind) (s .grade) (s .message .now) (s .frame .now) z in
-    let f = c .before .fill .ensures in
-    (sym z, (f .0 ∙ t .1, (f .1 ∙ t .0, (λ e. least (s .kind) (s .grade) (s .message .now) (c .before .fill .last .1 .1 .1 .0) (c .before .fill .result) (a .kind) (grade-low (s .grade) (a .grade)) (f .0) (f .1)))))
+    let f = c .before .write-sent .ensures in
+    let t = sent (d .before .refusal .result) (s .kind) (s .grade) (s .message .now) (s .frame .now) (omega arith) in
+    (d .before .refusal .ensures, (f .0 ∙ t .0, (f .1 ∙ t .1,
+    (λ e. least (s .kind) (s .grade) (s .message .now) (c .before .write-sent .last .1 .1 .1 .0) (c .before .write-sent .result) (a .kind) (grade-low (s .grade) (a .grade)) (f .0) (f .1)))))
 
 pub send-spec : {M : Type 1} → statement M
-send-spec = tie.close (tie.spec refusal-requires returns fill-requires same-length returns-2)
+send-spec = tie.close (tie.spec refusal-requires returns write-sent-requires same-length returns-2)

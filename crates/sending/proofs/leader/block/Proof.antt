@@ -1,6 +1,7 @@
 -- `leader::block` meets its contract: the coordinates passed so far are made. Assumes nothing.
 use Prim.Native.Nat.{ℕ, suc, _+_, _-_, _*_, _/_, _%_, _^_, _≤_, _<_}
 use mathlib.Core.Path.{_≡_, refl, sym, ap, ap₂, _∙_}
+use mathlib.Core.List.{List}
 use native.Mathlib.Omega.{arith}
 use native.Mathlib.Numerals.{add-one}
 use lib.ListN.{length, getD, take, length-set}
@@ -10,24 +11,28 @@ use lib.IntN.{pos}
 use mir.Syntax.{w32}
 use mir.Val.{toZ}
 use mir.Facts.{toZ-pos}
-use Rattle.bits.specs.Number.{table}
+use Rattle.bits.specs.Number.{table, number}
 use Rattle.bits.specs.Message.{messageBit}
 use Rattle.bits.proofs.Message.{message-small}
 use Rattle.e8.specs.Rows.{ints}
-use Rattle.frames.specs.Message.{widths, number, numbers}
+use Rattle.frames.specs.Message.{widths, numbers}
 use Rattle.frames.proofs.Numbers.{total, total-widths}
-use Rattle.sending.proofs.Bits.{number-small, number-held}
+use Rattle.sending.proofs.Bits.{number-small, number-part}
 use Rattle.sending.proofs.Block.{numbers-at, total-suc, total-le, ints-more, ints-none, width-small, scaled-small}
 use Rattle.sending.proofs.leader.block.Statement.{statement}
 use Rattle.sending.proofs.leader.block.Tie as tie
 
+-- coordinate o of the block
+abbrev made : List ℕ → ℕ → ℕ → ℕ → ℕ → ℕ → ℕ → ℕ → ℕ
+made message from grade a c0 c1 c2 o =
+    c0 / 2 ^ o % 2 + 2 * (c1 / 2 ^ o % 2) + 4 * (c2 / 2 ^ o % 2) + 2 ^ a * getD (numbers (messageBit message) from (widths grade)) o 0
+
 abbrev Inv-loop : tie.InvT-loop
-Inv-loop message from grade a low high bits x₀ at₀ c₀ x at c =
-    (c ≤ 8) × (at ≡ total (take c (widths grade))) × (length x ≡ 8)
-    × (take c x ≡ ints (table c (λ o. low / 2 ^ o % 2 + 2 * (high / 2 ^ o % 2) + 2 ^ a * getD (numbers (messageBit message) from (widths grade)) o 0)))
+Inv-loop message from grade a c0 c1 c2 bits x₀ at₀ o₀ x at o =
+    (o ≤ 8) × (at ≡ total (take o (widths grade))) × (length x ≡ 8) × (take o x ≡ ints (table o (made message from grade a c0 c1 c2)))
 
 abbrev μ-loop : tie.MeasureT-loop
-μ-loop message from grade a low high bits x₀ at₀ c₀ x at c = 8 - c
+μ-loop message from grade a c0 c1 c2 bits x₀ at₀ o₀ x at o = 8 - o
 
 mul-bits-at : tie.Need-mul-bits-at Inv-loop μ-loop
 mul-bits-at c = omega arith
@@ -53,9 +58,9 @@ fit c =
     let a = c .before .before in
     let s = a .before .before .before in
     let b = s .args .grade in
-    let lt : a .loop .c < 8 = c .before .loop-test .taken in record {
-      narrow = omega (arith, c .width .ensures, width-small b (a .loop .c) (s .pre .1) lt);
-      inside = omega (arith, c .width .ensures, a .loop .inv .1, total-suc (widths b) (a .loop .c) lt, total-le (widths b) (suc (a .loop .c)), total-widths b (s .pre .0));
+    let lt : a .loop .o < 8 = c .before .loop-test .taken in record {
+      narrow = omega (arith, c .width .ensures, width-small b (a .loop .o) (s .pre .1) lt);
+      inside = omega (arith, c .width .ensures, a .loop .inv .1, total-suc (widths b) (a .loop .o) lt, total-le (widths b) (suc (a .loop .o)), total-widths b (s .pre .0));
     }
 
 -- the number that is taken, and 2^a times it
@@ -65,21 +70,23 @@ taken c =
     a .before .bits-at .result / 2 ^ a .loop .at % (1 * 2 ^ c .width .result % 18446744073709551616)
 
 taken-is : (c : tie.After-width Inv-loop μ-loop) → let a = c .before .before in let s = a .before .before .before in
-    taken c ≡ number (messageBit (s .args .message .now)) (s .args .from + a .loop .at) (c .width .result)
+    taken c ≡ number (c .width .result) (λ i. messageBit (s .args .message .now) (s .args .from + a .loop .at + i))
 taken-is c =
     let a = c .before .before in
     let s = a .before .before .before in
     let w = c .width .result in
+    let bit = messageBit (s .args .message .now) in
     let p : 1 * 2 ^ w % 18446744073709551616 ≡ 2 ^ w = omega (arith, pow-mono {i = w} {j = 5} (fit c .narrow)) in
     ap (λ (n : ℕ). a .before .bits-at .result / 2 ^ a .loop .at % n) p
-    ∙ number-held (messageBit (s .args .message .now)) (s .args .from) (8 * s .args .grade) (a .before .bits-at .result) (a .before .bits-at .ensures) (a .loop .at) w (fit c .inside)
+    ∙ ap (λ (n : ℕ). n / 2 ^ a .loop .at % 2 ^ w) (a .before .bits-at .ensures)
+    ∙ number-part bit (message-small (s .args .message .now)) (s .args .from) (8 * s .args .grade) (a .loop .at) w (fit c .inside)
 
 small : (c : tie.After-width Inv-loop μ-loop) → taken c * 2 ^ c .before .before .before .before .before .args .a ≤ 248
 small c =
     let a = c .before .before in
     let s = a .before .before .before in
     scaled-small (taken c) (s .args .a)
-    (omega (arith, taken-is c, number-small (messageBit (s .args .message .now)) (s .args .from + a .loop .at) (message-small (s .args .message .now)) (c .width .result) (fit c .narrow)))
+    (omega (arith, taken-is c, number-small (messageBit (s .args .message .now)) (message-small (s .args .message .now)) (s .args .from + a .loop .at) (c .width .result) (fit c .narrow)))
     (s .pre .2)
 
 shr-s : tie.Need-shr-s Inv-loop μ-loop
@@ -128,35 +135,43 @@ loop-less : tie.Need-loop-less Inv-loop μ-loop
 loop-less c = omega arith
 
 -- the coordinate that is made
-value : (c : tie.After-width Inv-loop μ-loop) → let a = c .before .before in let s = a .before .before .before in
-    s .args .low / 2 ^ a .loop .c % 2 + 2 * (s .args .high / 2 ^ a .loop .c % 2) + taken c * 2 ^ s .args .a % 18446744073709551616
-    ≡ s .args .low / 2 ^ a .loop .c % 2 + 2 * (s .args .high / 2 ^ a .loop .c % 2)
-    + 2 ^ s .args .a * getD (numbers (messageBit (s .args .message .now)) (s .args .from) (widths (s .args .grade))) (a .loop .c) 0
+abbrev low : (c : tie.After-width Inv-loop μ-loop) → ℕ
+low c =
+    let a = c .before .before in
+    let g = a .before .before .before .args in
+    g .c0 / 2 ^ a .loop .o % 2 + 2 * (g .c1 / 2 ^ a .loop .o % 2) + 4 * (g .c2 / 2 ^ a .loop .o % 2)
+
+abbrev stored : (c : tie.After-width Inv-loop μ-loop) → ℕ
+stored c = low c + taken c * 2 ^ c .before .before .before .before .before .args .a % 18446744073709551616
+
+value : (c : tie.After-width Inv-loop μ-loop) → let a = c .before .before in let g = a .before .before .before .args in
+    stored c ≡ made (g .message .now) (g .from) (g .grade) (g .a) (g .c0) (g .c1) (g .c2) (a .loop .o)
 value c =
     let a = c .before .before in
-    let s = a .before .before .before in
-    let e : taken c ≡ getD (numbers (messageBit (s .args .message .now)) (s .args .from) (widths (s .args .grade))) (a .loop .c) 0 =
+    let g = a .before .before .before .args in
+    let bit = messageBit (g .message .now) in
+    let e : taken c ≡ getD (numbers bit (g .from) (widths (g .grade))) (a .loop .o) 0 =
     taken-is c
-    ∙ ap₂ (λ (n w : ℕ). number (messageBit (s .args .message .now)) (s .args .from + n) w) (a .loop .inv .1) (c .width .ensures)
-    ∙ sym (numbers-at (messageBit (s .args .message .now)) (s .args .from) (widths (s .args .grade)) (a .loop .c) (c .before .loop-test .taken)) in
-    omega (arith, small c, ap (λ (n : ℕ). n * 2 ^ s .args .a) e)
+    ∙ ap₂ (λ (n w : ℕ). number w (λ i. bit (g .from + n + i))) (a .loop .inv .1) (c .width .ensures)
+    ∙ sym (numbers-at bit (g .from) (widths (g .grade)) (a .loop .o) (c .before .loop-test .taken)) in
+    omega (arith, small c, ap (λ (n : ℕ). n * 2 ^ g .a) e)
 
 loop-again : tie.Need-loop-again Inv-loop μ-loop
 loop-again c =
     let a = c .before .before in
     let s = a .before .before .before in
-    let lt : a .loop .c < 8 = c .before .loop-test .taken in
-    let v : ℕ = s .args .low / 2 ^ a .loop .c % 2 + 2 * (s .args .high / 2 ^ a .loop .c % 2) + taken c * 2 ^ s .args .a % 18446744073709551616 in (
+    let lt : a .loop .o < 8 = c .before .loop-test .taken in (
       omega arith,
-      rw add-one (omega (arith, total-suc (widths (s .args .grade)) (a .loop .c) lt, a .loop .inv .1, c .width .ensures)),
-      length-set (a .loop .x) (a .loop .c) (toZ w32 v) ∙ a .loop .inv .2,
-      ints-more _ (a .loop .x) (a .loop .c) (toZ w32 v) (omega (arith, a .loop .inv .2)) (toZ-pos w32 {n = v} (omega (arith, small c)) ∙ ap pos (value c)) (a .loop .inv .3),
+      rw add-one (omega (arith, total-suc (widths (s .args .grade)) (a .loop .o) lt, a .loop .inv .1, c .width .ensures)),
+      length-set (a .loop .x) (a .loop .o) (toZ w32 (stored c)) ∙ a .loop .inv .2,
+      ints-more _ (a .loop .x) (a .loop .o) (toZ w32 (stored c)) (omega (arith, a .loop .inv .2))
+          (toZ-pos w32 {n = stored c} (omega (arith, small c)) ∙ ap pos (value c)) (a .loop .inv .3),
     )
 
 returns : tie.Need-returns Inv-loop μ-loop
 returns c =
     let l = c .before .loop in
-    let q : l .c ≡ 8 = omega arith in
+    let q : l .o ≡ 8 = omega arith in
     sym (take-all 8 (l .x) (omega (arith, l .inv .2))) ∙ (rw q at (l .inv .3))
 
 pub block-spec : {M : Type 1} → statement M
