@@ -14,9 +14,11 @@ use Rattle.bits.specs.Message.{messageBit}
 use Rattle.e8.specs.Energy.{sq, energy, distance, Within}
 use Rattle.e8.proofs.Frame.{differ-refl, differ-sym, differ-trans, leastFrame-is, least-only, leastFrame-within}
 use Rattle.frames.specs.Kind.{isKind, isGrade, degrees, levels, blocks, scale}
-use Rattle.frames.specs.Message.{Message, blockNumbers, coordinate, leader}
+use Rattle.frames.specs.Message.{Bytes, Message, blockNumbers, coordinate, leader}
 use Rattle.frames.specs.Frame.{InCodingSet, half, SameClass, Sent, sentFrame, leastDistance}
+use Rattle.frames.specs.Sending.{Accepts}
 use Rattle.frames.specs.Reading.{openMessage}
+use Rattle.frames.specs.Demands.{Sendable, OneMessage, Reached}
 use Rattle.frames.proofs.Levels.{Codes, apartBy, apart}
 use Rattle.frames.proofs.Stacked.{stacked-codes, codes-plus}
 use Rattle.frames.proofs.Frame.{at, codes-of, of-codes}
@@ -25,14 +27,8 @@ use Rattle.frames.proofs.One.{leader-length, leader-at, open-message, o
 use Rattle.frames.proofs.Rows.{grade-low}
 use Rattle.frames.proofs.Limits.{shape, distances}
 use Rattle.frames.proofs.Distance.{distance-sum, Apart, somewhere}
-use Rattle.frames.proofs.Reached.{Reached, reached}
-
--- the one message whose sent frame differs from f by a point of the shaping lattice
-pub record OneMessage (k b : ℕ) (f : List ℤ) : Type 0 where
-  pub bytes : List ℕ
-  pub message : Message k b bytes
-  pub class : SameClass k b (sentFrame k b bytes) f
-  pub only : (other : List ℕ) → Message k b other → SameClass k b (sentFrame k b other) f → other ≡ bytes
+use Rattle.frames.proofs.Accepted.{message-accepted, accepted-exactly}
+use Rattle.frames.proofs.Reached.{reached}
 
 pub half-pos : (k b : ℕ) → 0 < half k b
 unfolding half
@@ -139,6 +135,7 @@ module _ (k b : ℕ) (kind : isKind k ≡ true) (grade : isGrade b ≡ true) whe
   exactly-one f set = record {
     bytes = openMessage k b f;
     message = read-message f set;
+    accepted = message-accepted k b (openMessage k b f) kind grade (read-message f set);
     class = read-class f set;
     only = λ other m d. same-leaders other (openMessage k b f) m (read-message f set)
         (differ-trans (half k b) (blocks k) (leader k b other) f (leader k b (openMessage k b f))
@@ -178,3 +175,24 @@ module _ (k b : ℕ) (kind : isKind k ≡ true) (grade : isGrade b ≡ true) whe
   -- "and at each grade two messages are sent at exactly that"
   pub exactly-apart : Reached k b
   exactly-apart = reached k b kind grade
+
+-- ---- the same of what is SENT: of bytes that sending accepts, whatever kind and grade they are sent at
+
+-- bytes that sending accepts are a message of a kind and grade of the table
+pub sent-sendable : (k b : ℕ) (bytes : List ℕ) → Bytes bytes → Accepts k b bytes → Sendable k b bytes (2 ^ k)
+sent-sendable k b bytes each e = accepted-exactly k b bytes (2 ^ k) each .sendable e
+
+-- two different byte strings that sending accepts at one kind and grade are sent at least the distance apart
+pub accepted-apart : (k b : ℕ) (x y : List ℕ) → Bytes x → Bytes y → Accepts k b x → Accepts k b y → (x ≡ y → ⊥)
+    → leastDistance k ≤ distance (sentFrame k b x) (sentFrame k b y)
+accepted-apart k b x y bx by ax ay ne =
+    let s = sent-sendable k b x bx ax in
+    sent-apart k b (s .kind) (s .grade) x y (s .message) (sent-sendable k b y by ay .message) ne
+
+-- and no two of them differ from one coding-set frame by a lattice point
+pub accepted-only : (k b : ℕ) (f : List ℤ) → InCodingSet k f → (x y : List ℕ) → Bytes x → Bytes y → Accepts k b x → Accepts k b y
+    → SameClass k b (sentFrame k b x) f → SameClass k b (sentFrame k b y) f → x ≡ y
+accepted-only k b f set x y bx by ax ay dx dy =
+    let s = sent-sendable k b x bx ax in
+    let one = exactly-one k b (s .kind) (s .grade) f set in
+    one .only x (s .message) dx ∙ sym (one .only y (sent-sendable k b y by ay .message) dy)

@@ -8,9 +8,10 @@ pub mod One
 pub mod Rows
 pub mod Limits
 pub mod Distance
+pub mod Refusals
+pub mod Accepted
 pub mod Reached
 pub mod Demands
 pub mod Bounds
 pub mod Exam
-pub mod Refusals
 pub mod Reading

@@ -12,7 +12,19 @@ use borrow.Author.Tests.{eqb-true, leb-true}
 use Rattle.bits.specs.Number.{table}
 use Rattle.reed_muller.specs.Level.{dimension, masks, ofWeight, Tabled}
 use Rattle.frames.specs.Kind.{
-  kinds, brokenNumbers, brokenNumber, isKind, isGrade, degrees, levels, blocks, dimensions, levelBits, messageBits, messageBytes, scale,
+  kinds,
+  brokenNumbers,
+  brokenNumber,
+  isKind,
+  isGrade,
+  degrees,
+  levels,
+  blocks,
+  dimensions,
+  levelBits,
+  messageBits,
+  messageBytes,
+  scale,
 }
 use Rattle.frames.specs.Frame.{leastDistance}
 use Rattle.frames.proofs.Levels.{Fit, apartBy}

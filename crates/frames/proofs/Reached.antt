@@ -20,11 +20,13 @@ use Rattle.frames.specs.Kind.{kinds, isKind, isGrade, degrees, levels, l
 use Rattle.frames.specs.Message.{Message, numbers, blockNumbers, stacked, coordinate, leader}
 use Rattle.frames.specs.Frame.{half, sentFrame, leastDistance}
 use Rattle.frames.proofs.Rows.{each-row-and-grade}
+use Rattle.frames.specs.Demands.{Reached}
 use Rattle.frames.proofs.Limits.{some-bits}
+use Rattle.frames.proofs.Accepted.{message-accepted}
 
 -- the message whose first byte is x and whose other bytes are 0
-abbrev pub first : ℕ → ℕ → ℕ → List ℕ
-first x k b = x ∷ replicate (messageBytes k b - 1) 0
+abbrev pub firstByte : ℕ → ℕ → ℕ → List ℕ
+firstByte x k b = x ∷ replicate (messageBytes k b - 1) 0
 
 zeros-at : (n j : ℕ) → getD {A = ℕ} (replicate n 0) j 0 ≡ 0
 zeros-at zero zero = refl
@@ -45,25 +47,16 @@ module _ (x k b : ℕ) (small : x < 256) (bits : 8 ≤ messageBits k b) where
       none : (s : ℕ) → 0 / 2 ^ s % 2 ≡ 0
       none s = omega (arith, zero-div (2 ^ s))
 
-  first-message : Message k b (first x k b)
+  byte-message : Message k b (firstByte x k b)
   unfolding messageBytes
-  first-message = record {
+  byte-message = record {
     long = ap suc (length-replicate (messageBytes k b - 1) 0) ∙ omega arith;
     each = each-byte (messageBytes k b - 1);
     spare = λ i h. later (messageBytes k b - 1) i (i / 8) refl (omega arith);
   }
 
--- two different messages, and the squared distance of their frames
-pub record Reached (k b : ℕ) : Type 0 where
-  pub x : List ℕ
-  pub y : List ℕ
-  pub message-x : Message k b x
-  pub message-y : Message k b y
-  pub different : x ≡ y → ⊥
-  pub exactly : distance (sentFrame k b x) (sentFrame k b y) ≡ leastDistance k
-
 abbrev Exactly : ℕ → ℕ → Type 0
-Exactly k b = distance (sentFrame k b (first 0 k b)) (sentFrame k b (first 2 k b)) ≡ leastDistance k
+Exactly k b = distance (sentFrame k b (firstByte 0 k b)) (sentFrame k b (firstByte 2 k b)) ≡ leastDistance k
 
 -- the twelve pairs, computed
 exactly-at : (k : ℕ) → isKind k ≡ true → (b : ℕ) → isGrade b ≡ true → Exactly k b
@@ -71,15 +64,23 @@ unfolding sentFrame half leastFrame leastBlock best better cent before energy sq
 exactly-at k kind b grade = eqb-true (apartAt k b) (leastDistance k) (each-row-and-grade (λ k b. eqb (apartAt k b) (leastDistance k)) refl k b kind grade)
   where
     apartAt : ℕ → ℕ → ℕ
-    apartAt k b = distance (sentFrame k b (first 0 k b)) (sentFrame k b (first 2 k b))
+    apartAt k b = distance (sentFrame k b (firstByte 0 k b)) (sentFrame k b (firstByte 2 k b))
 
 -- "at each grade two messages are sent at exactly that"
 pub reached : (k b : ℕ) → isKind k ≡ true → isGrade b ≡ true → Reached k b
 reached k b kind grade = record {
-  x = first 0 k b;
-  y = first 2 k b;
-  message-x = first-message 0 k b (omega arith) (some-bits k b kind grade);
-  message-y = first-message 2 k b (omega arith) (some-bits k b kind grade);
+  x = firstByte 0 k b;
+  y = firstByte 2 k b;
+  message-x = message-x;
+  message-y = message-y;
+  accepted-x = message-accepted k b (firstByte 0 k b) kind grade message-x;
+  accepted-y = message-accepted k b (firstByte 2 k b) kind grade message-y;
   different = λ e. omega (arith, ap (λ (l : List ℕ). getD l 0 0) e);
   exactly = exactly-at k kind b grade;
 }
+  where
+    message-x : Message k b (firstByte 0 k b)
+    message-x = byte-message 0 k b (omega arith) (some-bits k b kind grade)
+
+    message-y : Message k b (firstByte 2 k b)
+    message-y = byte-message 2 k b (omega arith) (some-bits k b kind grade)

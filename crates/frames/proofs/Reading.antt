@@ -16,13 +16,15 @@ use Rattle.e8.specs.Least.{IsLeast, leastFrame}
 use Rattle.e8.proofs.Frame.{differ-refl, differ-sym, differ-trans, leastFrame-is}
 use Rattle.e8.proofs.Within.{within-to}
 use Rattle.frames.specs.Kind.{isKind, isGrade, degrees, blocks, messageBytes, scale}
-use Rattle.frames.specs.Message.{Message, leader}
+use Rattle.frames.specs.Message.{Bytes, Message, leader}
 use Rattle.frames.specs.Frame.{InCodingSet, half, SameClass, sentFrame}
-use Rattle.frames.specs.Sending.{unless}
+use Rattle.frames.specs.Sending.{unless, Accepts}
 use Rattle.frames.specs.Reading.{openMessage, sameFrame, inRange, broken, openRefusal, isSent, strictRefusal, messageAfter, energyRead}
+use Rattle.frames.specs.Demands.{OneMessage, SentFor, ReadBack}
 use Rattle.frames.proofs.Rows.{grade-low}
 use Rattle.frames.proofs.Limits.{shape, few-levels, scale-64}
-use Rattle.frames.proofs.Demands.{OneMessage, half-pos, sent-only, sent-within, sent-in-set, read-message, leader-class, read-class, exactly-one}
+use Rattle.frames.proofs.Demands.{half-pos, sent-only, sent-within, sent-in-set, read-message, leader-class, read-class, exactly-one, sent-sendable}
+use Rattle.frames.proofs.Accepted.{message-accepted}
 use Rattle.frames.proofs.Refusals.{passed, same-frame, frame-same, within-range, levels-answer, set-passes, Accepted, accepted, levels-decide}
 
 module _ (k b : ℕ) (kind : isKind k ≡ true) (grade : isGrade b ≡ true) where
@@ -147,13 +149,6 @@ pub strict-as-open : (k b : ℕ) (f : List ℤ) (n : ℕ) → (openRefusal k b f
 unfolding strictRefusal
 strict-as-open k b f n h = rw (ne-eqb (openRefusal k b f n) 0 h)
 
--- f is sent for some message of the kind and grade, and the reading gives that one
-pub record SentFor (k b : ℕ) (f : List ℤ) : Type 0 where
-  pub bytes : List ℕ
-  pub message : Message k b bytes
-  pub sent : f ≡ sentFrame k b bytes
-  pub given : openMessage k b f ≡ bytes
-
 -- what a strict reading takes has passed the open reading's tests and is the sent frame
 pub strict-passed : (k b : ℕ) (f : List ℤ) (n : ℕ) → strictRefusal k b f n ≡ 0 → (openRefusal k b f n ≡ 0) × (isSent k b f ≡ true)
 unfolding strictRefusal
@@ -168,7 +163,8 @@ pub strict-takes-sent : (k b : ℕ) (f : List ℤ) (n : ℕ) → strictRefusal k
 unfolding isSent
 strict-takes-sent k b f n e = record {
   bytes = openMessage k b f;
-  message = read-message k b (a .kind) (a .grade) f (taken-in-set k b f n (p .0));
+  message = message;
+  accepted = message-accepted k b (openMessage k b f) (a .kind) (a .grade) message;
   sent = same-frame f (sentFrame k b (openMessage k b f)) (p .1);
   given = refl;
 }
@@ -178,6 +174,9 @@ strict-takes-sent k b f n e = record {
 
     a : Accepted k b f n
     a = accepted k b f n (p .0)
+
+    message : Message k b (openMessage k b f)
+    message = read-message k b (a .kind) (a .grade) f (taken-in-set k b f n (p .0))
 
 module _ (k b : ℕ) (kind : isKind k ≡ true) (grade : isGrade b ≡ true) (bytes : List ℕ) (m : Message k b bytes) where
   -- what is sent for a message is taken by both readings
@@ -204,3 +203,13 @@ module _ (k b : ℕ) (kind : isKind k ≡ true) (grade : isGrade b ≡ true) (by
   pub strict-same-energy : energyRead (strictRefusal k b (sentFrame k b bytes) (length bytes)) (sentFrame k b bytes) ≡ energy (sentFrame k b bytes)
   unfolding energyRead
   strict-same-energy = rw sent-taken-strictly
+
+-- what sending accepts, both readings take from the frame that is sent, and give back
+pub accepted-read-back : (k b : ℕ) (bytes : List ℕ) → Bytes bytes → Accepts k b bytes → ReadBack k b bytes
+accepted-read-back k b bytes each e =
+    let s = sent-sendable k b bytes each e in
+    record {
+      open-takes = open-takes-sent k b (s .kind) (s .grade) bytes (s .message);
+      strict-takes = sent-taken-strictly k b (s .kind) (s .grade) bytes (s .message);
+      given = read-sent k b (s .kind) (s .grade) bytes (s .message);
+    }

@@ -3,3 +3,5 @@ pub mod Message
 pub mod Frame
 pub mod Sending
 pub mod Reading
+pub mod Demands
+pub mod Exam

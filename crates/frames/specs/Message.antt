@@ -10,10 +10,14 @@ use Rattle.bits.specs.Message.{messageBit}
 use Rattle.e8.specs.Rows.{ints}
 use Rattle.frames.specs.Kind.{degrees, levelBits, messageBits, messageBytes}
 
+-- bytes: every number of the list is below 256
+abbrev pub Bytes : List ℕ → Type 0
+Bytes bytes = (j : ℕ) → getD bytes j 0 < 256
+
 -- a message of a kind and grade: as many bytes as the table gives, spare bits 0
 pub record Message (k b : ℕ) (bytes : List ℕ) : Type 0 where
   pub long : length bytes ≡ messageBytes k b
-  pub each : (j : ℕ) → getD bytes j 0 < 256
+  pub each : Bytes bytes
   pub spare : (i : ℕ) → messageBits k b ≤ i → messageBit bytes i ≡ 0
 
 -- the widths of a block's numbers s1 to s8, in bits

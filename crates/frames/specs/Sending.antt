@@ -35,6 +35,10 @@ sendRefusal k b bytes n =
     (unless (eqb n (2 ^ k)) 4
     (cond (spareSet k b bytes) 5 0))))
 
+-- SENT: sending accepts the bytes at kind k and grade b, with as many coordinates lent as the kind has
+abbrev pub Accepts : ℕ → ℕ → List ℕ → Type 0
+Accepts k b bytes = sendRefusal k b bytes (2 ^ k) ≡ 0
+
 -- ---- what sending that answers `number` leaves: the sent frame and its energy, or the lent frame f as it was and 0
 
 unfoldable pub frameAfter : ℕ → ℕ → ℕ → List ℕ → List ℤ → List ℤ

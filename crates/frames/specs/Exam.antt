@@ -1,0 +1,79 @@
+-- What document 01 prints, to be met by the definitions: its table of kinds and its exam frames. Assumes nothing.
+use Prim.Native.Nat.{ℕ, _+_, _*_, _^_}
+use mathlib.Core.Path.{_≡_}
+use mathlib.Core.List.{List, [], _∷_}
+use lib.IntN.{ℤ, pos, negℤ}
+use lib.ListN.{replicate}
+use Rattle.e8.specs.Energy.{energy}
+use Rattle.e8.specs.Rows.{ints}
+use Rattle.frames.specs.Kind.{degrees, levels, messageBits, messageBytes}
+use Rattle.frames.specs.Frame.{sentFrame}
+
+-- ---- the table of kinds
+
+-- a printed row: the kind, the length n, the levels a, the degrees of the level codes, message bits and message bytes by the grade b
+pub record Printed : Type 0 where
+  pub kind : ℕ
+  pub coordinates : ℕ
+  pub levels : ℕ
+  pub degrees : List ℕ
+  pub bits : ℕ → ℕ
+  pub bytes : ℕ → ℕ
+
+-- document 01, "Kinds and grades"
+abbrev pub printed : List Printed
+printed =
+    record { kind = 3; coordinates = 8; levels = 1; degrees = 1 ∷ []; bits = λ b. 4 + 8 * b; bytes = λ b. b + 1 }
+    ∷ record { kind = 4; coordinates = 16; levels = 2; degrees = 1 ∷ 3 ∷ []; bits = λ b. 20 + 16 * b; bytes = λ b. 2 * b + 3 }
+    ∷ record { kind = 5; coordinates = 32; levels = 2; degrees = 1 ∷ 3 ∷ []; bits = λ b. 32 + 32 * b; bytes = λ b. 4 * b + 4 }
+    ∷ []
+
+-- the definitions give what the row says
+pub record AsPrinted (row : Printed) : Type 0 where
+  pub coordinates : 2 ^ row .kind ≡ row .coordinates
+  pub levels : levels (row .kind) ≡ row .levels
+  pub degrees : degrees (row .kind) ≡ row .degrees
+  pub bits : (b : ℕ) → messageBits (row .kind) b ≡ row .bits b
+  pub bytes : (b : ℕ) → messageBytes (row .kind) b ≡ row .bytes b
+
+-- ---- the exam frames
+
+-- a kind, a grade and a message, and the frame and the energy that it is sent with
+pub record Exam : Type 0 where
+  pub kind : ℕ
+  pub grade : ℕ
+  pub message : List ℕ
+  pub frame : List ℤ
+  pub energy : ℕ
+
+-- −n
+abbrev pub minus : ℕ → ℤ
+minus n = negℤ (pos n)
+
+-- document 01, "Exam frames"; bytes in decimal: F0 07 is 240 7
+abbrev pub exams : List Exam
+exams =
+    record { kind = 3; grade = 1; message = 0 ∷ 0 ∷ []; frame = replicate 8 (pos 0); energy = 0 }
+    ∷ record { kind = 3; grade = 1; message = 1 ∷ 0 ∷ []; frame = replicate 8 (minus 1); energy = 8 }
+    ∷ record { kind = 3; grade = 1; message = 2 ∷ 0 ∷ []; frame = ints (0 ∷ 1 ∷ 0 ∷ 1 ∷ 0 ∷ 1 ∷ 0 ∷ 1 ∷ []); energy = 4 }
+    ∷ record { kind = 3; grade = 1; message = 16 ∷ 0 ∷ []; frame = ints (0 ∷ 2 ∷ 0 ∷ 0 ∷ 0 ∷ 0 ∷ 0 ∷ 0 ∷ []); energy = 4 }
+    ∷ record { kind = 3; grade = 1; message = 0 ∷ 4 ∷ []; frame = ints (0 ∷ 0 ∷ 0 ∷ 0 ∷ 0 ∷ 0 ∷ 0 ∷ 2 ∷ []); energy = 4 }
+    ∷ record {
+      kind = 3;
+      grade = 1;
+      message = 16 ∷ 4 ∷ [];
+      frame = pos 0 ∷ minus 2 ∷ pos 0 ∷ pos 0 ∷ pos 0 ∷ pos 0 ∷ pos 0 ∷ minus 2 ∷ [];
+      energy = 8;
+    }
+    ∷ record { kind = 3; grade = 1; message = 0 ∷ 8 ∷ []; frame = minus 4 ∷ replicate 7 (pos 0); energy = 16 }
+    ∷ record { kind = 3; grade = 1; message = 240 ∷ 7 ∷ []; frame = minus 2 ∷ replicate 7 (pos 0); energy = 4 }
+    ∷ record { kind = 4; grade = 1; message = 1 ∷ replicate 4 0; frame = replicate 16 (pos 1); energy = 16 }
+    ∷ record { kind = 4; grade = 1; message = 32 ∷ replicate 4 0; frame = replicate 16 (minus 2); energy = 64 }
+    ∷ []
+
+-- the frame and the energy that the definitions give, and those that the table says
+abbrev pub sentAs : Exam → List ℤ × ℕ
+sentAs e = (sentFrame (e .kind) (e .grade) (e .message), energy (sentFrame (e .kind) (e .grade) (e .message)))
+
+abbrev pub examined : Exam → List ℤ × ℕ
+examined e = (e .frame, e .energy)
