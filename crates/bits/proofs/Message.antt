@@ -1,17 +1,17 @@
 -- Bytes and their bits: each determines the other, and bits are put in a row. Assumes nothing.
 use Prim.Native.Nat.{ℕ, zero, suc, _+_, _-_, _*_, _/_, _%_, _^_, _≤_, _<_}
-use mathlib.Core.Path.{_≡_, refl, sym, ap, ap₂, _∙_, subst}
+use mathlib.Core.Path.{_≡_, sym, ap, ap₂, _∙_, subst}
 use mathlib.Core.Bool.{Bool, true, false, _&&_, and-false}
 use mathlib.Core.List.{List}
 use native.Mathlib.Nat.{mod-lt, pow-suc, add-comm, mul-le-mul-right, le-of-suc-le-suc, div-one, div-eq-of-lt, mod-one, mod-eq-of-lt, zero-div}
-use native.Mathlib.Decide.{decLt, ℕ-discrete}
+use native.Mathlib.Decide.{decLt}
 use native.Mathlib.Omega.{arith}
 use lib.Dec.{leb, ltb, lit<}
 use lib.Pow.{high, mod-pow-add, shr-shr, pow-mono}
 use lib.Bits.{block-half, block-odd}
-use lib.ListN.{length, getD, set, length-set, List·getD-eq-default}
-use lib.Seq.{ext-getD, getD-set-same, getD-set-other}
-use borrow.Author.Tests.{eq-eqb, ne-eqb, le-leb, lt-leb, lt-ltb, le-ltb}
+use lib.ListN.{length, getD, List·getD-eq-default}
+use lib.Seq.{ext-getD}
+use borrow.Author.Tests.{le-leb, lt-leb, lt-ltb, le-ltb}
 use Rattle.bits.specs.Number.{pick, sumTo, table, number}
 use Rattle.bits.specs.Message.{messageBit, byteOf, bytesOf, withBits}
 use Rattle.bits.proofs.Sum.{sum-ext}
