@@ -17,7 +17,7 @@ use Rattle.bits.proofs.Sum.{sum-ext}
 use Rattle.bits.proofs.Table.{table-at}
 use Rattle.bits.proofs.Message.{number-bit, number-digits, number-of, length-bytes, bit-of-byte, bits-of-bytes, bytes-ext}
 use Rattle.bits.proofs.Message.{pick-small, with-in, with-before, with-past, with-none, with-small}
-use Rattle.bits.proofs.Digits.{digit, xor-digit, and-clear, and-keep, digit-none, digit-small, digit-mod, digit-from, shift-digit, shift-low}
+use Rattle.bits.proofs.Digits.{digit, xor-digit, and-clear, and-keep, digit-none, digit-small, digit-past, digit-mod, digit-from, shift-digit, shift-low}
 use Rattle.bits.proofs.Digits.{joined-low, joined-high}
 
 -- ---- the number with the first c digits set
@@ -34,7 +34,7 @@ module _ (c o : ℕ) (is : o ≡ 2 ^ c - 1) where
       ap (λ (x : ℕ). digit x p) e ∙ number-bit (λ i. 1) c (λ i l. omega arith) p h
 
   ones-past : (p : ℕ) → c ≤ p → digit o p ≡ 0
-  ones-past p h = ap (λ (x : ℕ). x % 2) (div-eq-of-lt (omega (arith, is, pow-pos c, pow-mono {i = c} {j = p} h)))
+  ones-past p h = digit-past o c p (omega (arith, is, pow-pos c)) h
 
 -- ---- a byte blended
 
