@@ -15,9 +15,9 @@ use Rattle.bits.specs.Number.{pick, sumTo, number}
 use Rattle.bits.specs.Message.{messageBit, byteOf, bytesOf, withBits}
 use Rattle.bits.proofs.Sum.{sum-ext}
 use Rattle.bits.proofs.Table.{table-at}
-use Rattle.bits.proofs.Message.{number-bit, number-digits, number-of, length-bytes, bit-of-byte, bits-of-bytes, bytes-ext}
+use Rattle.bits.proofs.Message.{number-bit, number-digits, number-of, digit-of, length-bytes, bit-of-byte, bits-of-bytes, bytes-ext}
 use Rattle.bits.proofs.Message.{pick-small, with-in, with-before, with-past, with-none, with-small}
-use Rattle.bits.proofs.Digits.{digit, xor-digit, and-clear, and-keep, digit-none, digit-small, digit-mod, digit-from, shift-digit, shift-low}
+use Rattle.bits.proofs.Digits.{digit, xor-digit, and-clear, and-keep, digit-none, digit-small, digit-past, digit-mod, digit-from, shift-digit, shift-low}
 use Rattle.bits.proofs.Digits.{joined-low, joined-high}
 
 -- ---- the number with the first c digits set
@@ -34,7 +34,7 @@ module _ (c o : ℕ) (is : o ≡ 2 ^ c - 1) where
       ap (λ (x : ℕ). digit x p) e ∙ number-bit (λ i. 1) c (λ i l. omega arith) p h
 
   ones-past : (p : ℕ) → c ≤ p → digit o p ≡ 0
-  ones-past p h = ap (λ (x : ℕ). x % 2) (div-eq-of-lt (omega (arith, is, pow-pos c, pow-mono {i = c} {j = p} h)))
+  ones-past p h = digit-past o c p (omega (arith, is, pow-pos c)) h
 
 -- ---- a byte blended
 
@@ -245,6 +245,11 @@ module _ (from count : ℕ) (f g old : ℕ → ℕ) (h : (k : ℕ) → k < count
           ap (withBits from count f old) e ∙ with-in from count f old (i - from) (omega arith) ∙ h (i - from) (omega arith)
           ∙ sym (ap (withBits from count g old) e ∙ with-in from count g old (i - from) (omega arith))
       go (no k) (no l) = with-past from count f old i (omega arith) ∙ sym (with-past from count g old i (omega arith))
+
+-- the digits of a number of given bits, put into bytes, are these bits put into bytes
+module _ (n from count : ℕ) {w : ℕ} {f : ℕ → ℕ} (is : w ≡ number count f) (small : (k : ℕ) → k < count → f k < 2) (old : ℕ → ℕ) where
+  pub put-number : bytesOf n (withBits from count (digit w) old) ≡ bytesOf n (withBits from count f old)
+  put-number = bytes-ext n _ _ (λ i l. with-ext from count (digit w) f old (digit-of is small) i)
 
 -- ---- bytes taken from the last to the first
 

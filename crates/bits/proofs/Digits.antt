@@ -4,12 +4,12 @@ use mathlib.Core.Path.{_≡_, refl, sym, ap, _∙_}
 use native.Mathlib.Nat.{add-zero, min-zero, min-le-left, min-eq-left, div-one, div-eq-of-lt, zero-div, mod-eq-of-lt, pow-suc, mul-comm}
 use native.Mathlib.Decide.{decLt, ℕ-discrete}
 use native.Mathlib.Omega.{arith}
-use lib.Pow.{high, split, shl-shr, shr-shr, pow-mono, pow-lt}
+use lib.Pow.{high, field, split, shl-shr, shr-shr, pow-mono, pow-lt}
 use lib.Bits.{bitAnd, bitXor, and-step, and-shr, xor-step, xor-shr, differ}
 use borrow.Author.Tests.{eq-eqb, ne-eqb}
 use lib.Dec.{eqb}
-use Rattle.bits.specs.Number.{given}
-use Rattle.bits.proofs.Message.{under}
+use Rattle.bits.specs.Number.{given, number}
+use Rattle.bits.proofs.Message.{under, number-digits}
 
 abbrev pub digit : ℕ → ℕ → ℕ
 digit x p = x / 2 ^ p % 2
@@ -19,6 +19,10 @@ digit-small x p = omega arith
 
 pub digit-none : (p : ℕ) → digit 0 p ≡ 0
 digit-none p = ap (λ (x : ℕ). x % 2) (zero-div (2 ^ p))
+
+-- past the last digit every digit is 0
+pub digit-past : (x n p : ℕ) → x < 2 ^ n → n ≤ p → digit x p ≡ 0
+digit-past x n p h l = ap (λ (y : ℕ). y % 2) (div-eq-of-lt (omega (arith, pow-mono {i = n} {j = p} l)))
 
 -- ---- sums modulo 2 and masks
 
@@ -66,6 +70,10 @@ shift-low x h W p l u =
 pub one-shifted : (p W : ℕ) → p < W → 1 * 2 ^ p % 2 ^ W ≡ 2 ^ p
 one-shifted p W h = let e : 1 * 2 ^ p ≡ 2 ^ p = omega arith in ap (λ (x : ℕ). x % 2 ^ W) e ∙ mod-eq-of-lt (pow-lt h)
 
+-- the low n digits, by a shift up and down again
+pub low-shifted : (x n h : ℕ) → x * 2 ^ h % 2 ^ (n + h) / 2 ^ h ≡ number n (digit x)
+low-shifted x n h = field (x * 2 ^ h) n h ∙ ap (λ (y : ℕ). y % 2 ^ n) (shl-shr x h) ∙ sym (number-digits x n)
+
 -- the digits from p on
 pub digit-from : (x p i : ℕ) → digit (x / 2 ^ p) i ≡ digit x (p + i)
 digit-from x p i = ap (λ (y : ℕ). y % 2) (shr-shr x p i)
@@ -84,7 +92,7 @@ bit-digit b S W p hb u = go (ℕ-discrete p S) (decLt p S)
     go (no n) (no k) =
         rw (ne-eqb p S n)
         (shift-digit b S W p (omega arith) u
-        ∙ ap (λ (y : ℕ). y % 2) (div-eq-of-lt (omega (arith, pow-mono {i = 1} {j = p - S} (omega arith)))))
+        ∙ digit-past b 1 (p - S) hb (omega arith))
 
 -- ---- k digits more, at the low end
 

@@ -1,17 +1,17 @@
 -- Bytes and their bits: each determines the other, and bits are put in a row. Assumes nothing.
 use Prim.Native.Nat.{ℕ, zero, suc, _+_, _-_, _*_, _/_, _%_, _^_, _≤_, _<_}
-use mathlib.Core.Path.{_≡_, refl, sym, ap, ap₂, _∙_, subst}
+use mathlib.Core.Path.{_≡_, sym, ap, ap₂, _∙_, subst}
 use mathlib.Core.Bool.{Bool, true, false, _&&_, and-false}
 use mathlib.Core.List.{List}
-use native.Mathlib.Nat.{mod-lt, pow-suc, add-comm, mul-le-mul-right, le-of-suc-le-suc, div-one, div-eq-of-lt, mod-one, mod-eq-of-lt, zero-div}
-use native.Mathlib.Decide.{decLt, ℕ-discrete}
+use native.Mathlib.Nat.{mod-lt, pow-suc, add-comm, mul-le-mul-right, le-of-suc-le-suc, div-one, mod-one, mod-eq-of-lt, zero-div}
+use native.Mathlib.Decide.{decLt}
 use native.Mathlib.Omega.{arith}
 use lib.Dec.{leb, ltb, lit<}
-use lib.Pow.{high, mod-pow-add, shr-shr, pow-mono}
+use lib.Pow.{high, mod-pow-add, shr-shr}
 use lib.Bits.{block-half, block-odd}
-use lib.ListN.{length, getD, set, length-set, List·getD-eq-default}
-use lib.Seq.{ext-getD, getD-set-same, getD-set-other}
-use borrow.Author.Tests.{eq-eqb, ne-eqb, le-leb, lt-leb, lt-ltb, le-ltb}
+use lib.ListN.{length, getD, List·getD-eq-default}
+use lib.Seq.{ext-getD}
+use borrow.Author.Tests.{le-leb, lt-leb, lt-ltb, le-ltb}
 use Rattle.bits.specs.Number.{pick, sumTo, table, number}
 use Rattle.bits.specs.Message.{messageBit, byteOf, bytesOf, withBits}
 use Rattle.bits.proofs.Sum.{sum-ext}
@@ -70,9 +70,9 @@ number-mod w n h = sym (number-digits w n) ∙ number-ext n h
 pub number-of : (w n : ℕ) {f : ℕ → ℕ} → w < 2 ^ n → ((i : ℕ) → i < n → w / 2 ^ i % 2 ≡ f i) → w ≡ number n f
 number-of w n l h = sym (mod-eq-of-lt l) ∙ number-mod w n h
 
--- past the last bit every digit is 0
-pub number-past : (b : ℕ → ℕ) (n : ℕ) → ((i : ℕ) → i < n → b i < 2) → (i : ℕ) → n ≤ i → number n b / 2 ^ i % 2 ≡ 0
-number-past b n h i l = ap (λ (x : ℕ). x % 2) (div-eq-of-lt (omega (arith, number-lt b n h, pow-mono {i = n} {j = i} l)))
+-- and back: the digits of a number of given bits
+pub digit-of : {w n : ℕ} {f : ℕ → ℕ} → w ≡ number n f → ((i : ℕ) → i < n → f i < 2) → (i : ℕ) → i < n → w / 2 ^ i % 2 ≡ f i
+digit-of {n = n} {f = f} e small i l = ap (λ (x : ℕ). x / 2 ^ i % 2) e ∙ number-bit f n small i l
 
 -- ---- bytes and bits
 

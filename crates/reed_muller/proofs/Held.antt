@@ -1,10 +1,10 @@
--- Words held in numbers, by the masks of the order: coefficients put one after another, the message read, and the test of the bits. For every r ≤ m. Assumes nothing.
+-- Words held in numbers, for every r ≤ m: the codeword from its message, the message read, and the test of the bits. Assumes nothing.
 use Prim.Native.Nat.{ℕ, _+_, _-_, _*_, _%_, _^_, _≤_, _<_}
 use mathlib.Core.Path.{_≡_, refl, sym, ap, _∙_}
 use mathlib.Core.Bool.{Bool, true, false, true≢false}
 use mathlib.Core.List.{List, [], _∷_}
-use native.Mathlib.Nat.{zero-mul, mod-lt, mod-eq-of-lt}
-use native.Mathlib.Decide.{decLt, decLe, ℕ-discrete}
+use native.Mathlib.Nat.{zero-mul, mod-lt}
+use native.Mathlib.Decide.{decLt, decLe}
 use native.Mathlib.Omega.{arith}
 use lib.Dec.{eqb, ltb, lit<}
 use lib.Bits.{bitAnd}
@@ -12,56 +12,38 @@ use lib.Count.{ones}
 use lib.Pow.{pow-pos}
 use lib.ListN.{getD}
 use borrow.Author.Tests.{eq-eqb, ne-eqb, le-leb, lt-leb, lt-ltb, le-ltb}
-use Rattle.bits.specs.Number.{sumTo, table, given}
-use Rattle.reed_muller.specs.Level.{weight, order, place, dimension, backwards, clearAbove}
+use Rattle.bits.specs.Number.{sumTo, table, given, number}
 use Rattle.bits.specs.Message.{bytesOf, withBits}
-use Rattle.reed_muller.proofs.Order.{order-place, order-below, place-order, place-light, order-light, dimension-small}
-use Rattle.reed_muller.proofs.Codeword.{coefficient, readBits}
-use Rattle.reed_muller.proofs.Belongs.{clear-true, clear-zero}
 use Rattle.bits.proofs.Sum.{sum-zero}
 use Rattle.bits.proofs.Table.{table-at}
-use Rattle.bits.specs.Number.{number}
-use Rattle.bits.proofs.Message.{number-bit, number-digits, bytes-ext}
-use Rattle.bits.proofs.Digits.{digit, digit-none, and-clear, and-keep, shift-digit, shift-low}
+use Rattle.bits.proofs.Message.{number-of, number-ext, digit-of, bytes-ext}
+use Rattle.bits.proofs.Digits.{digit, digit-small, digit-none, digit-past, and-clear, and-keep, shift-digit, shift-low}
 use Rattle.bits.proofs.Bytewise.{with-ext}
+use Rattle.reed_muller.specs.Level.{weight, order, place, dimension, codeword, backwards, clearAbove}
+use Rattle.reed_muller.proofs.Order.{order-below, place-order, order-light, dimension-small}
+use Rattle.reed_muller.proofs.Transform.{backwards-cong}
+use Rattle.reed_muller.proofs.Codeword.{coefficient, codeword-transform, readBits}
+use Rattle.reed_muller.proofs.Belongs.{clear-true, clear-zero}
 
--- the coefficients of the first k masks of the order, and 0 at the others
-abbrev pub firstOf : ℕ → (ℕ → ℕ) → ℕ → ℕ → ℕ
-firstOf m bit k S = given (ltb (place (order m) S) k) (bit (place (order m) S))
+-- ---- a codeword held in a number, from its message held in a number
 
-module _ (m : ℕ) (bit : ℕ → ℕ) (small : (k : ℕ) → bit k < 2) (S : ℕ) (h : S < 2 ^ m) where
-  pub first-none : firstOf m bit 0 S ≡ 0
-  first-none = rw (le-ltb (place (order m) S) 0 (omega arith))
-
-  pub first-more : (k : ℕ) → k < 2 ^ m → (firstOf m bit k S + given (eqb S (getD (order m) k 0)) (bit k)) % 2 ≡ firstOf m bit (k + 1) S
-  first-more k l = go (ℕ-discrete (place (order m) S) k) (decLt (place (order m) S) k)
+module _ (r m : ℕ) (hr : r ≤ m) (bits : ℕ) (few : bits < 2 ^ dimension r m) where
+  -- the bit at the place of a mask is its coefficient: the masks of more than r bits stand past the message bits
+  held-coefficient : (S : ℕ) → S < 2 ^ m → digit bits (place (order m) S) ≡ coefficient r m (digit bits) S
+  held-coefficient S h = go (decLe (weight S) r) (decLt (place (order m) S) (dimension r m))
     where
-      here : place (order m) S ≡ k → S ≡ getD (order m) k 0
-      here e = sym (place-order m S h .1) ∙ ap (λ (i : ℕ). getD (order m) i 0) e
-
-      back : S ≡ getD (order m) k 0 → place (order m) S ≡ k
-      back e = ap (place (order m)) e ∙ order-place m k l
-
-      go : Dec (place (order m) S ≡ k) → Dec (place (order m) S < k)
-          → (firstOf m bit k S + given (eqb S (getD (order m) k 0)) (bit k)) % 2 ≡ firstOf m bit (k + 1) S
-      go (yes e) d =
-          rw (le-ltb (place (order m) S) k (omega arith), lt-ltb (place (order m) S) (k + 1) (omega arith), eq-eqb S (getD (order m) k 0) (here e))
-          (omega (arith, small k, ap bit e))
-      go (no n) (yes d) =
-          rw (lt-ltb (place (order m) S) k d, lt-ltb (place (order m) S) (k + 1) (omega arith), ne-eqb S (getD (order m) k 0) (λ e. n (back e)))
-          (omega (arith, small (place (order m) S)))
-      go (no n) (no d) =
-          rw (le-ltb (place (order m) S) k (omega arith), le-ltb (place (order m) S) (k + 1) (omega arith), ne-eqb S (getD (order m) k 0) (λ e. n (back e)))
-          refl
-
-  -- the first masks of the order are those of at most r bits
-  pub first-all : (r : ℕ) → r ≤ m → firstOf m bit (dimension r m) S ≡ coefficient r m bit S
-  first-all r hr = go (decLe (weight S) r) (decLt (place (order m) S) (dimension r m))
-    where
-      go : Dec (weight S ≤ r) → Dec (place (order m) S < dimension r m) → firstOf m bit (dimension r m) S ≡ coefficient r m bit S
-      go (yes w) d = rw (le-leb (weight S) r w, lt-ltb (place (order m) S) (dimension r m) (place-light r m hr S h w))
+      go : Dec (weight S ≤ r) → Dec (place (order m) S < dimension r m) → digit bits (place (order m) S) ≡ coefficient r m (digit bits) S
+      go (yes w) d = rw (le-leb (weight S) r w)
       go (no n) (yes d) = absurd (omega (arith, n, order-light r m hr (place (order m) S) d, ap weight (place-order m S h .1)))
-      go (no n) (no d) = rw (lt-leb (weight S) r (omega arith), le-ltb (place (order m) S) (dimension r m) (omega arith))
+      go (no n) (no d) = rw (lt-leb (weight S) r (omega arith)) (digit-past bits (dimension r m) (place (order m) S) few (omega arith))
+
+  pub held-codeword : (w : ℕ) → w ≡ number (2 ^ m) (λ S. digit bits (place (order m) S))
+      → number (2 ^ m) (backwards m (digit w)) ≡ number (2 ^ m) (codeword r m (digit bits))
+  held-codeword w e =
+      number-ext (2 ^ m) (λ p l.
+      backwards-cong m (digit w) (coefficient r m (digit bits))
+      (λ S h. ap (λ (x : ℕ). x % 2) (digit-of e (λ S l. digit-small bits (place (order m) S)) S h ∙ held-coefficient S h)) p
+      ∙ sym (codeword-transform r m hr (digit bits) p))
 
 -- ---- the message bits read, put into bytes
 
@@ -76,19 +58,32 @@ module _ (r m : ℕ) (hr : r ≤ m) (bit v : ℕ → ℕ) (is : (S : ℕ) → S 
 
 -- 0 is the number with no digit set
 no-digits : (x W : ℕ) → x < 2 ^ W → ((p : ℕ) → p < W → digit x p ≡ 0) → x ≡ 0
-no-digits x W l h =
-    sym (mod-eq-of-lt l) ∙ sym (number-digits x W) ∙ sum-zero W _ (λ p u. ap (λ (y : ℕ). y * 2 ^ p) (h p u) ∙ zero-mul (2 ^ p))
+no-digits x W l h = number-of x W l h ∙ sum-zero W _ (λ p u. zero-mul (2 ^ p))
 
-module _ (W r m b h : ℕ) (room : 2 ^ m ≤ W) (heavy : (S : ℕ) → S < W → digit h S ≡ given (ltb r (weight S)) 1) where
+-- whether mask S has more than r bits set
+abbrev above : ℕ → ℕ → ℕ
+above r S = given (ltb r (weight S)) 1
+
+above-small : (r S : ℕ) → above r S < 2
+above-small r S = go (ltb r (weight S))
+  where
+    go : (t : Bool) → given t 1 < 2
+    go true = lit< tt
+    go false = lit< tt
+
+module _ (W r m b h : ℕ) (room : 2 ^ m ≤ W) (heavy : h ≡ number W (above r)) where
+  heavy-digit : (S : ℕ) → S < W → digit h S ≡ above r S
+  heavy-digit = digit-of heavy (λ S l. above-small r S)
+
   -- as the code computes it
   abbrev tested-bits : ℕ
   tested-bits = bitAnd b h * 2 ^ (W - 2 ^ m) % 2 ^ W
 
   at-heavy : (S : ℕ) → S < 2 ^ m → r < weight S → digit (bitAnd b h) S ≡ digit b S
-  at-heavy S l w = and-keep b h S (heavy S (omega arith) ∙ rw (lt-ltb r (weight S) w))
+  at-heavy S l w = and-keep b h S (heavy-digit S (omega arith) ∙ rw (lt-ltb r (weight S) w))
 
   at-light : (S : ℕ) → S < 2 ^ m → weight S ≤ r → digit (bitAnd b h) S ≡ 0
-  at-light S l w = and-clear b h S (heavy S (omega arith) ∙ rw (le-ltb r (weight S) w))
+  at-light S l w = and-clear b h S (heavy-digit S (omega arith) ∙ rw (le-ltb r (weight S) w))
 
   none-above : tested-bits ≡ 0 → (S : ℕ) → S < 2 ^ m → r < weight S → digit b S ≡ 0
   none-above e S l w =
@@ -121,22 +116,9 @@ module _ (W r m b h : ℕ) (room : 2 ^ m ≤ W) (heavy : (S : ℕ) → S < W →
 abbrev heavy-words : List ℕ
 heavy-words = 18446744073709551614 ∷ 18446744069414518504 ∷ 18446461400418674816 ∷ 18368186720584761344 ∷ 16753531353454084096 ∷ 9223372036854775808 ∷ 0 ∷ []
 
--- whether mask S has more than r bits set
-abbrev above : ℕ → ℕ → ℕ
-above r S = given (ltb r (weight S)) 1
-
-above-small : (r S : ℕ) → above r S < 2
-above-small r S = go (ltb r (weight S))
-  where
-    go : (t : Bool) → given t 1 < 2
-    go true = lit< tt
-    go false = lit< tt
-
 heavy-words-right : heavy-words ≡ table 7 (λ r. number 64 (above r))
 unfolding table sumTo ones
 heavy-words-right = refl
 
-pub heavy-word : (r S : ℕ) → r < 7 → S < 64 → digit (getD heavy-words r 0) S ≡ given (ltb r (weight S)) 1
-heavy-word r S hr hS =
-    ap (λ (x : ℕ). digit x S) (ap (λ (xs : List ℕ). getD xs r 0) heavy-words-right ∙ table-at (λ r. number 64 (above r)) 7 r hr)
-    ∙ number-bit (above r) 64 (λ S l. above-small r S) S hS
+pub heavy-word : (r : ℕ) → r < 7 → getD heavy-words r 0 ≡ number 64 (above r)
+heavy-word r hr = ap (λ (xs : List ℕ). getD xs r 0) heavy-words-right ∙ table-at (λ r. number 64 (above r)) 7 r hr

@@ -1,15 +1,17 @@
 -- The constant tables of masks, places and dimensions, one record of computed tests for each length. Assumes nothing.
-use Prim.Native.Nat.{ℕ, suc, _+_, _-_, _%_, _^_, _≤_, _<_}
-use mathlib.Core.Path.{_≡_, refl, sym, ap, _∙_, subst}
+use Prim.Native.Nat.{ℕ, suc, _^_, _≤_, _<_}
+use mathlib.Core.Path.{_≡_, refl, sym, ap, ap₂, _∙_, subst}
 use mathlib.Core.List.{List, [], _∷_}
 use native.Mathlib.Omega.{arith}
 use lib.Count.{ones}
-use lib.ListN.{getD}
-use lib.Pow.{pow-mono, pow-add}
-use Rattle.bits.specs.Number.{table}
+use lib.ListN.{length, getD}
+use lib.Pow.{pow-mono}
+use Rattle.bits.specs.Number.{table, number}
+use Rattle.bits.proofs.Table.{length-table, table-at}
+use Rattle.bits.proofs.Message.{number-ext}
+use Rattle.bits.proofs.Digits.{digit}
 use Rattle.reed_muller.specs.Level.{ofWeight, masks, order, place, dimension, Tabled}
-use Rattle.bits.proofs.Table.{table-at}
-use Rattle.reed_muller.proofs.Order.{order-below, dimension-small}
+use Rattle.reed_muller.proofs.Order.{order-below, place-order, dimension-fits, dimension-small}
 
 -- the tables of length 2 ^ m: the masks in order, their places, the dimensions for r = 0, .., m
 pub record Right (m : ℕ) (os ps ds : List ℕ) : Type 0 where
@@ -44,7 +46,29 @@ pub right-32 :
 unfolding order masks ofWeight ones place table dimension
 right-32 = record { orders = refl; places = refl; dimensions = refl }
 
--- ---- an entry of the tables of length 2 ^ n, read where m is n
+-- ---- the lengths in use
+
+-- an index of the tables
+pub inside : {m n k : ℕ} → m ≡ n → k < 2 ^ m → k < 2 ^ n
+inside {k = k} e h = subst (λ (x : ℕ). k < 2 ^ x) e h
+
+-- the last length
+pub last : {m : ℕ} → Tabled m → (m ≡ 3 → ⊥) → (m ≡ 4 → ⊥) → m ≡ 5
+last h a b = omega arith
+
+-- the words are short
+pub short : {m : ℕ} → Tabled m → 2 ^ m ≤ 64
+short h = pow-mono {j = 6} (omega arith)
+
+-- and so are the messages
+pub few-bits : {m r : ℕ} → Tabled m → r ≤ m → dimension r m ≤ 32
+few-bits {m} {r} h hr = omega (arith, dimension-small r m hr, pow-mono {i = m} {j = 5} (h .1))
+
+-- the first k of the places are there, and each is that of a digit of 64
+abbrev Within : ℕ → List ℕ → Type 0
+Within k places = (k ≤ 64) × (k ≤ length places) × ((i : ℕ) → i < k → getD places i 0 < 64)
+
+-- ---- the tables of length 2 ^ n, read where m is n
 
 module _ {m n : ℕ} (e : m ≡ n) {os ps ds : List ℕ} (t : Right n os ps ds) where
   pub order-entry : os ≡ order m
@@ -61,26 +85,27 @@ module _ {m n : ℕ} (e : m ≡ n) {os ps ds : List ℕ} (t : Right n os ps ds) 
   dimension-entry r h =
       ap (λ (xs : List ℕ). getD xs r 0) (t .dimensions) ∙ table-at (λ r. dimension r n) (suc n) r h ∙ ap (dimension r) (sym e)
 
--- an index of the tables
-pub inside : {m n k : ℕ} → m ≡ n → k < 2 ^ m → k < 2 ^ n
-inside {k = k} e h = subst (λ (x : ℕ). k < 2 ^ x) e h
+  -- the bits gathered at the places of all masks
+  pub places-within : Tabled m → Within (2 ^ n) ps
+  places-within h =
+      let same : 2 ^ n ≡ 2 ^ m = ap (λ (x : ℕ). 2 ^ x) (sym e) in (
+        omega (arith, same, short h),
+        omega (arith, ap length (t .places), length-table (place (order n)) (2 ^ n)),
+        λ S l. omega (arith, place-entry S l, place-order m S (omega (arith, same, l)) .0, short h),
+      )
 
--- the last length
-pub last : {m : ℕ} → Tabled m → (m ≡ 3 → ⊥) → (m ≡ 4 → ⊥) → m ≡ 5
-last h a b = omega arith
+  pub by-places : (bits : ℕ) → number (2 ^ n) (λ S. digit bits (getD ps S 0)) ≡ number (2 ^ m) (λ S. digit bits (place (order m) S))
+  by-places bits =
+      number-ext (2 ^ n) (λ S l. ap (digit bits) (place-entry S l)) ∙ ap (λ (x : ℕ). number (2 ^ x) (λ S. digit bits (place (order m) S))) (sym e)
 
--- the words are short
-pub short : {m : ℕ} → Tabled m → 2 ^ m ≤ 64
-short h = pow-mono {j = 6} (omega arith)
+  -- and at the first masks of the order
+  module _ (r : ℕ) (hr : r ≤ m) (k : ℕ) (d : k ≡ dimension r m) where
+    pub masks-within : Tabled m → Within k os
+    masks-within h = (
+      omega (arith, d, dimension-small r m hr, short h),
+      omega (arith, d, dimension-fits r m hr, ap length order-entry),
+      λ i l. omega (arith, mask-entry i, order-below m i (omega (arith, l, d, dimension-small r m hr)), short h),
+    )
 
--- and so are the masks
-pub mask-short : {m k S : ℕ} → Tabled m → k < 2 ^ m → S ≡ getD (order m) k 0 → S < 64
-mask-short {m} {k} h l e = omega (arith, short h, order-below m k l)
-
--- and the messages
-pub few-bits : {m r : ℕ} → Tabled m → r ≤ m → dimension r m ≤ 32
-few-bits {m} {r} h hr = omega (arith, dimension-small r m hr, pow-mono {i = m} {j = 5} (h .1))
-
--- they are a whole number of eights
-pub eights : {m : ℕ} → Tabled m → 2 ^ m % 8 ≡ 0
-eights {m} h = let e : m ≡ 3 + (m - 3) = omega arith in omega (arith, ap (λ (i : ℕ). 2 ^ i) e, pow-add 2 3 (m - 3))
+    pub by-masks : (bits : ℕ) → number k (λ i. digit bits (getD os i 0)) ≡ number (dimension r m) (λ i. digit bits (getD (order m) i 0))
+    by-masks bits = ap₂ (λ (k : ℕ) (xs : List ℕ). number k (λ i. digit bits (getD xs i 0))) d order-entry

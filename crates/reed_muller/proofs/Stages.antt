@@ -1,4 +1,5 @@
--- The transform by stages: stage j adds to each value with digit j set the one without it; m stages are `backwards`. For every m. Assumes nothing.
+-- The transform by stages: stage j adds to each value with digit j set the one without it; m stages are `backwards`. For every m.
+-- Assumes nothing.
 use Prim.Native.Nat.{ℕ, zero, suc, _+_, _-_, _*_, _/_, _%_, _^_, _≤_, _<_}
 use mathlib.Core.Path.{_≡_, refl, sym, ap, ap₂, _∙_, subst, fun-ext}
 use mathlib.Core.List.{List, [], _∷_}
@@ -11,11 +12,10 @@ use lib.Pow.{high, pow-mono}
 use lib.ListN.{getD}
 use lib.Bits.{bitAnd, bitXor}
 use borrow.Author.Tests.{eq-eqb, ne-eqb}
-use Rattle.bits.specs.Number.{pick, sumTo, table}
+use Rattle.bits.specs.Number.{pick, sumTo, table, number}
 use Rattle.reed_muller.specs.Level.{backwards}
 use Rattle.bits.proofs.Table.{table-at}
-use Rattle.bits.specs.Number.{number}
-use Rattle.bits.proofs.Message.{number-bit}
+use Rattle.bits.proofs.Message.{number-ext, digit-of}
 use Rattle.reed_muller.proofs.Transform.{raw, raw-low, raw-high, half-of}
 use Rattle.bits.proofs.Digits.{digit, digit-small, xor-digit, and-clear, and-keep, shift-digit}
 
@@ -113,10 +113,13 @@ behind p h e = go (decLt p h)
 stage-ext : (h : ℕ) (u v : ℕ → ℕ) (p : ℕ) → u p ≡ v p → u (p - h) ≡ v (p - h) → stageAt h u p ≡ stageAt h v p
 stage-ext h u v p a b = ap₂ (λ (x y : ℕ). pick (eqb (p / h % 2) 1) ((x + y) % 2) (x % 2)) a b
 
-module _ (W j mask t : ℕ) (right : (p : ℕ) → p < W → digit mask p ≡ digit p j) where
+module _ (W j mask t : ℕ) (right : mask ≡ number W (λ p. digit p j)) where
   -- as the code computes it
   abbrev staged : ℕ
   staged = bitXor t (bitAnd (t * 2 ^ (2 ^ j) % 2 ^ W) mask)
+
+  masked : (p : ℕ) → p < W → digit mask p ≡ digit p j
+  masked = digit-of right (λ p l. digit-small p j)
 
   stage-digit : (p : ℕ) → p < W → digit staged p ≡ stageAt (2 ^ j) (digit t) p
   stage-digit p h = xor-digit t (bitAnd (t * 2 ^ (2 ^ j) % 2 ^ W) mask) p ∙ go (ℕ-discrete (digit p j) 1)
@@ -124,10 +127,10 @@ module _ (W j mask t : ℕ) (right : (p : ℕ) → p < W → digit mask p ≡ di
       go : Dec (digit p j ≡ 1) → (digit t p + digit (bitAnd (t * 2 ^ (2 ^ j) % 2 ^ W) mask) p) % 2 ≡ stageAt (2 ^ j) (digit t) p
       go (yes e) =
           rw (eq-eqb (digit p j) 1 e)
-          (omega (arith, and-keep (t * 2 ^ (2 ^ j) % 2 ^ W) mask p (right p h ∙ e), shift-digit t (2 ^ j) W p (behind p (2 ^ j) e) h))
+          (omega (arith, and-keep (t * 2 ^ (2 ^ j) % 2 ^ W) mask p (masked p h ∙ e), shift-digit t (2 ^ j) W p (behind p (2 ^ j) e) h))
       go (no n) =
           rw (ne-eqb (digit p j) 1 n)
-          (omega (arith, and-clear (t * 2 ^ (2 ^ j) % 2 ^ W) mask p (omega (arith, right p h, n))))
+          (omega (arith, and-clear (t * 2 ^ (2 ^ j) % 2 ^ W) mask p (omega (arith, masked p h, n))))
 
   pub stage-more : (f : ℕ → ℕ) → ((p : ℕ) → p < W → digit t p ≡ stages j f p) → (p : ℕ) → p < W → digit staged p ≡ stages (suc j) f p
   unfolding stages
@@ -141,13 +144,13 @@ digit-words-right : digit-words ≡ table 6 (λ j. number 64 (λ p. digit p j))
 unfolding table sumTo
 digit-words-right = refl
 
-pub digit-word : (j p : ℕ) → j < 6 → p < 64 → digit (getD digit-words j 0) p ≡ digit p j
-digit-word j p hj hp =
-    ap (λ (x : ℕ). digit x p) (ap (λ (xs : List ℕ). getD xs j 0) digit-words-right ∙ table-at (λ j. number 64 (λ p. digit p j)) 6 j hj)
-    ∙ number-bit (λ p. digit p j) 64 (λ p l. digit-small p j) p hp
+pub digit-word : (j : ℕ) → j < 6 → getD digit-words j 0 ≡ number 64 (λ p. digit p j)
+digit-word j hj = ap (λ (xs : List ℕ). getD xs j 0) digit-words-right ∙ table-at (λ j. number 64 (λ p. digit p j)) 6 j hj
 
 -- six stages, read at the masks of a word of at most 64 positions
-pub all-stages : (t : ℕ) (f : ℕ → ℕ) → ((p : ℕ) → p < 64 → digit t p ≡ stages 6 f p) → (m S : ℕ) → m ≤ 6 → S < 2 ^ m → digit t S ≡ backwards m f S
-all-stages t f so m S h l =
+pub all-stages : (t : ℕ) (f : ℕ → ℕ) → ((p : ℕ) → p < 64 → digit t p ≡ stages 6 f p) → (m : ℕ) → m ≤ 6
+    → number (2 ^ m) (digit t) ≡ number (2 ^ m) (backwards m f)
+all-stages t f so m h =
+    number-ext (2 ^ m) (λ S l.
     let u : S < 64 = omega (arith, pow-mono h) in
-    omega (arith, so S u, stages-transform 6 f S u, backwards-longer m 6 h f S l)
+    omega (arith, so S u, stages-transform 6 f S u, backwards-longer m 6 h f S l))

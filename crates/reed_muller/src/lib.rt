@@ -1,13 +1,13 @@
-// Level codes: the order of masks, codewords of RM(r,m) and the way back, and the bits of a message's bytes.
-// A word is a lent slice of 2 ^ m bytes; where it is only read, bytes past these do not count. `Tabled m`: length 2 ^ m has a table of masks.
-// The work is done on numbers that hold a whole word, message or transform: bit p is the value at p, bit k message bit k, bit S the bit of mask S.
+// Level codes RM(r,m): the order of the masks, the codeword of a message, and from a word the message and whether the word belongs.
+// The work is done on numbers that hold a whole word, message or transform: bit p is the value at p, bit k message bit k, bit S the bit of mask S;
+// no bit is set past the last one. `Tabled m`: length 2 ^ m has its tables of masks, places and dimensions.
 ghost use mathlib.Core.Path.{_≡_};
 ghost use Prim.Native.Nat.{ℕ, _+_, _*_, _/_, _%_, _^_, _<_, _≤_};
-ghost use lib.Dec.{eqb, leb, ltb};
+ghost use lib.Dec.{ltb};
 ghost use lib.ListN.{length, getD};
-ghost use Rattle.bits.specs.Number.{pick, given, table};
-ghost use Rattle.reed_muller.specs.Level.{weight, order, place, dimension, codeword, backwards, clearAbove, belongs, Tabled};
+ghost use Rattle.bits.specs.Number.{given, number};
 ghost use Rattle.bits.specs.Message.{messageBit, bytesOf, withBits};
+ghost use Rattle.reed_muller.specs.Level.{weight, order, place, dimension, codeword, backwards, clearAbove, Tabled};
 
 // The masks of each length by number of set bits, then by value.
 const ORDER_8: [u8; 8] = [0, 1, 2, 4, 3, 5, 6, 7];
@@ -50,11 +50,11 @@ const ORDER_32: [u8; 32] = [
 ];
 
 // The place of each mask in the order.
-const PLACE_8: [usize; 8] = [0, 1, 2, 4, 3, 5, 6, 7];
+const PLACE_8: [u8; 8] = [0, 1, 2, 4, 3, 5, 6, 7];
 
-const PLACE_16: [usize; 16] = [0, 1, 2, 5, 3, 6, 7, 11, 4, 8, 9, 12, 10, 13, 14, 15];
+const PLACE_16: [u8; 16] = [0, 1, 2, 5, 3, 6, 7, 11, 4, 8, 9, 12, 10, 13, 14, 15];
 
-const PLACE_32: [usize; 32] = [
+const PLACE_32: [u8; 32] = [
     0,
     1,
     2,
@@ -160,7 +160,8 @@ pub fn positions(m: usize) -> usize
     1 << m
 }
 
-// The value at p of the codeword of RM(r,m) of the message bits from bit `from` on.
+// The value at p of the codeword of RM(r,m) of the message bits from bit `from` on, by document 01's mask test at this position alone.
+// Sending does not call it: it is the old way that request E3 compares with.
 pub fn value_at(message: &[u8], from: usize, m: usize, r: usize, p: usize) -> u8
     requires { ⌜ Tabled m × (r ≤ m) × (from ≤ 1000) × (from + dimension r m ≤ 8 * length (now message)) ⌝ }
     ensures { λ v. ⌜ v ≡ codeword r m (λ k. messageBit (now (message .entry)) (from + k)) p ⌝ }
@@ -178,17 +179,41 @@ pub fn value_at(message: &[u8], from: usize, m: usize, r: usize, p: usize) -> u8
     s
 }
 
+// The bits at the first `count` of the places: bit i is the bit at place i of the list.
+fn gathered(bits: u64, places: &[u8], count: usize) -> u64
+    requires { ⌜ (count ≤ 64) × (count ≤ length (now places)) × ((i : ℕ) → i < count → getD (now places) i 0 < 64) ⌝ }
+    ensures { λ b. ⌜ b ≡ number count (λ i. bits / 2 ^ getD (now (places .entry)) i 0 % 2) ⌝ }
+{
+    let mut b: u64 = 0;
+    let mut i = count;
+    while 0 < i {
+        i -= 1;
+        b = 2 * b + (bits >> places[i]) % 2;
+    }
+    b
+}
+
+// The first n bits alone.
+fn low_bits(w: u64, n: usize) -> u64
+    requires { ⌜ (1 ≤ n) × (n ≤ 64) ⌝ }
+    ensures { λ b. ⌜ b ≡ number n (λ p. w / 2 ^ p % 2) ⌝ }
+{
+    let s = 64 - n;
+    (w << s) >> s
+}
+
 // The positions with digit j set.
 fn with_digit(j: usize) -> u64
     requires { ⌜ j < 6 ⌝ }
-    ensures { λ s. ⌜ ((p : ℕ) → p < 64 → s / 2 ^ p % 2 ≡ p / 2 ^ j % 2) ⌝ }
+    ensures { λ s. ⌜ s ≡ number 64 (λ p. p / 2 ^ j % 2) ⌝ }
 {
     DIGIT[j]
 }
 
-// Backwards, all masks at once, of a word held in a number: stage j adds to each value with digit j set the one without it.
-pub fn transformed(w: u64) -> u64
-    ensures { λ t. ⌜ ((m S : ℕ) → m ≤ 6 → S < 2 ^ m → t / 2 ^ S % 2 ≡ backwards m (λ p. w / 2 ^ p % 2) S) ⌝ }
+// Backwards, all masks at once, of a word: stage j adds to each value with digit j set the one without it.
+pub fn transformed(w: u64, m: usize) -> u64
+    requires { ⌜ m ≤ 6 ⌝ }
+    ensures { λ t. ⌜ t ≡ number (2 ^ m) (backwards m (λ p. w / 2 ^ p % 2)) ⌝ }
 {
     let mut t = w;
     let mut j: usize = 0;
@@ -196,55 +221,40 @@ pub fn transformed(w: u64) -> u64
         t = t ^ ((t << (1usize << j)) & with_digit(j));
         j += 1;
     }
-    t
+    low_bits(t, 1usize << m)
 }
 
-// Message bits held in a number, each at its mask.
-fn coefficients(bits: u64, m: usize, r: usize, masks: &[u8]) -> u64
-    requires { ⌜ Tabled m × (r ≤ m) × (now masks ≡ order m) ⌝ }
-    ensures { λ w. ⌜ ((S : ℕ) → S < 2 ^ m → w / 2 ^ S % 2 ≡ given (leb (weight S) r) (bits / 2 ^ place (order m) S % 2)) ⌝ }
-{
-    let count = dimension_of(m, r);
-    let mut w: u64 = 0;
-    let mut k: usize = 0;
-    while k < count {
-        w = w ^ (((bits >> k) % 2) << masks[k]);
-        k += 1;
-    }
-    w
-}
-
-// The codeword of RM(r,m) of message bits held in a number, itself held in a number.
-fn codeword_by(bits: u64, m: usize, r: usize, masks: &[u8]) -> u64
-    requires { ⌜ Tabled m × (r ≤ m) × (now masks ≡ order m) ⌝ }
-    ensures { λ w. ⌜ ((p : ℕ) → p < 2 ^ m → w / 2 ^ p % 2 ≡ codeword r m (λ k. bits / 2 ^ k % 2) p) ⌝ }
-{
-    transformed(coefficients(bits, m, r, masks))
-}
-
-// The same, by the table of masks of its length.
-pub fn codeword_held(bits: u64, m: usize, r: usize) -> u64
-    requires { ⌜ Tabled m × (r ≤ m) ⌝ }
-    ensures { λ w. ⌜ ((p : ℕ) → p < 2 ^ m → w / 2 ^ p % 2 ≡ codeword r m (λ k. bits / 2 ^ k % 2) p) ⌝ }
+// Message bits, each at its mask.
+fn coefficients(bits: u64, m: usize) -> u64
+    requires { ⌜ Tabled m ⌝ }
+    ensures { λ w. ⌜ w ≡ number (2 ^ m) (λ S. bits / 2 ^ place (order m) S % 2) ⌝ }
 {
     if m == 3 {
-        return codeword_by(bits, m, r, &ORDER_8);
+        return gathered(bits, &PLACE_8, 8);
     }
     if m == 4 {
-        return codeword_by(bits, m, r, &ORDER_16);
+        return gathered(bits, &PLACE_16, 16);
     }
-    codeword_by(bits, m, r, &ORDER_32)
+    gathered(bits, &PLACE_32, 32)
+}
+
+// The codeword of RM(r,m) of message bits.
+pub fn codeword_held(bits: u64, m: usize, r: usize) -> u64
+    requires { ⌜ Tabled m × (r ≤ m) × (bits < 2 ^ dimension r m) ⌝ }
+    ensures { λ w. ⌜ w ≡ number (2 ^ m) (codeword r m (λ k. bits / 2 ^ k % 2)) ⌝ }
+{
+    transformed(coefficients(bits, m), m)
 }
 
 // The masks with more than r bits set.
 fn heavy(r: usize) -> u64
     requires { ⌜ r < 7 ⌝ }
-    ensures { λ h. ⌜ ((S : ℕ) → S < 64 → h / 2 ^ S % 2 ≡ given (ltb r (weight S)) 1) ⌝ }
+    ensures { λ h. ⌜ h ≡ number 64 (λ S. given (ltb r (weight S)) 1) ⌝ }
 {
     HEAVY[r]
 }
 
-// Whether the bits of the masks, held in a number, are 0 for every mask with more than r bits set.
+// Whether the bits of the masks are 0 for every mask with more than r bits set.
 pub fn clear_above(bits: u64, m: usize, r: usize) -> bool
     requires { ⌜ Tabled m × (r ≤ m) ⌝ }
     ensures { λ b. ⌜ b ≡ clearAbove r (λ S. bits / 2 ^ S % 2) (2 ^ m) ⌝ }
@@ -253,44 +263,28 @@ pub fn clear_above(bits: u64, m: usize, r: usize) -> bool
     heavies << (64 - positions(m)) == 0
 }
 
-// The bits of the masks of RM(r,m) in their order, held in a number.
-fn in_order(bits: u64, m: usize, r: usize, masks: &[u8]) -> u64
-    requires { ⌜ Tabled m × (r ≤ m) × (now masks ≡ order m) ⌝ }
-    ensures { λ b. ⌜ ((k : ℕ) → k < dimension r m → b / 2 ^ k % 2 ≡ bits / 2 ^ getD (order m) k 0 % 2) ⌝ }
+// The message bits of RM(r,m), given the bits of the masks: message bit k is the bit of mask k of the order.
+pub fn message_held(bits: u64, m: usize, r: usize) -> u64
+    requires { ⌜ Tabled m × (r ≤ m) ⌝ }
+    ensures { λ b. ⌜ b ≡ number (dimension r m) (λ k. bits / 2 ^ getD (order m) k 0 % 2) ⌝ }
 {
-    let mut b: u64 = 0;
-    let mut k = dimension_of(m, r);
-    while 0 < k {
-        k -= 1;
-        b = 2 * b + (bits >> masks[k]) % 2;
+    let count = dimension_of(m, r);
+    if m == 3 {
+        return gathered(bits, &ORDER_8, count);
     }
-    b
+    if m == 4 {
+        return gathered(bits, &ORDER_16, count);
+    }
+    gathered(bits, &ORDER_32, count)
 }
 
-// Puts the bits of the masks in their order into `out` from bit `from` on, by the table of masks of their length.
-fn put_by(bits: u64, m: usize, r: usize, masks: &[u8], out: &mut [u8], from: usize)
-    requires { ⌜ Tabled m × (r ≤ m) × (from ≤ 1000) × (from + dimension r m ≤ 8 * length (now out)) × (now masks ≡ order m) ⌝ }
+// Writes the message bits into `out` from bit `from` on, given the bits of the masks, and leaves every other bit as it was.
+pub fn put_message(bits: u64, m: usize, r: usize, out: &mut [u8], from: usize)
+    requires { ⌜ Tabled m × (r ≤ m) × (from % 8 + dimension r m ≤ 64) × (from + dimension r m ≤ 8 * length (now out)) ⌝ }
     ensures { λ _. ⌜ now (out .exit) ≡ bytesOf (length (now (out .entry)))
         (withBits from (dimension r m) (λ k. bits / 2 ^ getD (order m) k 0 % 2) (messageBit (now (out .entry)))) ⌝ }
 {
     let count = dimension_of(m, r);
-    let message = in_order(bits, m, r, masks);
+    let message = message_held(bits, m, r);
     bits::put_bits(message, count, out, from);
-}
-
-// Writes the message bits of a level into `out` from bit `from` on, given the bits of its masks held in a number, and leaves every other bit as it was.
-pub fn put_message(bits: u64, m: usize, r: usize, out: &mut [u8], from: usize)
-    requires { ⌜ Tabled m × (r ≤ m) × (from ≤ 1000) × (from + dimension r m ≤ 8 * length (now out)) ⌝ }
-    ensures { λ _. ⌜ now (out .exit) ≡ bytesOf (length (now (out .entry)))
-        (withBits from (dimension r m) (λ k. bits / 2 ^ getD (order m) k 0 % 2) (messageBit (now (out .entry)))) ⌝ }
-{
-    if m == 3 {
-        put_by(bits, m, r, &ORDER_8, out, from);
-        return;
-    }
-    if m == 4 {
-        put_by(bits, m, r, &ORDER_16, out, from);
-        return;
-    }
-    put_by(bits, m, r, &ORDER_32, out, from);
 }

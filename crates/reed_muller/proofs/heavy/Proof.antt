@@ -11,7 +11,7 @@ array-read-result : tie.Need-array-read-result
 array-read-result c = search needs
 
 returns : tie.Need-returns
-returns c = λ S h. heavy-word (c .args .r) S (search needs) h
+returns c = heavy-word (c .args .r) (search needs)
 
 pub heavy-spec : {M : Type 1} → statement M
 heavy-spec = tie.close (tie.spec mul-result array-read-result returns)

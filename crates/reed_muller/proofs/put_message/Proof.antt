@@ -1,62 +1,46 @@
--- `put_message`: the bits put by the table of each length. Assumes nothing.
+-- `put_message`: the message bits put in a row. Assumes nothing.
+use Prim.Native.Nat.{ℕ, _+_, _*_, _%_, _≤_}
+use mathlib.Core.Path.{_≡_, ap, _∙_}
+use native.Mathlib.Omega.{arith}
+use lib.ListN.{length, getD}
 use borrow.Author.Needs.{needs}
-use Rattle.reed_muller.proofs.MaskTables.{right-8, right-16, right-32, order-entry, last}
+use Rattle.bits.specs.Message.{messageBit, bytesOf, withBits}
+use Rattle.bits.proofs.Digits.{digit, digit-small}
+use Rattle.bits.proofs.Bytewise.{put-number}
+use Rattle.reed_muller.specs.Level.{order, dimension}
+use Rattle.reed_muller.proofs.MaskTables.{few-bits}
 use Rattle.reed_muller.proofs.put_message.Statement.{statement}
 use Rattle.reed_muller.proofs.put_message.Tie as tie
 
-slice-aggregate-put-by : tie.Need-slice-aggregate-put-by
-slice-aggregate-put-by c = search needs
+dimension-of-requires : tie.Need-dimension-of-requires
+dimension-of-requires c κs = search needs
 
-put-by-requires : tie.Need-put-by-requires
-put-by-requires c κs =
-    let start = c .before .before .before .before in (start .pre .0, start .pre .1, start .pre .2, start .pre .3, order-entry (c .before .before .if1 .taken) right-8)
+message-held-requires : tie.Need-message-held-requires
+message-held-requires c κs = search needs
+
+put-bits-requires : tie.Need-put-bits-requires
+put-bits-requires c κs =
+    let start = c .before .before .before .before in
+    let count = c .before .before .dimension-of in
+    let few : count .result ≤ 63 = omega (arith, count .ensures, few-bits (start .pre .0) (start .pre .1)) in
+    let eight : start .args .from % 8 + count .result ≤ 64 = omega (arith, count .ensures, start .pre .2) in
+    let room : start .args .from + count .result ≤ 8 * length (start .args .out .now) = omega (arith, count .ensures, start .pre .3) in
+    (few, eight, room)
 
 same-length : tie.Need-same-length
 same-length c = search needs
 
 returns : tie.Need-returns
-returns c = search needs
-
-slice-aggregate-put-by-2 : tie.Need-slice-aggregate-put-by-2
-slice-aggregate-put-by-2 c = search needs
-
-put-by-requires-2 : tie.Need-put-by-requires-2
-put-by-requires-2 c κs =
-    let start = c .before .before .before .before .before in (start .pre .0, start .pre .1, start .pre .2, start .pre .3, order-entry (c .before .before .if2 .taken) right-16)
-
-same-length-2 : tie.Need-same-length-2
-same-length-2 c = search needs
-
-returns-2 : tie.Need-returns-2
-returns-2 c = search needs
-
-slice-aggregate-put-by-3 : tie.Need-slice-aggregate-put-by-3
-slice-aggregate-put-by-3 c = search needs
-
-put-by-requires-3 : tie.Need-put-by-requires-3
-put-by-requires-3 c κs =
-    let start = c .before .before .before .before .before in
-    (start .pre .0, start .pre .1, start .pre .2, start .pre .3, order-entry (last (start .pre .0) (c .before .before .before .if1 .left) (c .before .before .if2 .left)) right-32)
-
-same-length-3 : tie.Need-same-length-3
-same-length-3 c = search needs
-
-returns-3 : tie.Need-returns-3
-returns-3 c = search needs
+returns c =
+    let put = c .before .before .put-bits in
+    let read = c .before .before .before .before in
+    let args = read .before .before .before .args in
+    let out = args .out .now in
+    let message = read .message-held in
+    put .ensures
+    ∙ ap (λ (n : ℕ). bytesOf (length out) (withBits (args .from) n (digit (message .result)) (messageBit out))) (read .before .dimension-of .ensures)
+    ∙ put-number (length out) (args .from) (dimension (args .r) (args .m)) (message .ensures)
+    (λ k l. digit-small (args .bits) (getD (order (args .m)) k 0)) (messageBit out)
 
 pub put-message-spec : {M : Type 1} → statement M
-put-message-spec =
-    tie.close
-    (tie.spec
-    slice-aggregate-put-by
-    put-by-requires
-    same-length
-    returns
-    slice-aggregate-put-by-2
-    put-by-requires-2
-    same-length-2
-    returns-2
-    slice-aggregate-put-by-3
-    put-by-requires-3
-    same-length-3
-    returns-3)
+put-message-spec = tie.close (tie.spec dimension-of-requires message-held-requires put-bits-requires same-length returns)

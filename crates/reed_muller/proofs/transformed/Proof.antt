@@ -3,18 +3,23 @@ use Prim.Native.Nat.{ℕ, _-_, _*_, _%_, _^_, _≤_, _<_}
 use mathlib.Core.Path.{_≡_, refl, ap, _∙_}
 use native.Mathlib.Numerals.{add-one}
 use native.Mathlib.Omega.{arith}
-use lib.Pow.{pow-mono}
-use Rattle.bits.proofs.Digits.{digit}
+use lib.Pow.{pow-pos, pow-mono}
+use Rattle.bits.specs.Number.{number}
+use Rattle.bits.proofs.Digits.{digit, one-shifted}
 use Rattle.reed_muller.proofs.Stages.{stages, stage-more, all-stages}
 use Rattle.reed_muller.proofs.transformed.Statement.{statement}
 use Rattle.reed_muller.proofs.transformed.Tie as tie
 
+-- the length that the code computes
+length-is : (m : ℕ) → m ≤ 6 → 1 * 2 ^ m % 2 ^ 64 ≡ 2 ^ m
+length-is m h = one-shifted m 64 (omega arith)
+
 abbrev Inv-loop : tie.InvT-loop
-Inv-loop w t₀ j₀ t j =
+Inv-loop w m t₀ j₀ t j =
     (j ≤ 6) × ((p : ℕ) → p < 64 → digit t p ≡ stages j (digit w) p)
 
 abbrev μ-loop : tie.MeasureT-loop
-μ-loop w t₀ j₀ t j = 6 - j
+μ-loop w m t₀ j₀ t j = 6 - j
 
 loop-holds : tie.Need-loop-holds Inv-loop μ-loop
 unfolding stages
@@ -41,18 +46,28 @@ loop-again : tie.Need-loop-again Inv-loop μ-loop
 loop-again c =
     let at = c .before .before in
     let f : ℕ → ℕ = digit (at .before .args .w) in
-    let one : 1 * 2 ^ at .loop .j % 2 ^ 64 ≡ 2 ^ at .loop .j = omega (arith, pow-mono {i = at .loop .j} {j = 5} (omega arith)) in (
+    let one : 1 * 2 ^ at .loop .j % 2 ^ 64 ≡ 2 ^ at .loop .j = length-is (at .loop .j) (omega arith) in (
       omega arith,
       λ p h.
           rw (one, add-one) (stage-more 64 (at .loop .j) (c .with-digit .result) (at .loop .t) (c .with-digit .ensures) f (at .loop .inv .1) p h),
     )
 
+shl-low-bits : tie.Need-shl-low-bits Inv-loop μ-loop
+shl-low-bits c = omega arith
+
+low-bits-requires : tie.Need-low-bits-requires Inv-loop μ-loop
+low-bits-requires c κs =
+    let m : ℕ = c .before .before .args .m in omega (arith, length-is m (c .before .before .pre), pow-pos m, pow-mono {i = m} {j = 6} (c .before .before .pre))
+
 returns : tie.Need-returns Inv-loop μ-loop
 returns c =
-    let at = c .before in
-    let f : ℕ → ℕ = digit (at .before .args .w) in
+    let at = c .before .before in
+    let start = at .before in
+    let f : ℕ → ℕ = digit (start .args .w) in
     let e : at .loop .j ≡ 6 = omega arith in
-    all-stages (at .loop .t) f (λ p h. at .loop .inv .1 p h ∙ ap (λ (j : ℕ). stages j f p) e)
+    c .low-bits .ensures
+    ∙ ap (λ (n : ℕ). number n (digit (at .loop .t))) (length-is (start .args .m) (start .pre))
+    ∙ all-stages (at .loop .t) f (λ p h. at .loop .inv .1 p h ∙ ap (λ (j : ℕ). stages j f p) e) (start .args .m) (start .pre)
 
 pub transformed-spec : {M : Type 1} → statement M
 transformed-spec =
@@ -67,4 +82,6 @@ transformed-spec =
     add-j
     loop-less
     loop-again
+    shl-low-bits
+    low-bits-requires
     returns)

@@ -11,7 +11,7 @@ array-read-result : tie.Need-array-read-result
 array-read-result c = search needs
 
 returns : tie.Need-returns
-returns c = λ p h. digit-word (c .args .j) p (search needs) h
+returns c = digit-word (c .args .j) (search needs)
 
 pub with-digit-spec : {M : Type 1} → statement M
 with-digit-spec = tie.close (tie.spec mul-result array-read-result returns)
