@@ -88,9 +88,3 @@ unfolding leastFrame sameFrame
 least-all H n j f l h =
     let e : n - j ≡ 0 = omega arith in
     rw (e, drop-of-length-le f {i = 8 * j} (omega arith))
-
--- ---- parts of a frame
-
--- the part 8j to 8j + 8 of a frame, as the code hands it on, is block j
-pub part-is : (j : ℕ) (f : List ℤ) → take (8 * j + 8 - 8 * j) (drop (8 * j) f) ≡ part j f
-part-is j f = let e : 8 * j + 8 - 8 * j ≡ 8 = omega arith in ap (λ (m : ℕ). take m (drop (8 * j) f)) e
