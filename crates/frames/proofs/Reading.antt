@@ -20,12 +20,12 @@ use Rattle.frames.specs.Message.{Bytes, Message, leader}
 use Rattle.frames.specs.Frame.{InCodingSet, half, SameClass, sentFrame}
 use Rattle.frames.specs.Sending.{unless, Accepts}
 use Rattle.frames.specs.Reading.{openMessage, sameFrame, inRange, broken, openRefusal, isSent, strictRefusal, messageAfter, energyRead}
-use Rattle.frames.specs.Demands.{OneMessage, SentFor, ReadBack}
+use Rattle.frames.specs.Demands.{FirstBroken, OneMessage, SentFor, ReadBack}
 use Rattle.frames.proofs.Rows.{grade-low}
-use Rattle.frames.proofs.Limits.{shape, few-levels, scale-64}
+use Rattle.frames.proofs.Limits.{shape, scale-64}
 use Rattle.frames.proofs.Demands.{half-pos, sent-only, sent-within, sent-in-set, read-message, leader-class, read-class, exactly-one, sent-sendable}
 use Rattle.frames.proofs.Accepted.{message-accepted}
-use Rattle.frames.proofs.Refusals.{passed, same-frame, frame-same, within-range, levels-answer, set-passes, Accepted, accepted, levels-decide}
+use Rattle.frames.proofs.Refusals.{passed, same-frame, frame-same, within-range, levels-answer, set-passes, broken-refuses, seven-or-eight, Accepted, accepted, levels-decide}
 
 module _ (k b : ℕ) (kind : isKind k ≡ true) (grade : isGrade b ≡ true) where
   low : 1 ≤ b
@@ -107,30 +107,28 @@ module _ (k b : ℕ) (kind : isKind k ≡ true) (grade : isGrade b ≡ true) whe
     pub inside-taken : InCodingSet k f → inRange f ≡ true → openRefusal k b f n ≡ 0
     inside-taken set range = levels-decide k b f n kind grade (set .long) bytes range ∙ set-passes k f set
 
-    -- one outside is refused by 7 or 8, and by no other number
-    pub outside-refused : length f ≡ 2 ^ k → inRange f ≡ true → (InCodingSet k f → ⊥) → (openRefusal k b f n ≡ 7) ⊎ (openRefusal k b f n ≡ 8)
-    outside-refused l range out = go (levels-answer k (few-levels k kind) f l)
+    -- one outside is refused by the number of the first level that is not a codeword
+    pub outside-broken : length f ≡ 2 ^ k → inRange f ≡ true → (InCodingSet k f → ⊥) → FirstBroken k f (openRefusal k b f n)
+    outside-broken l range out = subst (FirstBroken k f) (sym (levels-decide k b f n kind grade l bytes range)) (go (levels-answer k f l))
       where
-        same : openRefusal k b f n ≡ broken k 0 (degrees k) f
-        same = levels-decide k b f n kind grade l bytes range
+        go : InCodingSet k f ⊎ FirstBroken k f (broken k 0 (degrees k) f) → FirstBroken k f (broken k 0 (degrees k) f)
+        go (inl set) = absurd (out set)
+        go (inr first) = first
 
-        go : ((broken k 0 (degrees k) f ≡ 0) × InCodingSet k f) ⊎ ((broken k 0 (degrees k) f ≡ 7) ⊎ (broken k 0 (degrees k) f ≡ 8))
-            → (openRefusal k b f n ≡ 7) ⊎ (openRefusal k b f n ≡ 8)
-        go (inl a) = absurd (out (a .1))
-        go (inr (inl e)) = inl (same ∙ e)
-        go (inr (inr e)) = inr (same ∙ e)
+    -- which is 7 or 8, and no other
+    pub outside-refused : length f ≡ 2 ^ k → inRange f ≡ true → (InCodingSet k f → ⊥) → (openRefusal k b f n ≡ 7) ⊎ (openRefusal k b f n ≡ 8)
+    outside-refused l range out = seven-or-eight k f (openRefusal k b f n) kind (outside-broken l range out)
 
 -- a frame that the open reading takes is of the coding set
 pub taken-in-set : (k b : ℕ) (f : List ℤ) (n : ℕ) → openRefusal k b f n ≡ 0 → InCodingSet k f
-taken-in-set k b f n e = go (levels-answer k (few-levels k (a .kind)) f (a .coordinates))
+taken-in-set k b f n e = go (levels-answer k f (a .coordinates))
   where
     a : Accepted k b f n
     a = accepted k b f n e
 
-    go : ((broken k 0 (degrees k) f ≡ 0) × InCodingSet k f) ⊎ ((broken k 0 (degrees k) f ≡ 7) ⊎ (broken k 0 (degrees k) f ≡ 8)) → InCodingSet k f
-    go (inl t) = t .1
-    go (inr (inl t)) = absurd (omega (arith, t, a .words))
-    go (inr (inr t)) = absurd (omega (arith, t, a .words))
+    go : InCodingSet k f ⊎ FirstBroken k f (broken k 0 (degrees k) f) → InCodingSet k f
+    go (inl set) = set
+    go (inr first) = absurd (omega (arith, broken-refuses k f (broken k 0 (degrees k) f) (a .kind) first, a .words))
 
 -- ---- the strict reading
 
