@@ -1,4 +1,4 @@
--- What document 01 prints, to be met by the definitions: its table of kinds and its exam frames. Assumes nothing.
+-- What document 01 prints, to be met by the definitions: its table of kinds, its exam frames and the further cases. Assumes nothing.
 use Prim.Native.Nat.{ℕ, _+_, _*_, _^_}
 use mathlib.Core.Path.{_≡_}
 use mathlib.Core.List.{List, [], _∷_}
@@ -8,6 +8,8 @@ use Rattle.e8.specs.Energy.{energy}
 use Rattle.e8.specs.Rows.{ints}
 use Rattle.frames.specs.Kind.{degrees, levels, messageBits, messageBytes}
 use Rattle.frames.specs.Frame.{sentFrame}
+use Rattle.frames.specs.Sending.{sendRefusal}
+use Rattle.frames.specs.Reading.{openMessage, openRefusal, strictRefusal}
 
 -- ---- the table of kinds
 
@@ -77,3 +79,18 @@ sentAs e = (sentFrame (e .kind) (e .grade) (e .message), energy (sentFrame (e .k
 
 abbrev pub examined : Exam → List ℤ × ℕ
 examined e = (e .frame, e .energy)
+
+-- ---- further cases
+
+-- document 01, "Exam frames", after the table; and kind 4's frame 2 0 .. 0, whose level 1 alone is broken
+pub record FurtherCases : Type 0 where
+  pub all-2-openly : openRefusal 4 1 (replicate 16 (pos 2)) 5 ≡ 0
+  pub all-2-message : openMessage 4 1 (replicate 16 (pos 2)) ≡ 32 ∷ replicate 4 0
+  pub all-2-strictly : strictRefusal 4 1 (replicate 16 (pos 2)) 5 ≡ 9
+  pub broken-level-0 : openRefusal 3 1 (pos 1 ∷ replicate 7 (pos 0)) 2 ≡ 7
+  pub broken-level-1 : openRefusal 4 1 (pos 2 ∷ replicate 15 (pos 0)) 5 ≡ 8
+  pub spare-bit : sendRefusal 3 1 (0 ∷ 16 ∷ []) 8 ≡ 5
+  pub largest : openRefusal 3 1 (pos 1048576 ∷ replicate 7 (pos 0)) 2 ≡ 0
+  pub past-largest : openRefusal 3 1 (pos 1048577 ∷ replicate 7 (pos 0)) 2 ≡ 6
+  pub least : openRefusal 3 1 (minus 1048576 ∷ replicate 7 (pos 0)) 2 ≡ 0
+  pub past-least : openRefusal 3 1 (minus 1048577 ∷ replicate 7 (pos 0)) 2 ≡ 6
