@@ -47,9 +47,9 @@ exam-frames = refl
 
 pub further-cases : FurtherCases
 unfolding openRefusal strictRefusal isSent sameFrame openMessage readBits levelMessages levelMessage blockMessages quotients allDigits digits inRange isWithin broken weightBit
-  isKind isGrade sendRefusal spareSet anySet messageBytes messageBits
-  sentFrame half leastFrame leastBlock best better cent before energy sq leader coordinate stacked blockNumbers numbers degrees kinds levels levelBits sumTo
-  codeword order dimension masks ofWeight table messageBit bytesOf byteOf backwards belongs clearAbove reduced ones
+    isKind isGrade sendRefusal spareSet anySet messageBytes messageBits
+    sentFrame half leastFrame leastBlock best better cent before energy sq leader coordinate stacked blockNumbers numbers degrees kinds levels levelBits sumTo
+    codeword order dimension masks ofWeight table messageBit bytesOf byteOf backwards belongs clearAbove reduced ones
 further-cases = record {
   all-2-openly = refl;
   all-2-message = refl;
