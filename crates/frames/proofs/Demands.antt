@@ -71,7 +71,9 @@ module _ (k b : ℕ) (kind : isKind k ≡ true) (grade : 1 ≤ b) where
   -- every coordinate of it is at most M in size
   pub sent-within : (bytes : List ℕ) → Within (scale k b) (sentFrame k b bytes)
   unfolding sentFrame
-  sent-within bytes = subst (λ (m : ℕ). Within m (sentFrame k b bytes)) (sym scale-half) (leastFrame-within (half k b) (half-pos k b) (blocks k) (leader k b bytes))
+  sent-within bytes =
+      subst (λ (m : ℕ). Within m (sentFrame k b bytes)) (sym scale-half)
+      (leastFrame-within (half k b) (half-pos k b) (blocks k) (leader k b bytes))
     where
       above : Above b
       above = grade-above b grade
@@ -96,7 +98,8 @@ unfolding levels
 in-coding-set k c kind bytes = record {
   long = sent-length k (suc c) kind (omega arith) bytes;
   codewords = of-codes k (degrees k) (sentFrame k (suc c) bytes)
-      (class-codes k c (shape k kind) (leader k (suc c) bytes) (sentFrame k (suc c) bytes) (leader-length k (suc c) bytes) (sent-frame k (suc c) kind (omega arith) bytes .member)
+      (class-codes k c (shape k kind) (leader k (suc c) bytes) (sentFrame k (suc c) bytes) (leader-length k (suc c) bytes)
+      (sent-frame k (suc c) kind (omega arith) bytes .member)
       (leader-codes k (suc c) (shape k kind) bytes));
 }
 
@@ -123,12 +126,15 @@ module _ (k b : ℕ) (kind : isKind k ≡ true) (grade : isGrade b ≡ true) whe
   pub read-class : (f : List ℤ) → InCodingSet k f → SameClass k b (sentFrame k b (openMessage k b f)) f
   read-class f set =
       differ-trans (half k b) (blocks k) (sentFrame k b (openMessage k b f)) (leader k b (openMessage k b f)) f
-      (differ-sym (half k b) (blocks k) (leader k b (openMessage k b f)) (sentFrame k b (openMessage k b f)) (sent-frame k b kind low (openMessage k b f) .member))
+      (differ-sym (half k b) (blocks k) (leader k b (openMessage k b f)) (sentFrame k b (openMessage k b f))
+      (sent-frame k b kind low (openMessage k b f) .member))
       (differ-sym (half k b) (blocks k) f (leader k b (openMessage k b f)) (leader-class f set))
 
   -- messages whose leaders differ by a lattice point are the same
   same-leaders : (x y : List ℕ) → Message k b x → Message k b y → SameClass k b (leader k b x) (leader k b y) → x ≡ y
-  same-leaders = subst (λ (d : ℕ). (x y : List ℕ) → Message k d x → Message k d y → SameClass k d (leader k d x) (leader k d y) → x ≡ y) (sym (above .is)) (one-message k (above .less) (shape k kind))
+  same-leaders =
+      subst (λ (d : ℕ). (x y : List ℕ) → Message k d x → Message k d y → SameClass k d (leader k d x) (leader k d y) → x ≡ y) (sym (above .is))
+      (one-message k (above .less) (shape k kind))
 
   -- "Each coding-set frame differs so from the sent frame of exactly one message at each grade"
   pub exactly-one : (f : List ℤ) → InCodingSet k f → OneMessage k b f

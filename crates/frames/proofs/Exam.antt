@@ -16,7 +16,8 @@ use Rattle.frames.specs.Kind.{kinds, isKind, isGrade, degrees, levels, l
 use Rattle.frames.specs.Message.{numbers, blockNumbers, stacked, coordinate, leader}
 use Rattle.frames.specs.Frame.{weightBit, half, sentFrame}
 use Rattle.frames.specs.Sending.{anySet, spareSet, sendRefusal}
-use Rattle.frames.specs.Reading.{levelMessage, levelMessages, quotients, digits, allDigits, blockMessages, readBits, openMessage, sameFrame, inRange, broken, openRefusal, isSent, strictRefusal}
+use Rattle.frames.specs.Reading.{levelMessage, levelMessages, quotients, digits, allDigits, blockMessages, readBits, openMessage}
+use Rattle.frames.specs.Reading.{sameFrame, inRange, broken, openRefusal, isSent, strictRefusal}
 use Rattle.frames.specs.Exam.{Printed, printed, AsPrinted, exams, sentAs, examined, FurtherCases}
 
 -- the kinds are those printed
@@ -41,15 +42,15 @@ printed-rows = (
 
 -- each message is sent as its frame, with its energy
 pub exam-frames : map sentAs exams ≡ map examined exams
-unfolding sentFrame half leastFrame leastBlock best better cent before energy sq leader coordinate stacked blockNumbers numbers degrees kinds levels levelBits sumTo
-    codeword order dimension masks ofWeight table messageBit ones
+unfolding sentFrame half leastFrame leastBlock best better cent before energy sq leader coordinate stacked blockNumbers numbers
+    degrees kinds levels levelBits sumTo codeword order dimension masks ofWeight table messageBit ones
 exam-frames = refl
 
 pub further-cases : FurtherCases
-unfolding openRefusal strictRefusal isSent sameFrame openMessage readBits levelMessages levelMessage blockMessages quotients allDigits digits inRange isWithin broken weightBit
-    isKind isGrade sendRefusal spareSet anySet messageBytes messageBits
-    sentFrame half leastFrame leastBlock best better cent before energy sq leader coordinate stacked blockNumbers numbers degrees kinds levels levelBits sumTo
-    codeword order dimension masks ofWeight table messageBit bytesOf byteOf backwards belongs clearAbove reduced ones
+unfolding openRefusal strictRefusal isSent sameFrame openMessage readBits levelMessages levelMessage blockMessages quotients allDigits digits
+    inRange isWithin broken weightBit isKind isGrade sendRefusal spareSet anySet messageBytes messageBits
+    sentFrame half leastFrame leastBlock best better cent before energy sq leader coordinate stacked blockNumbers numbers
+    degrees kinds levels levelBits sumTo codeword order dimension masks ofWeight table messageBit bytesOf byteOf backwards belongs clearAbove reduced ones
 further-cases = record {
   all-2-openly = refl;
   all-2-message = refl;

@@ -80,7 +80,8 @@ all-length [] ss h = refl
 all-length (w ∷ ws) [] h = absurd (omega arith)
 all-length (w ∷ ws) (s ∷ ss) h = length-append (digits w s) (allDigits ws ss) ∙ ap₂ _+_ (digits-length w s) (all-length ws ss (omega arith))
 
-pub numbers-read : (bit : ℕ → ℕ) (ws ss : List ℕ) (from : ℕ) → Fits ws ss → ((o : ℕ) → o < total ws → bit (from + o) ≡ getD (allDigits ws ss) o 0) → numbers bit from ws ≡ ss
+pub numbers-read : (bit : ℕ → ℕ) (ws ss : List ℕ) (from : ℕ) → Fits ws ss
+    → ((o : ℕ) → o < total ws → bit (from + o) ≡ getD (allDigits ws ss) o 0) → numbers bit from ws ≡ ss
 unfolding numbers allDigits
 numbers-read bit [] [] from h e = refl
 numbers-read bit [] (s ∷ ss) from h e = absurd h

@@ -25,7 +25,8 @@ use Rattle.frames.proofs.Rows.{grade-low}
 use Rattle.frames.proofs.Limits.{shape, scale-64}
 use Rattle.frames.proofs.Demands.{half-pos, sent-only, sent-within, sent-in-set, read-message, leader-class, read-class, exactly-one, sent-sendable}
 use Rattle.frames.proofs.Accepted.{message-accepted}
-use Rattle.frames.proofs.Refusals.{passed, same-frame, frame-same, within-range, levels-answer, set-passes, broken-refuses, seven-or-eight, Accepted, accepted, levels-decide}
+use Rattle.frames.proofs.Refusals.{passed, same-frame, frame-same, within-range, Accepted, accepted}
+use Rattle.frames.proofs.Refusals.{levels-decide, levels-answer, set-passes, broken-refuses, seven-or-eight}
 
 module _ (k b : ℕ) (kind : isKind k ≡ true) (grade : isGrade b ≡ true) where
   low : 1 ≤ b
@@ -50,7 +51,8 @@ module _ (k b : ℕ) (kind : isKind k ≡ true) (grade : isGrade b ≡ true) whe
   -- and the other way round
   pub same-class-same-message : (f g : List ℤ) → InCodingSet k f → InCodingSet k g → SameClass k b f g → openMessage k b f ≡ openMessage k b g
   same-class-same-message f g sf sg d =
-      one .only (openMessage k b f) (read-message k b kind grade f sf) (differ-trans (half k b) (blocks k) (sentFrame k b (openMessage k b f)) f g (read-class k b kind grade f sf) d)
+      one .only (openMessage k b f) (read-message k b kind grade f sf)
+      (differ-trans (half k b) (blocks k) (sentFrame k b (openMessage k b f)) f g (read-class k b kind grade f sf) d)
       ∙ sym (open-gives-the-one g sg)
     where
       one : OneMessage k b g
@@ -133,7 +135,8 @@ taken-in-set k b f n e = go (levels-answer k f (a .coordinates))
 -- ---- the strict reading
 
 -- past the tests of the open reading, the frame is the least member of its class, or 9
-pub strict-by-least : (k b : ℕ) (f : List ℤ) (n : ℕ) → openRefusal k b f n ≡ 0 → strictRefusal k b f n ≡ unless (sameFrame f (leastFrame (half k b) (blocks k) f)) 9 0
+pub strict-by-least : (k b : ℕ) (f : List ℤ) (n : ℕ) → openRefusal k b f n ≡ 0
+    → strictRefusal k b f n ≡ unless (sameFrame f (leastFrame (half k b) (blocks k) f)) 9 0
 unfolding strictRefusal isSent
 strict-by-least k b f n e =
     ap (λ (x : ℕ). cond (eqb x 0) (unless (sameFrame f (sentFrame k b (openMessage k b f))) 9 0) x) e
@@ -179,7 +182,8 @@ strict-takes-sent k b f n e = record {
 module _ (k b : ℕ) (kind : isKind k ≡ true) (grade : isGrade b ≡ true) (bytes : List ℕ) (m : Message k b bytes) where
   -- what is sent for a message is taken by both readings
   pub open-takes-sent : openRefusal k b (sentFrame k b bytes) (length bytes) ≡ 0
-  open-takes-sent = inside-taken k b kind grade (sentFrame k b bytes) (length bytes) (m .long) (sent-in-set k b kind grade bytes) (sent-in-range k b kind grade bytes)
+  open-takes-sent =
+      inside-taken k b kind grade (sentFrame k b bytes) (length bytes) (m .long) (sent-in-set k b kind grade bytes) (sent-in-range k b kind grade bytes)
 
   pub sent-taken-strictly : strictRefusal k b (sentFrame k b bytes) (length bytes) ≡ 0
   unfolding strictRefusal isSent
