@@ -93,14 +93,13 @@ leader-codes k b s bytes =
     none : (c n : ℕ) → pos n ≡ pos n +ℤ pos c *ℤ pos 0
     none c n = eq! (# n) (# n ⊕ # c ⊗ # 0) (omega arith)
 
-in-coding-set : (k c : ℕ) → isKind k ≡ true → (bytes : List ℕ) → InCodingSet k (sentFrame k (suc c) bytes)
+-- what differs from a leader by a lattice point, at grade c + 1, is in the coding set
+leader-in-set : (k c : ℕ) → isKind k ≡ true → (bytes : List ℕ) (f : List ℤ) → SameClass k (suc c) (leader k (suc c) bytes) f → InCodingSet k f
 unfolding levels
-in-coding-set k c kind bytes = record {
-  long = sent-length k (suc c) kind (omega arith) bytes;
-  codewords = of-codes k (degrees k) (sentFrame k (suc c) bytes)
-      (class-codes k c (shape k kind) (leader k (suc c) bytes) (sentFrame k (suc c) bytes) (leader-length k (suc c) bytes)
-      (sent-frame k (suc c) kind (omega arith) bytes .member)
-      (leader-codes k (suc c) (shape k kind) bytes));
+leader-in-set k c kind bytes f d = record {
+  long = d .long ∙ leader-length k (suc c) bytes;
+  codewords = of-codes k (degrees k) f
+      (class-codes k c (shape k kind) (leader k (suc c) bytes) f (leader-length k (suc c) bytes) d (leader-codes k (suc c) (shape k kind) bytes));
 }
 
 module _ (k b : ℕ) (kind : isKind k ≡ true) (grade : isGrade b ≡ true) where
@@ -110,9 +109,15 @@ module _ (k b : ℕ) (kind : isKind k ≡ true) (grade : isGrade b ≡ true) whe
   above : Above b
   above = grade-above b low
 
+  -- every frame that differs from a sent frame by a lattice point is in the coding set: with `exactly-one`, these are all of its frames
+  pub class-in-set : (bytes : List ℕ) (f : List ℤ) → SameClass k b (sentFrame k b bytes) f → InCodingSet k f
+  class-in-set bytes f d =
+      subst (λ (e : ℕ). SameClass k e (leader k e bytes) f → InCodingSet k f) (sym (above .is)) (leader-in-set k (above .less) kind bytes f)
+      (differ-trans (half k b) (blocks k) (leader k b bytes) (sentFrame k b bytes) f (sent-frame k b kind low bytes .member) d)
+
   -- the sent frame is in the coding set
   pub sent-in-set : (bytes : List ℕ) → InCodingSet k (sentFrame k b bytes)
-  sent-in-set bytes = subst (λ (d : ℕ). InCodingSet k (sentFrame k d bytes)) (sym (above .is)) (in-coding-set k (above .less) kind bytes)
+  sent-in-set bytes = class-in-set bytes (sentFrame k b bytes) (differ-refl (half k b) (blocks k) (sentFrame k b bytes))
 
   -- what the open reading gives is a message of the kind and grade
   pub read-message : (f : List ℤ) → InCodingSet k f → Message k b (openMessage k b f)
