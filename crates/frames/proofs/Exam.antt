@@ -35,10 +35,10 @@ grades-are = refl
 pub printed-rows : AllPrinted printed
 unfolding messageBytes messageBits levelBits levels degrees kinds dimension masks ofWeight table ones
 printed-rows = (
-  record { coordinates = refl; levels = refl; degrees = refl; bits = λ b. refl; bytes = λ b. omega arith; apart = refl },
+  record { n = refl; a = refl; codes = refl; bits = λ b. refl; bytes = λ b. omega arith; apart = refl },
   (
-    record { coordinates = refl; levels = refl; degrees = refl; bits = λ b. refl; bytes = λ b. omega arith; apart = refl },
-    (record { coordinates = refl; levels = refl; degrees = refl; bits = λ b. refl; bytes = λ b. omega arith; apart = refl }, tt),
+    record { n = refl; a = refl; codes = refl; bits = λ b. refl; bytes = λ b. omega arith; apart = refl },
+    (record { n = refl; a = refl; codes = refl; bits = λ b. refl; bytes = λ b. omega arith; apart = refl }, tt),
   ),
 )
 

@@ -20,7 +20,7 @@ pub record Sendable (k b : ℕ) (bytes : List ℕ) (n : ℕ) : Type 0 where
   pub message : Message k b bytes
   pub coordinates : n ≡ 2 ^ k
 
--- "Sending tests 1, 2, 3, 4, 5": it accepts exactly what it asks, and so what it is that a message is SENT
+-- "Sending tests 1, 2, 3, 4, 5": it accepts exactly what it asks
 pub record AcceptedExactly (k b : ℕ) (bytes : List ℕ) (n : ℕ) : Type 0 where
   pub sendable : sendRefusal k b bytes n ≡ 0 → Sendable k b bytes n
   pub accepted : Sendable k b bytes n → sendRefusal k b bytes n ≡ 0

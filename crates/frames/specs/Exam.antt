@@ -17,9 +17,9 @@ use Rattle.frames.specs.Reading.{openMessage, openRefusal, strictRefusal
 -- and the squared distance that demand 3 says of the kind
 pub record Printed : Type 0 where
   pub kind : ℕ
-  pub coordinates : ℕ
-  pub levels : ℕ
-  pub degrees : List ℕ
+  pub n : ℕ
+  pub a : ℕ
+  pub codes : List ℕ
   pub bits : ℕ → ℕ
   pub bytes : ℕ → ℕ
   pub apart : ℕ
@@ -27,16 +27,16 @@ pub record Printed : Type 0 where
 -- document 01, "Kinds and grades"
 abbrev pub printed : List Printed
 printed =
-    record { kind = 3; coordinates = 8; levels = 1; degrees = 1 ∷ []; bits = λ b. 4 + 8 * b; bytes = λ b. b + 1; apart = 4 }
-    ∷ record { kind = 4; coordinates = 16; levels = 2; degrees = 1 ∷ 3 ∷ []; bits = λ b. 20 + 16 * b; bytes = λ b. 2 * b + 3; apart = 8 }
-    ∷ record { kind = 5; coordinates = 32; levels = 2; degrees = 1 ∷ 3 ∷ []; bits = λ b. 32 + 32 * b; bytes = λ b. 4 * b + 4; apart = 16 }
+    record { kind = 3; n = 8; a = 1; codes = 1 ∷ []; bits = λ b. 4 + 8 * b; bytes = λ b. b + 1; apart = 4 }
+    ∷ record { kind = 4; n = 16; a = 2; codes = 1 ∷ 3 ∷ []; bits = λ b. 20 + 16 * b; bytes = λ b. 2 * b + 3; apart = 8 }
+    ∷ record { kind = 5; n = 32; a = 2; codes = 1 ∷ 3 ∷ []; bits = λ b. 32 + 32 * b; bytes = λ b. 4 * b + 4; apart = 16 }
     ∷ []
 
 -- the definitions give what the row says
 pub record AsPrinted (row : Printed) : Type 0 where
-  pub coordinates : 2 ^ row .kind ≡ row .coordinates
-  pub levels : levels (row .kind) ≡ row .levels
-  pub degrees : degrees (row .kind) ≡ row .degrees
+  pub n : 2 ^ row .kind ≡ row .n
+  pub a : levels (row .kind) ≡ row .a
+  pub codes : degrees (row .kind) ≡ row .codes
   pub bits : (b : ℕ) → messageBits (row .kind) b ≡ row .bits b
   pub bytes : (b : ℕ) → messageBytes (row .kind) b ≡ row .bytes b
   pub apart : leastDistance (row .kind) ≡ row .apart
