@@ -1,10 +1,12 @@
 -- How long the pieces of a message read from a frame are: the levels, the blocks, and all of it. Assumes nothing.
-use Prim.Native.Nat.{ℕ, zero, suc, _+_, _*_, _-_, _^_, _≤_}
+use Prim.Native.Nat.{ℕ, zero, suc, _+_, _*_, _-_, _^_, _≤_, _<_}
 use mathlib.Core.Path.{_≡_, refl, ap, ap₂, _∙_}
 use mathlib.Core.List.{List, [], _∷_}
+use native.Mathlib.Numerals.{add-one}
 use native.Mathlib.Omega.{arith}
-use lib.ListN.{length, length-append, length-take, length-drop}
+use lib.ListN.{length, getD, take, length-append, length-take, length-drop}
 use lib.IntN.{ℤ}
+use Rattle.reed_muller.specs.Level.{dimension}
 use Rattle.e8.specs.Lattice.{part}
 use Rattle.e8.specs.Rows.{reduced}
 use Rattle.e8.proofs.Rows.{reduced-length}
@@ -15,6 +17,23 @@ use Rattle.frames.specs.Reading.{levelMessage, levelMessages, quotients,
 use Rattle.frames.proofs.Stacked.{level-length}
 use Rattle.frames.proofs.Numbers.{all-length, total-widths}
 use Rattle.frames.proofs.Frame.{quotients-length}
+
+-- ---- the levels, each of which begins where the one before ends
+
+pub dimensions-more : (m : ℕ) (rs : List ℕ) (i : ℕ) → i < length rs → dimensions m (take (i + 1) rs) ≡ dimensions m (take i rs) + dimension (getD rs i 0) m
+dimensions-more m rs i h = rw (add-one i) (next m rs i h)
+  where
+    next : (m : ℕ) (rs : List ℕ) (i : ℕ) → i < length rs → dimensions m (take (suc i) rs) ≡ dimensions m (take i rs) + dimension (getD rs i 0) m
+    next m [] i h = absurd (omega arith)
+    next m (r ∷ rs) zero h = omega arith
+    next m (r ∷ rs) (suc i) h = omega (arith, next m rs i (omega arith))
+
+pub dimensions-le : (m : ℕ) (rs : List ℕ) (i : ℕ) → dimensions m (take i rs) ≤ dimensions m rs
+dimensions-le m rs zero = omega arith
+dimensions-le m [] (suc i) = omega arith
+dimensions-le m (r ∷ rs) (suc i) = omega (arith, dimensions-le m rs i)
+
+-- ---- what is read
 
 pub levels-length : (m i : ℕ) (rs : List ℕ) (f : List ℤ) → length (levelMessages m i rs f) ≡ dimensions m rs
 unfolding levelMessages
