@@ -2,10 +2,10 @@
 use Prim.Native.Nat.{ℕ, _+_, _*_, _-_, _^_, _≤_, _<_}
 use mathlib.Core.Path.{_≡_, sym, ap, _∙_}
 use mathlib.Core.Bool.{true}
-use mathlib.Core.List.{List, map}
+use mathlib.Core.List.{List}
 use native.Mathlib.Nat.{mul-le-mul-left}
 use native.Mathlib.Omega.{arith}
-use lib.IntN.{ℤ, natAbs}
+use lib.IntN.{ℤ}
 use lib.Pow.{pow-pos}
 use lib.ListN.{length, take, getD, set, length-set, length-append}
 use lib.Seq.{ext-getD, take-all}
@@ -13,7 +13,7 @@ use Rattle.bits.specs.Number.{table, number}
 use Rattle.bits.specs.Message.{messageBit, bytesOf, withBits}
 use Rattle.bits.proofs.Table.{length-table, table-at}
 use Rattle.bits.proofs.Message.{digit-of}
-use Rattle.bits.proofs.Digits.{digit, digit-small}
+use Rattle.bits.proofs.Digits.{digit}
 use Rattle.reed_muller.specs.Level.{dimension}
 use Rattle.e8.specs.Lattice.{part}
 use Rattle.e8.specs.Rows.{reduced}
@@ -21,12 +21,12 @@ use Rattle.frames.specs.Kind.{isKind, degrees, levels, blocks, dimensions, leve
 use Rattle.frames.specs.Message.{widths}
 use Rattle.frames.specs.Reading.{quotients, allDigits, blockMessages}
 use Rattle.frames.proofs.Frame.{quotients-length}
-use Rattle.frames.proofs.Lengths.{block-bits, blocks-length}
+use Rattle.frames.proofs.Lengths.{dimensions-more, block-bits, blocks-length}
 use Rattle.frames.proofs.Limits.{whole-blocks}
 use Rattle.reading.specs.Words.{heldMessages, heldBits, heldMessage}
 use Rattle.reading.specs.Written.{written}
 use Rattle.reading.proofs.Writing.{Bits, put-is, written-more, cleared, written-whole}
-use Rattle.reading.proofs.Rows.{heldLevel, held-more, held-length, held-bits, dimensions-more, blocks-more, all-bits, blocks-bits}
+use Rattle.reading.proofs.Rows.{heldLevel, held-more, held-length, held-bits, blocks-more, all-bits, blocks-bits}
 
 -- ---- levels
 

@@ -56,19 +56,6 @@ held-length m i (r ∷ rs) words =
     length-append (heldLevel m i r words) (heldMessages m (suc i) rs words)
     ∙ ap₂ _+_ (length-table (λ t. digit (getD words i 0) (getD (order m) t 0)) (dimension r m)) (held-length m (suc i) rs words)
 
-dimensions-next : (m : ℕ) (rs : List ℕ) (i : ℕ) → i < length rs → dimensions m (take (suc i) rs) ≡ dimensions m (take i rs) + dimension (getD rs i 0) m
-dimensions-next m [] i h = absurd (omega arith)
-dimensions-next m (r ∷ rs) zero h = omega arith
-dimensions-next m (r ∷ rs) (suc i) h = omega (arith, dimensions-next m rs i (omega arith))
-
-pub dimensions-more : (m : ℕ) (rs : List ℕ) (i : ℕ) → i < length rs → dimensions m (take (i + 1) rs) ≡ dimensions m (take i rs) + dimension (getD rs i 0) m
-dimensions-more m rs i h = rw (add-one i) (dimensions-next m rs i h)
-
-pub dimensions-le : (m : ℕ) (rs : List ℕ) (i : ℕ) → dimensions m (take i rs) ≤ dimensions m rs
-dimensions-le m rs zero = omega arith
-dimensions-le m [] (suc i) = omega arith
-dimensions-le m (r ∷ rs) (suc i) = omega (arith, dimensions-le m rs i)
-
 -- ---- blocks in a row
 
 -- one block more

@@ -1,6 +1,6 @@
 -- The levels of a frame held in numbers: their bits, the test of the levels one after the other, and the message they hold. Assumes nothing.
-use Prim.Native.Nat.{ℕ, zero, suc, _+_, _%_, _^_, _≤_, _<_}
-use mathlib.Core.Path.{_≡_, refl, sym, ap, ap₂, _∙_}
+use Prim.Native.Nat.{ℕ, suc, _+_, _%_, _^_, _≤_, _<_}
+use mathlib.Core.Path.{_≡_, refl, ap, ap₂, _∙_}
 use mathlib.Core.Bool.{Bool, true, false}
 use mathlib.Core.List.{List, [], _∷_, _++_}
 use native.Mathlib.Numerals.{add-one}
@@ -12,12 +12,12 @@ use lib.IntN.{ℤ}
 use lib.Signed.{shrZ}
 use borrow.Author.Tests.{eq-eqb, ne-eqb, lt-ltb}
 use Rattle.integers.proofs.Floor.{modZ-lt}
-use Rattle.bits.specs.Number.{given, table, number}
+use Rattle.bits.specs.Number.{given, number}
 use Rattle.bits.specs.Message.{bytesOf}
 use Rattle.bits.proofs.Table.{table-at, table-ext}
 use Rattle.bits.proofs.Message.{number-bit, number-ext, digit-of}
 use Rattle.bits.proofs.Digits.{digit}
-use Rattle.reed_muller.specs.Level.{order, dimension, clearAbove, belongs, backwards}
+use Rattle.reed_muller.specs.Level.{order, dimension, clearAbove, backwards}
 use Rattle.reed_muller.proofs.Order.{order-below, dimension-small}
 use Rattle.reed_muller.proofs.Parity.{backwards-small}
 use Rattle.reed_muller.proofs.Transform.{backwards-cong}
@@ -70,7 +70,8 @@ module _ (k : ℕ) (kind : isKind k ≡ true) (f : List ℤ) where
   unfolding backwardWords
   word-bit i h S l =
       ap (λ (x : ℕ). digit x S)
-      (table-at (λ i. given (ltb i (levels k)) (number (2 ^ k) (backwards k (levelWord i f)))) 3 i (omega (arith, few-levels k kind)) ∙ rw (lt-ltb i (levels k) h))
+      (table-at (λ i. given (ltb i (levels k)) (number (2 ^ k) (backwards k (levelWord i f)))) 3 i (omega (arith, few-levels k kind))
+      ∙ rw (lt-ltb i (levels k) h))
       ∙ number-bit (backwards k (levelWord i f)) (2 ^ k) (λ S u. backwards-small k (levelWord i f) S) S l
 
   broken-from : (i : ℕ) (rs : List ℕ) → i + length rs ≤ levels k → brokenIn k i rs (backwardWords k f) ≡ broken k i rs f

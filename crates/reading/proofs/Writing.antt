@@ -83,10 +83,11 @@ module _ (from : ℕ) (R S : List ℕ) (old : ℕ → ℕ) where
 pub written-more : (from at : ℕ) (R S before : List ℕ) → at ≡ from + length R → Bits R → written at S (written from R before) ≡ written from (R ++ S) before
 unfolding written
 written-more from at R S before e small =
-    ap (λ (n : ℕ). written n S b) e ∙ ap (λ (n : ℕ). bytesOf n (withBits (from + length R) (length S) (entry S) (messageBit b))) (written-length from R before)
+    ap (λ (n : ℕ). written n S b) e
+    ∙ ap (λ (n : ℕ). bytesOf n (withBits (from + length R) (length S) (entry S) (messageBit b))) (written-length from R before)
     ∙ bytes-ext (length before) _ _ (λ i l.
-    in-turn from R S (messageBit before) i _ (written-bit from R before small i l) (decLt i from) (decLt i (from + length R)) (decLt i (from + length R + length S))
-    (messageBit b) refl)
+    in-turn from R S (messageBit before) i _ (written-bit from R before small i l) (decLt i from) (decLt i (from + length R))
+    (decLt i (from + length R + length S)) (messageBit b) refl)
   where
     b : List ℕ
     b = written from R before
@@ -97,7 +98,8 @@ written-more from at R S before e small =
 pub cleared : (bytes : List ℕ) (j i : ℕ) → j < length bytes → i / 8 ≡ j → messageBit (set bytes j 0) i ≡ 0
 unfolding messageBit
 cleared bytes j i h e =
-    ap (λ (x : ℕ). x / 2 ^ (i % 8) % 2) (ap (λ (n : ℕ). getD (set bytes j 0) n 0) e ∙ getD-set-same bytes j 0 0 h) ∙ ap (λ (x : ℕ). x % 2) (zero-div (2 ^ (i % 8)))
+    ap (λ (x : ℕ). x / 2 ^ (i % 8) % 2) (ap (λ (n : ℕ). getD (set bytes j 0) n 0) e ∙ getD-set-same bytes j 0 0 h)
+    ∙ ap (λ (x : ℕ). x % 2) (zero-div (2 ^ (i % 8)))
 
 -- the bytes of a row, where the spare bits were 0
 pub written-whole : (row before : List ℕ) → ((i : ℕ) → length row ≤ i → i < 8 * length before → messageBit before i ≡ 0)
@@ -110,4 +112,5 @@ written-whole row before spare = bytes-ext (length before) _ _ (λ i l. at i l (
         let e : i ≡ 0 + i = omega arith in
         ap (withBits 0 (length row) (entry row) (messageBit before)) e ∙ with-in 0 (length row) (entry row) (messageBit before) i h
     at i l (no k) =
-        with-past 0 (length row) (entry row) (messageBit before) i (omega arith) ∙ spare i (omega arith) l ∙ sym (List·getD-eq-default row 0 {n = i} (omega arith))
+        with-past 0 (length row) (entry row) (messageBit before) i (omega arith) ∙ spare i (omega arith) l
+        ∙ sym (List·getD-eq-default row 0 {n = i} (omega arith))

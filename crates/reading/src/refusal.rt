@@ -3,7 +3,6 @@ use super::level::level_words;
 use super::strict::is_least;
 ghost use mathlib.Core.Path.{_≡_};
 ghost use mathlib.Core.Bool.{true};
-ghost use lib.ListN.{length};
 ghost use Rattle.frames.specs.Kind.{isKind, degrees};
 ghost use Rattle.frames.specs.Reading.{openRefusal};
 ghost use Rattle.reading.specs.Words.{noWords, wordsAfter, brokenIn};

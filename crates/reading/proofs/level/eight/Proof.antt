@@ -1,6 +1,6 @@
 -- `eight`: the number has the bits of the coordinates from p on. Assumes nothing.
 use Prim.Native.Nat.{ℕ, _+_, _*_, _-_, _^_, _≤_, _<_}
-use mathlib.Core.Path.{_≡_, refl, sym, ap, ap₂, _∙_}
+use mathlib.Core.Path.{_≡_, refl, sym, ap, _∙_}
 use native.Mathlib.Omega.{arith}
 use lib.IntN.{pos}
 use lib.ListN.{getD}
@@ -28,7 +28,12 @@ module _ (c : tie.In-loop Inv-loop μ-loop) where
   half =
       let l = c .before .loop in
       let a = c .before .before .args in
-      omega (arith, l .inv .1, number-lt (λ q. levelWord (a .i) (a .part .now) (l .p + q)) (8 - l .p) (λ q h. weight-bit-small (a .i) _), pow-mono {i = 8 - l .p} {j = 8} (omega arith))
+      omega (
+        arith,
+        l .inv .1,
+        number-lt (λ q. levelWord (a .i) (a .part .now) (l .p + q)) (8 - l .p) (λ q h. weight-bit-small (a .i) _),
+        pow-mono {i = 8 - l .p} {j = 8} (omega arith),
+      )
 
 -- one bit more, below those from p on
 module _ (f : ℕ → ℕ) (p word bit : ℕ) where
@@ -96,7 +101,8 @@ returns c =
     let l = c .before .loop in
     let e : l .p ≡ 0 = omega arith in
     let a = c .before .before .args in
-    l .inv .1 ∙ ap (λ (p : ℕ). number (8 - p) (λ q. levelWord (a .i) (a .part .now) (p + q))) e ∙ number-ext 8 (λ q h. let z : 0 + q ≡ q = omega arith in ap (levelWord (a .i) (a .part .now)) z)
+    l .inv .1 ∙ ap (λ (p : ℕ). number (8 - p) (λ q. levelWord (a .i) (a .part .now) (p + q))) e
+    ∙ number-ext 8 (λ q h. let z : 0 + q ≡ q = omega arith in ap (levelWord (a .i) (a .part .now)) z)
 
 pub eight-spec : {M : Type 1} → statement M
 eight-spec =

@@ -51,7 +51,12 @@ module _ (c : tie.In-loop Inv-loop μ-loop) where
   room =
       let l = c .before .loop in
       let n : ℕ = length f - 8 * l .j in
-      omega (arith, l .inv .1, number-lt (λ q. levelWord i f (8 * l .j + q)) n (λ q h. weight-bit-small i _), pow-mono {i = n} {j = 56} (omega (arith, s .pre .1)))
+      omega (
+        arith,
+        l .inv .1,
+        number-lt (λ q. levelWord i f (8 * l .j + q)) n (λ q h. weight-bit-small i _),
+        pow-mono {i = n} {j = 56} (omega (arith, s .pre .1)),
+      )
 
 -- the eight bits of block j
 module _ (c : tie.After-eight Inv-loop μ-loop) where

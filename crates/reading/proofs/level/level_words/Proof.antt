@@ -1,13 +1,13 @@
 -- `level_words`: the levels below i are held, and 0 stands for the others. Assumes nothing.
 use Prim.Native.Nat.{ℕ, _-_, _*_, _/_, _^_, _≤_, _<_}
-use mathlib.Core.Path.{_≡_, refl, sym, ap, ap₂, _∙_}
+use mathlib.Core.Path.{_≡_, sym, ap, ap₂, _∙_}
 use mathlib.Core.List.{List}
 use native.Mathlib.Omega.{arith}
 use lib.IntN.{ℤ}
 use lib.ListN.{length, set}
 use borrow.Author.Needs.{needs}
 use Rattle.bits.specs.Number.{table, number}
-use Rattle.bits.proofs.Table.{length-table, filled, filled-none, filled-more}
+use Rattle.bits.proofs.Table.{filled, filled-none, filled-more}
 use Rattle.reed_muller.specs.Level.{backwards}
 use Rattle.frames.specs.Kind.{levels}
 use Rattle.frames.specs.Frame.{levelWord}

@@ -126,7 +126,9 @@ shl-bits : tie.Need-shl-bits Inv-loop μ-loop
 shl-bits c = omega (arith, below c)
 
 cast-bits : tie.Need-cast-bits Inv-loop μ-loop
-cast-bits c = subst (λ (y : ℤ). T (nonNeg y) × Fits w64 (natAbs y)) (sym (read c)) (start c .pre .2 (i c), fits-natAbs {w = w32} {z = z c} tt (record { sfits = c .z .given }))
+cast-bits c =
+    subst (λ (y : ℤ). T (nonNeg y) × Fits w64 (natAbs y)) (sym (read c))
+    (start c .pre .2 (i c), fits-natAbs {w = w32} {z = z c} tt (record { sfits = c .z .given }))
 
 shl-bits-2 : tie.Need-shl-bits-2 Inv-loop μ-loop
 shl-bits-2 c = omega (arith, below c)
@@ -135,7 +137,10 @@ rem-bits : tie.Need-rem-bits Inv-loop μ-loop
 rem-bits c = omega (arith, power c, pow-pos (w c))
 
 add-bits : tie.Need-add-bits Inv-loop μ-loop
-add-bits c = record { fits = omega (arith, more c, packed-lt (b c) (s c) (i c), from-i c, pow-mono {i = w c + n c} {j = 32} (below c), ap (λ (m : ℕ). 2 ^ m) (from-i c)) }
+add-bits c =
+    let few = pow-mono {j = 32} (subst (λ (m : ℕ). m ≤ 32) (from-i c) (below c)) in
+    let small : packedFrom (b c) (s c) (i c) < 2 ^ 32 = omega (arith, packed-lt (b c) (s c) (i c), few) in
+    record { fits = omega (arith, more c, small) }
 
 loop-less : tie.Need-loop-less Inv-loop μ-loop
 loop-less c = search needs

@@ -1,6 +1,6 @@
 -- `write_blocks`: the blocks below j are written. Assumes nothing.
-use Prim.Native.Nat.{ℕ, _+_, _*_, _-_, _/_, _^_, _≤_, _<_}
-use mathlib.Core.Path.{_≡_, refl, sym, ap, subst, _∙_}
+use Prim.Native.Nat.{ℕ, _+_, _*_, _-_, _^_, _≤_, _<_}
+use mathlib.Core.Path.{_≡_, sym, ap, subst, _∙_}
 use mathlib.Core.List.{List, map}
 use native.Mathlib.Omega.{arith}
 use lib.Dec.{T}
@@ -17,7 +17,7 @@ use Rattle.frames.specs.Kind.{levels, blocks, levelBits, messageBits}
 use Rattle.frames.specs.Message.{widths}
 use Rattle.frames.specs.Reading.{quotients, allDigits, blockMessages}
 use Rattle.frames.proofs.Frame.{ints-at, quotients-length, part-is, part-length}
-use Rattle.frames.proofs.Limits.{Piece, block-piece, few-levels, few-positions, few-message-bits, whole-blocks}
+use Rattle.frames.proofs.Limits.{Piece, in-bytes, block-piece, few-levels, few-message-bits, whole-blocks}
 use Rattle.reading.specs.Written.{written}
 use Rattle.reading.proofs.Joined.{sizes-ints}
 use Rattle.reading.proofs.Writing.{written-none, written-length}
@@ -74,7 +74,8 @@ module _ (c : tie.In-loop Inv-loop μ-loop) where
   same = ap length (c .before .loop .inv .2) ∙ written-length (levelBits k) (blockMessages b j v) (s .args .out .now)
 
 -- the numbers of a block
-numbers : (c : tie.After-block-numbers Inv-loop μ-loop) → let t = c .before .before in c .block-numbers .result ≡ ints (reduced (2 ^ (b t - 1)) (part (j t) (v t)))
+numbers : (c : tie.After-block-numbers Inv-loop μ-loop)
+    → let t = c .before .before in c .block-numbers .result ≡ ints (reduced (2 ^ (b t - 1)) (part (j t) (v t)))
 numbers c =
     let t = c .before .before in
     c .block-numbers .ensures
@@ -143,9 +144,9 @@ packed-requires c κs =
 put-bits-requires : tie.Need-put-bits-requires Inv-loop μ-loop
 put-bits-requires c κs =
     let t = c .before .before .before .before in
-    let p = piece t in
-    let from = t .before .loop .inv .1 in
-    (p .few, omega (arith, from, p .word), omega (arith, from, p .inside, same t, s t .pre .5))
+    let l = t .before .loop in
+    let here = subst (λ (from : ℕ). Piece from (8 * b t) (messageBits (k t) (b t))) (sym (l .inv .1)) (piece t) in
+    in-bytes here (length (l .out)) (omega (arith, same t, s t .pre .5))
 
 add-from : tie.Need-add-from Inv-loop μ-loop
 add-from c =

@@ -76,7 +76,8 @@ module _ (c : tie.After-slice-known3) where
 
 same-length : tie.Need-same-length
 same-length c =
-    ap length (v c .write-blocks .ensures) ∙ written-length (levelBits (s c .args .kind)) (blockBits c) _ ∙ ap length (w c .write-levels .ensures) ∙ after-levels (s c)
+    ap length (v c .write-blocks .ensures) ∙ written-length (levelBits (s c .args .kind)) (blockBits c) _
+    ∙ ap length (w c .write-levels .ensures) ∙ after-levels (s c)
 
 returns : tie.Need-returns
 returns c =

@@ -50,7 +50,8 @@ unfolding inRange
 p6 c = sym (c .before .within .ensures) ∙ not-false (c .before .within .result) (c .if4 .left)
 
 -- the number of the levels is the answer
-levels-answer : (c : tie.After-broken-level) → let a = start4 (c .before .before) .args in c .broken-level .result ≡ openRefusal (a .kind) (a .grade) (a .frame .now) (a .n)
+levels-answer : (c : tie.After-broken-level)
+    → let a = start4 (c .before .before) .args in c .broken-level .result ≡ openRefusal (a .kind) (a .grade) (a .frame .now) (a .n)
 levels-answer c =
     let w = c .before in
     let g = w .before in
