@@ -1,6 +1,6 @@
 -- The answer of a reading by the tests that were passed, and what is left by it. Assumes nothing.
 use Prim.Native.Nat.{ℕ, _^_}
-use mathlib.Core.Path.{_≡_, refl, sym, _∙_}
+use mathlib.Core.Path.{_≡_, refl, sym, ap, _∙_}
 use mathlib.Core.Bool.{Bool, true, false}
 use mathlib.Core.List.{List}
 use native.Mathlib.Omega.{arith}
@@ -10,10 +10,12 @@ use lib.ListN.{length}
 use borrow.Author.Tests.{eq-eqb, ne-eqb, eqb-true}
 use Rattle.e8.specs.Energy.{energy}
 use Rattle.frames.specs.Kind.{isKind, isGrade, messageBytes}
-use Rattle.frames.specs.Reading.{inRange, openMessage, openRefusal, messageAfter, energyRead}
+use Rattle.frames.specs.Reading.{inRange, openRefusal, messageAfter, energyRead}
 use Rattle.frames.proofs.Refusals.{past}
 use Rattle.frames.proofs.Reading.{strict-as-open}
 use Rattle.reading.specs.Numbers.{refusalOf}
+use Rattle.reading.specs.Words.{wordsAfter, heldMessage}
+use Rattle.reading.proofs.Words.{words-given, held-message}
 
 -- ---- the definition, as far as the tests go
 
@@ -65,11 +67,22 @@ module _ (k b : ℕ) (f : List ℤ) (n : ℕ) where
 
 -- ---- what a reading leaves, by its number
 
-module _ (number k b : ℕ) (f : List ℤ) (lent : List ℕ) where
-  pub refused : (number ≡ 0 → ⊥) → (lent ≡ messageAfter number k b f lent) × (0 ≡ energyRead number f)
-  unfolding messageAfter energyRead
-  refused n = (rw (ne-eqb number 0 n), rw (ne-eqb number 0 n))
+-- a refusal
+pub bytes-kept : (number k b : ℕ) (f : List ℤ) (lent : List ℕ) → (number ≡ 0 → ⊥) → lent ≡ messageAfter number k b f lent
+unfolding messageAfter
+bytes-kept number k b f lent n = rw (ne-eqb number 0 n)
 
-  pub given : number ≡ 0 → (openMessage k b f ≡ messageAfter number k b f lent) × (energy f ≡ energyRead number f)
-  unfolding messageAfter energyRead
-  given e = (rw (eq-eqb number 0 e), rw (eq-eqb number 0 e))
+pub no-energy : (number : ℕ) (f : List ℤ) → (number ≡ 0 → ⊥) → 0 ≡ energyRead number f
+unfolding energyRead
+no-energy number f n = rw (ne-eqb number 0 n)
+
+-- success, with the words that the tests give
+pub message-given : (number k b : ℕ) (f : List ℤ) (lent words : List ℕ) → isKind k ≡ true → words ≡ wordsAfter number k f → number ≡ 0
+    → heldMessage k b f words ≡ messageAfter number k b f lent
+unfolding messageAfter
+message-given number k b f lent words kind is e = rw (eq-eqb number 0 e)
+    (ap (heldMessage k b f) (is ∙ sym (words-given number k f e)) ∙ held-message k kind f b)
+
+pub energy-given : (number : ℕ) (f : List ℤ) → number ≡ 0 → energy f ≡ energyRead number f
+unfolding energyRead
+energy-given number f e = rw (eq-eqb number 0 e)

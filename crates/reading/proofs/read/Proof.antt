@@ -1,15 +1,13 @@
 -- `read`: by whether the number is 0. Assumes nothing.
 use Prim.Native.Nat.{_^_}
-use mathlib.Core.Path.{_≡_, sym, ap, _∙_}
+use mathlib.Core.Path.{_∙_}
 use native.Mathlib.Omega.{arith}
 use lib.ListN.{length}
 use borrow.Author.Needs.{needs}
 use Rattle.e8.proofs.Within.{within-to}
 use Rattle.frames.proofs.Refusals.{range-within}
 use Rattle.frames.proofs.Limits.{few-positions, whole-blocks}
-use Rattle.reading.specs.Words.{heldMessage}
-use Rattle.reading.proofs.Answers.{Fits, fits, refused, given}
-use Rattle.reading.proofs.Words.{words-given, held-message}
+use Rattle.reading.proofs.Answers.{Fits, fits, bytes-kept, no-energy, message-given, energy-given}
 use Rattle.reading.proofs.read.Statement.{statement}
 use Rattle.reading.proofs.read.Tie as tie
 
@@ -21,7 +19,9 @@ returns : tie.Need-returns
 returns c =
     let t = c .before .tests in
     let a = c .before .before .before .args in
-    (t .ensures .0, refused (t .result .number) (a .kind) (a .grade) (a .frame .now) (a .message .now) (λ e. omega (arith, e)))
+    let bytes = bytes-kept (t .result .number) (a .kind) (a .grade) (a .frame .now) (a .message .now) in
+    let energy = no-energy (t .result .number) (a .frame .now) in
+    (t .ensures .0, (bytes (λ e. omega (arith, e)), energy (λ e. omega (arith, e))))
 
 -- past the first five tests a message can be written
 module _ (c : tie.Else1) where
@@ -62,13 +62,10 @@ returns-2 c =
     let d = w .before .before .before in
     let a = start d .args in
     let t = called d .tests in
-    let z : t .result .number ≡ 0 = omega arith in
-    let g = given (t .result .number) (a .kind) (a .grade) (a .frame .now) (a .message .now) z in
-    let words = t .ensures .1 ∙ sym (words-given (t .result .number) (a .kind) (a .frame .now) z) in
-    let message =
-    w .write-message .ensures ∙ ap (heldMessage (a .kind) (a .grade) (a .frame .now)) words
-    ∙ held-message (a .kind) (passed d .kind) (a .frame .now) (a .grade) in
-    (t .ensures .0, (message ∙ g .0, c .frame-energy .ensures ∙ g .1))
+    let r = t .result in
+    let message = message-given (r .number) (a .kind) (a .grade) (a .frame .now) (a .message .now) (r .words) (passed d .kind) (t .ensures .1) in
+    let energy = energy-given (t .result .number) (a .frame .now) in
+    (t .ensures .0, (w .write-message .ensures ∙ message (omega arith), c .frame-energy .ensures ∙ energy (omega arith)))
 
 pub read-spec : {M : Type 1} → statement M
 read-spec =

@@ -115,7 +115,7 @@ loop-again c =
       omega arith,
       omega (arith, l .inv .1, level-end (k t) (i t) (inside t), c .dimension-of .ensures, wide d),
       w .put-message .ensures
-          ∙ put-is (l .from) (dimension (d .degree .result) (k t)) (λ t'. digit (getD (words t) (i t) 0) (getD (order (k t)) t' 0)) (l .out)
+          ∙ put-is (l .from) (dimension (d .degree .result) (k t)) (λ n. digit (getD (words t) (i t) 0) (getD (order (k t)) n 0)) (l .out)
           ∙ ap (λ (r : ℕ). written (l .from) (heldLevel (k t) (i t) r (words t)) (l .out)) (d .degree .ensures)
           ∙ ap (written (l .from) (heldLevel (k t) (i t) r (words t))) (l .inv .2)
           ∙ level-more (k t) (i t) (inside t) (words t) (l .from) (s t .args .out .now) (l .inv .1),

@@ -3,14 +3,13 @@ use Prim.Native.Nat.{ℕ, _-_, _^_, _≤_}
 use mathlib.Core.Path.{_≡_, ap, _∙_}
 use mathlib.Core.List.{List}
 use native.Mathlib.Omega.{arith}
-use lib.ListN.{length, set, length-set}
+use lib.ListN.{length, length-set}
 use Rattle.e8.proofs.Within.{within-to}
-use Rattle.frames.specs.Kind.{degrees, levels, blocks, levelBits}
+use Rattle.frames.specs.Kind.{levels, blocks, levelBits}
 use Rattle.frames.specs.Reading.{quotients, blockMessages}
 use Rattle.frames.proofs.Rows.{grade-low, grade-high}
 use Rattle.frames.proofs.Limits.{bytes-hold, levels-hold}
 use Rattle.frames.proofs.Refusals.{range-within}
-use Rattle.reading.specs.Words.{heldMessages}
 use Rattle.reading.specs.Written.{written}
 use Rattle.reading.proofs.Writing.{written-length}
 use Rattle.reading.proofs.Pieces.{some-byte, message-written}
@@ -27,15 +26,9 @@ module _ (c : tie.Start) where
   some : 1 ≤ length out
   some = omega (arith, c .pre .4, some-byte (c .args .kind) (c .args .grade) (c .pre .0) low)
 
-  -- the bits of the levels, and the bytes with the last one cleared
-  abbrev levelRow : List ℕ
-  levelRow = heldMessages (c .args .kind) 0 (degrees (c .args .kind)) (c .args .words)
-
-  abbrev clear : List ℕ
-  clear = set out (length out - 1) 0
-
-  after-levels : length (written 0 levelRow clear) ≡ length out
-  after-levels = written-length 0 levelRow clear ∙ length-set out (length out - 1) 0
+-- the levels leave as many bytes as there were
+after-levels : (w : tie.After-write-levels) → length (w .write-levels .last .1 .1 .0) ≡ length (out (w .before .before .before))
+after-levels w = ap length (w .write-levels .ensures) ∙ written-length 0 _ _ ∙ length-set (out (w .before .before .before)) _ _
 
 sub-last : tie.Need-sub-last
 sub-last c = some (c .before)
@@ -58,7 +51,7 @@ write-blocks-requires c κs =
       grade-high (s .args .grade) (s .pre .1),
       s .pre .2,
       within-to 1048576 (2 ^ 24) f (omega arith) (range-within f (s .pre .3)),
-      omega (arith, ap length (w .write-levels .ensures), after-levels s, s .pre .4, bytes-hold (s .args .kind) (s .args .grade)),
+      omega (arith, after-levels w, s .pre .4, bytes-hold (s .args .kind) (s .args .grade)),
     )
 
 module _ (c : tie.After-slice-known3) where
@@ -75,9 +68,7 @@ module _ (c : tie.After-slice-known3) where
   blockBits = blockMessages (s .args .grade) (blocks (s .args .kind)) (quotients (levels (s .args .kind)) (s .args .frame .now))
 
 same-length : tie.Need-same-length
-same-length c =
-    ap length (v c .write-blocks .ensures) ∙ written-length (levelBits (s c .args .kind)) (blockBits c) _
-    ∙ ap length (w c .write-levels .ensures) ∙ after-levels (s c)
+same-length c = ap length (v c .write-blocks .ensures) ∙ written-length (levelBits (s c .args .kind)) (blockBits c) _ ∙ after-levels (w c)
 
 returns : tie.Need-returns
 returns c =

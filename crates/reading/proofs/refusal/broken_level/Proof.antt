@@ -9,7 +9,7 @@ use borrow.Author.Tests.{not-true, not-false}
 use Rattle.reed_muller.specs.Level.{clearAbove}
 use Rattle.bits.proofs.Digits.{digit}
 use Rattle.frames.specs.Kind.{degrees, levels}
-use Rattle.frames.proofs.Limits.{few-levels, levels-numbered, tabled, degree-fits}
+use Rattle.frames.proofs.Limits.{some-level, few-levels, levels-numbered, tabled, degree-fits}
 use Rattle.reading.specs.Words.{brokenIn}
 use Rattle.reading.proofs.Words.{clear-at, broken-at, whole-at, no-more}
 use Rattle.reading.proofs.refusal.broken_level.Statement.{statement}
@@ -39,7 +39,7 @@ module _ (c : tie.In-loop Inv-loop μ-loop) where
   i = c .before .loop .i
 
   inside : i < levels k
-  inside = omega (arith, called .levels .ensures)
+  inside = omega (arith, called .levels .ensures, some-level k (s .pre))
 
   early : i < 2
   early = omega (arith, inside, few-levels k (s .pre))
@@ -87,13 +87,13 @@ add-i : tie.Need-add-i Inv-loop μ-loop
 add-i c = search needs
 
 loop-less : tie.Need-loop-less Inv-loop μ-loop
-loop-less c = search needs
+loop-less c = let t = c .before .before .before in omega (arith, inside t, called t .levels .ensures)
 
 loop-again : tie.Need-loop-again Inv-loop μ-loop
 loop-again c =
     let d = c .before in
     let t = d .before .before in (
-      omega arith,
+      omega (arith, inside t, called t .levels .ensures),
       so-far t ∙ whole-at (k t) (words t) (i t) (inside t) (sym (tested d) ∙ not-false (d .clear-above .result) (c .if1 .left)),
     )
 
