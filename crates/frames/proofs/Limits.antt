@@ -1,31 +1,17 @@
 -- THE LIMITS that the table of kinds sets, which proofs share: each by one test over the rows. Assumes nothing.
 use Prim.Native.Nat.{ℕ, zero, suc, _+_, _*_, _%_, _^_, _≤_, _<_}
 use mathlib.Core.Path.{_≡_, refl, sym, ap, subst}
-use mathlib.Core.Bool.{Bool, true, false, _&&_}
+use mathlib.Core.Bool.{Bool, true, false, _&&_, _||_, cond, true≢false}
 use mathlib.Core.List.{List, [], _∷_}
 use native.Mathlib.Nat.{zero-add, mul-le-mul, mul-le-mul-left}
 use native.Mathlib.Omega.{arith}
 use lib.Count.{ones}
-use lib.Dec.{eqb, leb}
+use lib.Dec.{eqb, leb, ltb}
 use lib.ListN.{length, getD, take}
-use borrow.Author.Tests.{eqb-true, leb-true}
+use borrow.Author.Tests.{leb-true, lt-ltb}
 use Rattle.bits.specs.Number.{table}
 use Rattle.reed_muller.specs.Level.{dimension, masks, ofWeight, Tabled}
-use Rattle.frames.specs.Kind.{
-  kinds,
-  brokenNumbers,
-  brokenNumber,
-  isKind,
-  isGrade,
-  degrees,
-  levels,
-  blocks,
-  dimensions,
-  levelBits,
-  messageBits,
-  messageBytes,
-  scale,
-}
+use Rattle.frames.specs.Kind.{Row, kinds, brokenNumbers, brokenNumber, listed, isKind, isGrade, degreesIn, degrees, levels, blocks, dimensions, levelBits, messageBits, messageBytes, scale}
 use Rattle.frames.specs.Frame.{leastDistance}
 use Rattle.frames.proofs.Levels.{Fit, apartBy}
 use Rattle.frames.proofs.Class.{Shape}
@@ -40,6 +26,23 @@ some-level = row-le (λ k. 1) levels refl
 pub few-levels : (k : ℕ) → isKind k ≡ true → levels k ≤ 2
 unfolding levels degrees kinds
 few-levels = row-le levels (λ k. 2) refl
+
+-- a number that is in no row has no level, and so a kind is what has one
+unlisted : (k : ℕ) (rows : List Row) → listed k rows ≡ false → degreesIn k rows ≡ []
+unlisted k [] e = refl
+unlisted k (row ∷ rows) e = go (eqb k (row .kind)) (unlisted k rows) e
+  where
+    go : (t : Bool) → (listed k rows ≡ false → degreesIn k rows ≡ []) → (t || listed k rows) ≡ false → cond t (row .degrees) (degreesIn k rows) ≡ []
+    go true later e = absurd (true≢false e)
+    go false later e = later e
+
+pub kind-has-level : (k : ℕ) → ltb 0 (levels k) ≡ isKind k
+unfolding levels degrees isKind
+kind-has-level k = go (listed k kinds) refl
+  where
+    go : (t : Bool) → listed k kinds ≡ t → ltb 0 (length (degreesIn k kinds)) ≡ t
+    go true e = lt-ltb 0 (length (degreesIn k kinds)) (some-level k e)
+    go false e = ap (λ (rs : List ℕ). ltb 0 (length rs)) (unlisted k kinds e)
 
 -- every kind has a number for each of its levels
 pub levels-numbered : (k : ℕ) → isKind k ≡ true → levels k ≤ length brokenNumbers

@@ -1,23 +1,62 @@
-// The table of kinds, as functions: what a row of it says, and the widths of a block's numbers. A further kind is a case more in each.
+// The table of kinds, one row for each, and what follows from a row; the numbers of broken levels; the widths of a block's numbers.
+// A further kind is one row more here, and one in the definition `kinds`.
 ghost use mathlib.Core.Path.{_≡_};
 ghost use mathlib.Core.Bool.{true};
 ghost use Prim.Native.Nat.{_<_, _≤_, _^_};
-ghost use lib.ListN.{getD};
-ghost use Rattle.frames.specs.Kind.{isKind, degrees, levels as levelsOf, levelBits, messageBits, messageBytes};
+ghost use lib.ListN.{length, getD};
+ghost use Rattle.frames.specs.Kind.{brokenNumbers, brokenNumber, isKind, isGrade, degrees, levels as levelsOf, levelBits, messageBits, messageBytes};
 ghost use Rattle.frames.specs.Message.{widths};
-ghost use Rattle.frames.specs.Sending.{isGrade, unless};
+ghost use Rattle.frames.specs.Sending.{unless};
+ghost use Rattle.kind_table.specs.Table.{rowOf};
 
-// Whether there is such a kind.
+// A row of the table: the number of levels, the degrees of their codes (0 where there is no level), and their message bits together.
+pub struct Kind {
+    pub levels: usize,
+    pub degrees: [usize; 3],
+    pub bits: usize,
+}
+
+// The numbers for a broken level, level 0 first.
+const BROKEN: [u8; 2] = [7, 8];
+
+// THE TABLE: the row of a kind; no level where there is no such kind.
+pub fn row(kind: u8) -> Kind
+    ensures { λ r. ⌜ r ≡ rowOf kind ⌝ }
+{
+    if kind == 3 {
+        return Kind {
+            levels: 1,
+            degrees: [1, 0, 0],
+            bits: 4,
+        };
+    }
+    if kind == 4 {
+        return Kind {
+            levels: 2,
+            degrees: [1, 3, 0],
+            bits: 20,
+        };
+    }
+    if kind == 5 {
+        return Kind {
+            levels: 2,
+            degrees: [1, 3, 0],
+            bits: 32,
+        };
+    }
+    Kind {
+        levels: 0,
+        degrees: [0, 0, 0],
+        bits: 0,
+    }
+}
+
+// Whether there is such a kind: every kind has a level.
 pub fn is_kind(kind: u8) -> bool
     ensures { λ r. ⌜ r ≡ isKind kind ⌝ }
 {
-    if kind == 3 {
-        return true;
-    }
-    if kind == 4 {
-        return true;
-    }
-    kind == 5
+    let r = row(kind);
+    0 < r.levels
 }
 
 // Whether there is such a grade.
@@ -48,10 +87,8 @@ pub fn levels(kind: u8) -> usize
     requires { ⌜ isKind kind ≡ true ⌝ }
     ensures { λ r. ⌜ r ≡ levelsOf kind ⌝ }
 {
-    if kind == 3 {
-        return 1;
-    }
-    2
+    let r = row(kind);
+    r.levels
 }
 
 // The degree of the code of a level.
@@ -59,10 +96,16 @@ pub fn degree(kind: u8, level: usize) -> usize
     requires { ⌜ (isKind kind ≡ true) × (level < levelsOf kind) ⌝ }
     ensures { λ r. ⌜ r ≡ getD (degrees kind) level 0 ⌝ }
 {
-    if level == 0 {
-        return 1;
-    }
-    3
+    let r = row(kind);
+    r.degrees[level]
+}
+
+// The number for a broken level.
+pub fn broken(level: usize) -> u8
+    requires { ⌜ level < length brokenNumbers ⌝ }
+    ensures { λ r. ⌜ r ≡ brokenNumber level ⌝ }
+{
+    BROKEN[level]
 }
 
 // The number of coordinates.
@@ -78,13 +121,8 @@ pub fn level_bits(kind: u8) -> usize
     requires { ⌜ isKind kind ≡ true ⌝ }
     ensures { λ r. ⌜ r ≡ levelBits kind ⌝ }
 {
-    if kind == 3 {
-        return 4;
-    }
-    if kind == 4 {
-        return 20;
-    }
-    32
+    let r = row(kind);
+    r.bits
 }
 
 // The message bits.

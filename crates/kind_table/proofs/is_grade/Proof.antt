@@ -1,6 +1,6 @@
 -- `kind_table::is_grade` meets its contract. Assumes nothing.
 use borrow.Author.Tests.{le-leb, lt-leb}
-use Rattle.frames.specs.Sending.{isGrade}
+use Rattle.frames.specs.Kind.{isGrade}
 use Rattle.kind_table.proofs.is_grade.Statement.{statement}
 use Rattle.kind_table.proofs.is_grade.Tie as tie
 

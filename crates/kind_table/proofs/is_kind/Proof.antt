@@ -1,22 +1,21 @@
--- `kind_table::is_kind` meets its contract. Assumes nothing.
-use mathlib.Core.Bool.{or-false}
-use mathlib.Core.Path.{sym}
-use borrow.Author.Tests.{eq-eqb, ne-eqb}
-use Rattle.frames.specs.Kind.{kinds, isKind}
+-- `is_kind` meets its contract: a kind is what has a level. Assumes nothing.
+use Prim.Native.Nat.{ℕ}
+use mathlib.Core.Path.{ap, _∙_}
+use lib.Dec.{ltb}
+use borrow.Author.Needs.{needs}
+use Rattle.frames.proofs.Limits.{kind-has-level}
+use Rattle.kind_table.proofs.Entry.{entry-levels}
 use Rattle.kind_table.proofs.is_kind.Statement.{statement}
 use Rattle.kind_table.proofs.is_kind.Tie as tie
 
+row-requires : tie.Need-row-requires
+row-requires c κs = search needs
+
 returns : tie.Need-returns
-unfolding isKind kinds
-returns c = simp (eq-eqb _ _ (c .if1 .taken))
-
-returns-2 : tie.Need-returns-2
-unfolding isKind kinds
-returns-2 c = simp (ne-eqb _ _ (c .before .if1 .left), eq-eqb _ _ (c .if2 .taken))
-
-returns-3 : tie.Need-returns-3
-unfolding isKind kinds
-returns-3 c = simp (ne-eqb _ _ (c .before .if1 .left), ne-eqb _ _ (c .if2 .left)) (sym (or-false _))
+returns c =
+    let called = c .before in
+    let k = called .before .args .kind in
+    ap (λ (n : ℕ). ltb 0 n) (entry-levels k (called .row .result) (called .row .ensures)) ∙ kind-has-level k
 
 pub is-kind-spec : {M : Type 1} → statement M
-is-kind-spec = tie.close (tie.spec returns returns-2 returns-3)
+is-kind-spec = tie.close (tie.spec row-requires returns)

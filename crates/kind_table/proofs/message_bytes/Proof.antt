@@ -1,7 +1,7 @@
 -- `kind_table::message_bytes` meets its contract. Assumes nothing.
 use native.Mathlib.Omega.{arith}
 use Rattle.frames.specs.Kind.{messageBytes}
-use Rattle.kind_table.proofs.Each.{message-small}
+use Rattle.frames.proofs.Limits.{few-message-bits}
 use borrow.Author.Needs.{needs}
 use Rattle.kind_table.proofs.message_bytes.Statement.{statement}
 use Rattle.kind_table.proofs.message_bytes.Tie as tie
@@ -10,7 +10,7 @@ message-bits-requires : tie.Need-message-bits-requires
 message-bits-requires c κs = search needs
 
 add-result : tie.Need-add-result
-add-result c = let s = c .before in omega (arith, message-small (s .args .kind) (s .args .grade) (s .pre .0) (s .pre .1), c .message-bits .ensures)
+add-result c = let s = c .before in omega (arith, few-message-bits (s .args .kind) (s .args .grade) (s .pre .0) (s .pre .1), c .message-bits .ensures)
 
 returns : tie.Need-returns
 unfolding messageBytes
