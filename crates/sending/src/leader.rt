@@ -16,12 +16,14 @@ pub fn codewords(kind: u8, message: &[u8]) -> [u64; 3]
     ensures { λ w. ⌜ w ≡ codewordsOf kind (messageBit (now (message .entry))) ⌝ }
 {
     let m = kind as usize;
-    let levels = kind_table::levels(kind);
+    let row = kind_table::row(kind);
+    let levels = row.levels;
+    let degrees = row.degrees;
     let mut words = [0u64; 3];
     let mut from: usize = 0;
     let mut i: usize = 0;
     while i < levels {
-        let r = kind_table::degree(kind, i);
+        let r = degrees[i];
         let count = reed_muller::dimension_of(m, r);
         let bits = bits::bits_at(message, from, count);
         words[i] = reed_muller::codeword_held(bits, m, r);

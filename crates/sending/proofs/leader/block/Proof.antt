@@ -104,6 +104,9 @@ shr-x c = omega arith
 shr-x-2 : tie.Need-shr-x-2 Inv-loop μ-loop
 shr-x-2 c = omega arith
 
+shr-x-3 : tie.Need-shr-x-3 Inv-loop μ-loop
+shr-x-3 c = omega arith
+
 mul-x : tie.Need-mul-x Inv-loop μ-loop
 mul-x c = omega arith
 
@@ -128,8 +131,8 @@ array-set-from-x c = omega arith
 add-at : tie.Need-add-at Inv-loop μ-loop
 add-at c = omega (arith, fit c .inside)
 
-add-c : tie.Need-add-c Inv-loop μ-loop
-add-c c = omega arith
+add-o : tie.Need-add-o Inv-loop μ-loop
+add-o c = omega arith
 
 loop-less : tie.Need-loop-less Inv-loop μ-loop
 loop-less c = omega arith
@@ -197,7 +200,7 @@ block-spec =
     mul-x-2
     array-set-from-x
     add-at
-    add-c
+    add-o
     loop-less
     loop-again
     returns)
