@@ -38,9 +38,9 @@ returns c =
     let out = args .out .now in
     let message = read .message-held in
     put .ensures
-    ∙ ap (λ (n : ℕ). bytesOf (length out) (withBits (args .from) n (digit (message .result)) (messageBit out))) (read .before .dimension-of .ensures)
-    ∙ put-number (length out) (args .from) (dimension (args .r) (args .m)) (message .ensures)
-    (λ k l. digit-small (args .bits) (getD (order (args .m)) k 0)) (messageBit out)
+    ∙ rw (read .before .dimension-of .ensures)
+    (put-number (length out) (args .from) (dimension (args .r) (args .m)) (message .ensures)
+    (λ k l. digit-small (args .bits) (getD (order (args .m)) k 0)) (messageBit out))
 
 pub put-message-spec : {M : Type 1} → statement M
 put-message-spec = tie.close (tie.spec dimension-of-requires message-held-requires put-bits-requires same-length returns)
