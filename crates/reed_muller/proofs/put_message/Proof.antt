@@ -1,11 +1,11 @@
 -- `put_message`: the message bits put in a row. Assumes nothing.
-use Prim.Native.Nat.{ℕ, _+_, _*_, _%_, _≤_}
-use mathlib.Core.Path.{ap, _∙_}
+use Prim.Native.Nat.{_+_, _*_, _%_, _≤_}
+use mathlib.Core.Path.{_∙_}
 use native.Mathlib.Omega.{arith}
 use lib.ListN.{length, getD}
 use borrow.Author.Needs.{needs}
-use Rattle.bits.specs.Message.{messageBit, bytesOf, withBits}
-use Rattle.bits.proofs.Digits.{digit, digit-small}
+use Rattle.bits.specs.Message.{messageBit}
+use Rattle.bits.proofs.Digits.{digit-small}
 use Rattle.bits.proofs.Bytewise.{put-number}
 use Rattle.reed_muller.specs.Level.{order, dimension}
 use Rattle.reed_muller.proofs.MaskTables.{few-bits}
