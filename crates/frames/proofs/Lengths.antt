@@ -1,13 +1,15 @@
 -- How long the pieces of a message read from a frame are: the levels, the blocks, and all of it. Assumes nothing.
-use Prim.Native.Nat.{ℕ, zero, suc, _+_, _*_, _-_, _^_, _≤_}
+use Prim.Native.Nat.{ℕ, zero, suc, _+_, _*_, _-_, _^_, _≤_, _<_}
 use mathlib.Core.Path.{_≡_, refl, ap, ap₂, _∙_}
 use mathlib.Core.List.{List, [], _∷_}
+use native.Mathlib.Numerals.{add-one}
 use native.Mathlib.Omega.{arith}
-use lib.ListN.{length, length-append, length-take, length-drop}
+use lib.ListN.{length, getD, take, length-append, length-take, length-drop}
 use lib.IntN.{ℤ}
 use Rattle.e8.specs.Lattice.{part}
 use Rattle.e8.specs.Rows.{reduced}
 use Rattle.e8.proofs.Rows.{reduced-length}
+use Rattle.reed_muller.specs.Level.{dimension}
 use Rattle.frames.specs.Kind.{degrees, levels, blocks, dimensions, levelBits, messageBits}
 use Rattle.frames.specs.Message.{widths}
 use Rattle.frames.specs.Frame.{levelWord}
@@ -15,6 +17,23 @@ use Rattle.frames.specs.Reading.{levelMessage, levelMessages, quotients,
 use Rattle.frames.proofs.Stacked.{level-length}
 use Rattle.frames.proofs.Numbers.{all-length, total-widths}
 use Rattle.frames.proofs.Frame.{quotients-length}
+
+-- ---- where the levels begin and end
+
+dimensions-next : (m : ℕ) (rs : List ℕ) (i : ℕ) → i < length rs → dimensions m (take (suc i) rs) ≡ dimensions m (take i rs) + dimension (getD rs i 0) m
+dimensions-next m [] i h = absurd (omega arith)
+dimensions-next m (r ∷ rs) zero h = omega arith
+dimensions-next m (r ∷ rs) (suc i) h = omega (arith, dimensions-next m rs i (omega arith))
+
+pub dimensions-more : (m : ℕ) (rs : List ℕ) (i : ℕ) → i < length rs → dimensions m (take (i + 1) rs) ≡ dimensions m (take i rs) + dimension (getD rs i 0) m
+dimensions-more m rs i h = rw (add-one i) (dimensions-next m rs i h)
+
+-- where the next level begins
+pub level-end : (k i : ℕ) → i < levels k → dimensions k (take (i + 1) (degrees k)) ≡ dimensions k (take i (degrees k)) + dimension (getD (degrees k) i 0) k
+unfolding levels
+level-end k i h = dimensions-more k (degrees k) i h
+
+-- ---- lengths
 
 pub levels-length : (m i : ℕ) (rs : List ℕ) (f : List ℤ) → length (levelMessages m i rs f) ≡ dimensions m rs
 unfolding levelMessages

@@ -104,26 +104,32 @@ shr-x c = omega arith
 shr-x-2 : tie.Need-shr-x-2 Inv-loop μ-loop
 shr-x-2 c = omega arith
 
-shr-x-3 : tie.Need-shr-x-3 Inv-loop μ-loop
-shr-x-3 c = omega arith
-
 mul-x : tie.Need-mul-x Inv-loop μ-loop
 mul-x c = omega arith
 
 add-x : tie.Need-add-x Inv-loop μ-loop
 add-x c = omega arith
 
+shr-x-3 : tie.Need-shr-x-3 Inv-loop μ-loop
+shr-x-3 c = omega arith
+
+mul-x-2 : tie.Need-mul-x-2 Inv-loop μ-loop
+mul-x-2 c = omega arith
+
+add-x-2 : tie.Need-add-x-2 Inv-loop μ-loop
+add-x-2 c = omega arith
+
 shl-x : tie.Need-shl-x Inv-loop μ-loop
 shl-x c = omega arith
 
-add-x-2 : tie.Need-add-x-2 Inv-loop μ-loop
-add-x-2 c = omega (arith, small c)
+add-x-3 : tie.Need-add-x-3 Inv-loop μ-loop
+add-x-3 c = omega (arith, small c)
 
 cast-x : tie.Need-cast-x Inv-loop μ-loop
 cast-x c = record { sfits = omega (arith, small c) }
 
-mul-x-2 : tie.Need-mul-x-2 Inv-loop μ-loop
-mul-x-2 c = omega arith
+mul-x-3 : tie.Need-mul-x-3 Inv-loop μ-loop
+mul-x-3 c = omega arith
 
 array-set-from-x : tie.Need-array-set-from-x Inv-loop μ-loop
 array-set-from-x c = omega arith
@@ -194,10 +200,13 @@ block-spec =
     shr-x-2
     mul-x
     add-x
-    shl-x
-    add-x-2
-    cast-x
+    shr-x-3
     mul-x-2
+    add-x-2
+    shl-x
+    add-x-3
+    cast-x
+    mul-x-3
     array-set-from-x
     add-at
     add-o
