@@ -70,9 +70,16 @@ returns-2 c =
     let s = d .before .before .before .args in
     let a = passed d in
     let f = c .before .write-sent .ensures in
-    let t = sent (d .before .refusal .result) (s .kind) (s .grade) (s .message .now) (s .frame .now) (omega arith) in
-    (d .before .refusal .ensures, (f .0 ∙ t .0, (f .1 ∙ t .1,
-    (λ e. least (s .kind) (s .grade) (s .message .now) (c .before .write-sent .last .1 .1 .1 .0) (c .before .write-sent .result) (a .kind) (grade-low (s .grade) (a .grade)) (f .0) (f .1)))))
+    let t = sent (d .before .refusal .result) (s .kind) (s .grade) (s .message .now) (s .frame .now) (omega arith) in (
+      d .before .refusal .ensures,
+      (
+        f .0 ∙ t .0,
+        (
+          f .1 ∙ t .1,
+          (λ e. least (s .kind) (s .grade) (s .message .now) (c .before .write-sent .last .1 .1 .1 .0) (c .before .write-sent .result) (a .kind) (grade-low (s .grade) (a .grade)) (f .0) (f .1)),
+        ),
+      ),
+    )
 
 pub send-spec : {M : Type 1} → statement M
 send-spec = tie.close (tie.spec refusal-requires returns write-sent-requires same-length returns-2)
