@@ -14,7 +14,7 @@ use Rattle.frames.specs.Kind.{isKind, scale, levels as levels-of}
 use Rattle.frames.specs.Message.{leader}
 use Rattle.frames.specs.Frame.{half, sentFrame}
 use Rattle.frames.proofs.One.{leader-length}
-use Rattle.frames.proofs.Limits.{few-levels, few-positions}
+use Rattle.frames.proofs.Limits.{few-levels, few-positions, some-block}
 use Rattle.frames.proofs.Demands.{sent-length, sent-within}
 use Rattle.sending.proofs.Laid.{long, leader-within}
 use borrow.Author.Needs.{needs}
@@ -59,6 +59,7 @@ shape-requires c κs =
       omega (arith, e, n),
       omega (arith, e, leader-length k (s .args .grade) (s .args .message .now), few-positions k (s .pre .0)),
       subst (Within (2 ^ 24)) (sym (l .write-leader .ensures)) (leader-within k (s .args .grade) (s .pre .0) (s .args .message .now) (s .pre .2)),
+      omega (arith, e, n, some-block k (s .pre .0)),
     )
 
 -- what is shaped is the sent frame, and small

@@ -46,7 +46,7 @@ loop-holds c = (omega arith, refl, refl, ints-none _)
 width-requires : tie.Need-width-requires Inv-loop μ-loop
 width-requires c κs =
     let s = c .before .before .before .before in
-    (s .pre .0, s .pre .1, c .loop-test .taken)
+    (s .pre .0, s .pre .1, omega (arith, c .loop-test .taken))
 
 -- a number of at most five bits, among the block's
 record Fit (c : tie.After-width Inv-loop μ-loop) : Type 0 where
@@ -58,7 +58,7 @@ fit c =
     let a = c .before .before in
     let s = a .before .before .before in
     let b = s .args .grade in
-    let lt : a .loop .o < 8 = c .before .loop-test .taken in record {
+    let lt : a .loop .o < 8 = omega (arith, c .before .loop-test .taken) in record {
       narrow = omega (arith, c .width .ensures, width-small b (a .loop .o) (s .pre .1) lt);
       inside = omega (arith, c .width .ensures, a .loop .inv .1, total-suc (widths b) (a .loop .o) lt, total-le (widths b) (suc (a .loop .o)), total-widths b (s .pre .0));
     }
@@ -162,14 +162,14 @@ value c =
     let e : taken c ≡ getD (numbers bit (g .from) (widths (g .grade))) (a .loop .o) 0 =
     taken-is c
     ∙ ap₂ (λ (n w : ℕ). number w (λ i. bit (g .from + n + i))) (a .loop .inv .1) (c .width .ensures)
-    ∙ sym (numbers-at bit (g .from) (widths (g .grade)) (a .loop .o) (c .before .loop-test .taken)) in
+    ∙ sym (numbers-at bit (g .from) (widths (g .grade)) (a .loop .o) (omega (arith, c .before .loop-test .taken))) in
     omega (arith, small c, ap (λ (n : ℕ). n * 2 ^ g .a) e)
 
 loop-again : tie.Need-loop-again Inv-loop μ-loop
 loop-again c =
     let a = c .before .before in
     let s = a .before .before .before in
-    let lt : a .loop .o < 8 = c .before .loop-test .taken in (
+    let lt : a .loop .o < 8 = omega (arith, c .before .loop-test .taken) in (
       omega arith,
       rw add-one (omega (arith, total-suc (widths (s .args .grade)) (a .loop .o) lt, a .loop .inv .1, c .width .ensures)),
       length-set (a .loop .x) (a .loop .o) (toZ w32 (stored c)) ∙ a .loop .inv .2,

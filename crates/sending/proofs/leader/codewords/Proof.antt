@@ -13,7 +13,7 @@ use Rattle.reed_muller.specs.Level.{dimension, codeword}
 use Rattle.reed_muller.proofs.Codeword.{codeword-cong}
 use Rattle.frames.specs.Kind.{isKind, degrees, levels as levels-of, levelBits}
 use Rattle.frames.proofs.Lengths.{level-end}
-use Rattle.frames.proofs.Limits.{tabled, few-levels, few-level-bits, degree-fits, Piece, level-piece}
+use Rattle.frames.proofs.Limits.{tabled, few-levels, few-level-bits, kind-high, degree-fits, Piece, level-piece}
 use Rattle.kind_table.proofs.Entry.{entry-levels, entry-degree}
 use Rattle.sending.specs.Words.{levelStart, levelValue, codewordsOf}
 use Rattle.sending.proofs.leader.codewords.Statement.{statement}
@@ -109,7 +109,11 @@ array-write-words : tie.Need-array-write-words Inv-loop μ-loop
 array-write-words c = turn (c .before .before .before) .three
 
 add-from : tie.Need-add-from Inv-loop μ-loop
-add-from c = let t = c .before .before .before in omega (arith, c .before .before .dimension-of .ensures, turn t .piece .inside, few-level-bits (at-start t .args .kind) (at-start t .pre .0))
+add-from c =
+    let t = c .before .before .before in
+    let k = at-start t .args .kind in
+    let kind = at-start t .pre .0 in
+    omega (arith, c .before .before .dimension-of .ensures, turn t .piece .inside, turn t .fits, few-level-bits k kind, kind-high k kind)
 
 add-i : tie.Need-add-i Inv-loop μ-loop
 add-i c = omega (arith, turn (c .before .before .before) .three)
