@@ -8,11 +8,14 @@ use native.Mathlib.Omega.{arith}
 use lib.Dec.{eqb}
 use lib.ListN.{length}
 use borrow.Author.Tests.{eq-eqb, ne-eqb, eqb-true, eqb-false}
+use lib.IntN.{ℤ}
 use Rattle.bits.specs.Message.{messageBit}
 use Rattle.bits.proofs.Message.{message-small, bit-past}
+use Rattle.e8.specs.Energy.{energy}
 use Rattle.frames.specs.Kind.{isKind, isGrade, messageBits, messageBytes}
 use Rattle.frames.specs.Message.{Bytes, Message}
-use Rattle.frames.specs.Sending.{anySet, spareSet, sendRefusal, Accepts}
+use Rattle.frames.specs.Frame.{sentFrame}
+use Rattle.frames.specs.Sending.{anySet, spareSet, sendRefusal, Accepts, frameAfter, energySent}
 use Rattle.frames.specs.Demands.{Sendable, AcceptedExactly}
 use Rattle.frames.proofs.Limits.{bytes-hold}
 use Rattle.frames.proofs.Refusals.{passed}
@@ -118,3 +121,15 @@ accepted-exactly k b bytes n each = record { sendable = back; accepted = sendabl
 -- a message is one that sending accepts
 pub message-accepted : (k b : ℕ) (bytes : List ℕ) → isKind k ≡ true → isGrade b ≡ true → Message k b bytes → Accepts k b bytes
 message-accepted k b bytes kind grade m = sendable-accepted k b bytes (2 ^ k) (record { kind = kind; grade = grade; message = m; coordinates = refl })
+
+-- ---- what sending leaves, by its number
+
+pub sent-leaves : (number k b : ℕ) (bytes : List ℕ) (f : List ℤ) → number ≡ 0
+    → (frameAfter number k b bytes f ≡ sentFrame k b bytes) × (energySent number k b bytes ≡ energy (sentFrame k b bytes))
+unfolding frameAfter energySent
+sent-leaves number k b bytes f e = (rw e, rw e)
+
+pub refused-leaves : (number k b : ℕ) (bytes : List ℕ) (f : List ℤ) → (number ≡ 0 → ⊥)
+    → (frameAfter number k b bytes f ≡ f) × (energySent number k b bytes ≡ 0)
+unfolding frameAfter energySent
+refused-leaves number k b bytes f h = (rw (ne-eqb number 0 h), rw (ne-eqb number 0 h))

@@ -71,7 +71,9 @@ module _ (k b : ℕ) (kind : isKind k ≡ true) (grade : 1 ≤ b) where
   -- every coordinate of it is at most M in size
   pub sent-within : (bytes : List ℕ) → Within (scale k b) (sentFrame k b bytes)
   unfolding sentFrame
-  sent-within bytes = subst (λ (m : ℕ). Within m (sentFrame k b bytes)) (sym scale-half) (leastFrame-within (half k b) (half-pos k b) (blocks k) (leader k b bytes))
+  sent-within bytes =
+      subst (λ (m : ℕ). Within m (sentFrame k b bytes)) (sym scale-half)
+      (leastFrame-within (half k b) (half-pos k b) (blocks k) (leader k b bytes))
     where
       above : Above b
       above = grade-above b grade
@@ -91,13 +93,13 @@ leader-codes k b s bytes =
     none : (c n : ℕ) → pos n ≡ pos n +ℤ pos c *ℤ pos 0
     none c n = eq! (# n) (# n ⊕ # c ⊗ # 0) (omega arith)
 
-in-coding-set : (k c : ℕ) → isKind k ≡ true → (bytes : List ℕ) → InCodingSet k (sentFrame k (suc c) bytes)
+-- what differs from a leader by a lattice point, at grade c + 1, is in the coding set
+leader-in-set : (k c : ℕ) → isKind k ≡ true → (bytes : List ℕ) (f : List ℤ) → SameClass k (suc c) (leader k (suc c) bytes) f → InCodingSet k f
 unfolding levels
-in-coding-set k c kind bytes = record {
-  long = sent-length k (suc c) kind (omega arith) bytes;
-  codewords = of-codes k (degrees k) (sentFrame k (suc c) bytes)
-      (class-codes k c (shape k kind) (leader k (suc c) bytes) (sentFrame k (suc c) bytes) (leader-length k (suc c) bytes) (sent-frame k (suc c) kind (omega arith) bytes .member)
-      (leader-codes k (suc c) (shape k kind) bytes));
+leader-in-set k c kind bytes f d = record {
+  long = d .long ∙ leader-length k (suc c) bytes;
+  codewords = of-codes k (degrees k) f
+      (class-codes k c (shape k kind) (leader k (suc c) bytes) f (leader-length k (suc c) bytes) d (leader-codes k (suc c) (shape k kind) bytes));
 }
 
 module _ (k b : ℕ) (kind : isKind k ≡ true) (grade : isGrade b ≡ true) where
@@ -107,9 +109,15 @@ module _ (k b : ℕ) (kind : isKind k ≡ true) (grade : isGrade b ≡ true) whe
   above : Above b
   above = grade-above b low
 
+  -- every frame that differs from a sent frame by a lattice point is in the coding set: with `exactly-one`, these are all of its frames
+  pub class-in-set : (bytes : List ℕ) (f : List ℤ) → SameClass k b (sentFrame k b bytes) f → InCodingSet k f
+  class-in-set bytes f d =
+      subst (λ (e : ℕ). SameClass k e (leader k e bytes) f → InCodingSet k f) (sym (above .is)) (leader-in-set k (above .less) kind bytes f)
+      (differ-trans (half k b) (blocks k) (leader k b bytes) (sentFrame k b bytes) f (sent-frame k b kind low bytes .member) d)
+
   -- the sent frame is in the coding set
   pub sent-in-set : (bytes : List ℕ) → InCodingSet k (sentFrame k b bytes)
-  sent-in-set bytes = subst (λ (d : ℕ). InCodingSet k (sentFrame k d bytes)) (sym (above .is)) (in-coding-set k (above .less) kind bytes)
+  sent-in-set bytes = class-in-set bytes (sentFrame k b bytes) (differ-refl (half k b) (blocks k) (sentFrame k b bytes))
 
   -- what the open reading gives is a message of the kind and grade
   pub read-message : (f : List ℤ) → InCodingSet k f → Message k b (openMessage k b f)
@@ -123,12 +131,15 @@ module _ (k b : ℕ) (kind : isKind k ≡ true) (grade : isGrade b ≡ true) whe
   pub read-class : (f : List ℤ) → InCodingSet k f → SameClass k b (sentFrame k b (openMessage k b f)) f
   read-class f set =
       differ-trans (half k b) (blocks k) (sentFrame k b (openMessage k b f)) (leader k b (openMessage k b f)) f
-      (differ-sym (half k b) (blocks k) (leader k b (openMessage k b f)) (sentFrame k b (openMessage k b f)) (sent-frame k b kind low (openMessage k b f) .member))
+      (differ-sym (half k b) (blocks k) (leader k b (openMessage k b f)) (sentFrame k b (openMessage k b f))
+      (sent-frame k b kind low (openMessage k b f) .member))
       (differ-sym (half k b) (blocks k) f (leader k b (openMessage k b f)) (leader-class f set))
 
   -- messages whose leaders differ by a lattice point are the same
   same-leaders : (x y : List ℕ) → Message k b x → Message k b y → SameClass k b (leader k b x) (leader k b y) → x ≡ y
-  same-leaders = subst (λ (d : ℕ). (x y : List ℕ) → Message k d x → Message k d y → SameClass k d (leader k d x) (leader k d y) → x ≡ y) (sym (above .is)) (one-message k (above .less) (shape k kind))
+  same-leaders =
+      subst (λ (d : ℕ). (x y : List ℕ) → Message k d x → Message k d y → SameClass k d (leader k d x) (leader k d y) → x ≡ y) (sym (above .is))
+      (one-message k (above .less) (shape k kind))
 
   -- "Each coding-set frame differs so from the sent frame of exactly one message at each grade"
   pub exactly-one : (f : List ℤ) → InCodingSet k f → OneMessage k b f

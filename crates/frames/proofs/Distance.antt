@@ -30,5 +30,7 @@ somewhere (x ∷ f) [] e ne = absurd (omega arith)
 somewhere (x ∷ f) (y ∷ g) e ne = go (somewhere f g (omega arith)) (ℤ-discrete x y)
   where
     go : ((f ≡ g → ⊥) → Apart f g) → Dec (x ≡ y) → Apart (x ∷ f) (y ∷ g)
-    go later (yes s) = let a : Apart f g = later (λ t. ne (ap₂ _∷_ s t)) in record { position = suc (a .position); inside = omega (arith, a .inside); differ = a .differ }
+    go later (yes s) =
+        let a : Apart f g = later (λ t. ne (ap₂ _∷_ s t)) in
+        record { position = suc (a .position); inside = omega (arith, a .inside); differ = a .differ }
     go later (no d) = record { position = 0; inside = omega arith; differ = d }

@@ -50,7 +50,9 @@ weight-bit i z = rw (pow-suc 2 i) (sym (ap (λ (y : ℤ). modZ y 2) quotient ∙
       where
         go : Dec (r / n < 2) → r / n < 2
         go (yes h) = h
-        go (no k) = let l : 2 ≤ r / n = omega arith in absurd (omega (arith, mul-le-mul-right n l, div-add-mod' r n, modZ-lt z (2 ^ i * 2) (omega (arith, n-pos))))
+        go (no k) =
+            let l : 2 ≤ r / n = omega arith in
+            absurd (omega (arith, mul-le-mul-right n l, div-add-mod' r n, modZ-lt z (2 ^ i * 2) (omega (arith, n-pos))))
 
     quotient : shrZ z n ≡ pos 2 *ℤ q +ℤ pos (r / n)
     quotient = quot-is z n (pos 2 *ℤ q +ℤ pos (r / n)) (r % n) (mod-lt r n-pos)
@@ -71,7 +73,8 @@ word-is : (i : ℕ) (f : List ℤ) → levelWord i f ≡ (λ p. modZ (above i f 
 word-is i f = fun-ext (λ p. weight-bit i (at f p))
 
 -- the level words are codewords, by levels or by the stack
-codes-from : (m : ℕ) (rs : List ℕ) (i : ℕ) (f : List ℤ) → ((j : ℕ) → j < length rs → belongs (getD rs j 0) m (levelWord (i + j) f) ≡ true) → Codes m rs (above i f)
+codes-from : (m : ℕ) (rs : List ℕ) (i : ℕ) (f : List ℤ)
+    → ((j : ℕ) → j < length rs → belongs (getD rs j 0) m (levelWord (i + j) f) ≡ true) → Codes m rs (above i f)
 codes-from m [] i f h = tt
 codes-from m (r ∷ rs) i f h =
     let first : i + 0 ≡ i = omega arith in (
@@ -81,7 +84,8 @@ codes-from m (r ∷ rs) i f h =
           ap (λ (n : ℕ). belongs (getD rs j 0) m (levelWord n f)) later ∙ h (suc j) (omega arith))),
     )
 
-codes-back : (m : ℕ) (rs : List ℕ) (i : ℕ) (f : List ℤ) → Codes m rs (above i f) → (j : ℕ) → j < length rs → belongs (getD rs j 0) m (levelWord (i + j) f) ≡ true
+codes-back : (m : ℕ) (rs : List ℕ) (i : ℕ) (f : List ℤ) → Codes m rs (above i f)
+    → (j : ℕ) → j < length rs → belongs (getD rs j 0) m (levelWord (i + j) f) ≡ true
 codes-back m [] i f h j l = absurd (omega arith)
 codes-back m (r ∷ rs) i f h zero l =
     let first : i + 0 ≡ i = omega arith in
@@ -142,7 +146,8 @@ moved-at H (x ∷ xs) (w ∷ ws) l zero h = refl
 moved-at H (x ∷ xs) (w ∷ ws) l (suc o) h = moved-at H xs ws (omega arith) o (omega arith)
 
 -- a block is xs − H·ws when each of its eight coordinates is so
-pub is-moved : (H : ℕ) (xs ws zs : List ℤ) → length xs ≡ 8 → length ws ≡ 8 → length zs ≡ 8 → ((o : ℕ) → o < 8 → at zs o ≡ at xs o -ℤ pos H *ℤ at ws o) → zs ≡ moved H xs ws
+pub is-moved : (H : ℕ) (xs ws zs : List ℤ) → length xs ≡ 8 → length ws ≡ 8 → length zs ≡ 8
+    → ((o : ℕ) → o < 8 → at zs o ≡ at xs o -ℤ pos H *ℤ at ws o) → zs ≡ moved H xs ws
 is-moved H xs ws zs lx lw lz e =
     ext-getD (pos 0) zs (moved H xs ws) (lz ∙ sym (moved-length H xs ws (lw ∙ sym lx) ∙ lx))
     (λ o h. e o (omega (arith, h, lz)) ∙ sym (moved-at H xs ws (lw ∙ sym lx) o (omega (arith, h, lz, lx))))

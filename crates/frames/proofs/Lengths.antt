@@ -6,10 +6,10 @@ use native.Mathlib.Numerals.{add-one}
 use native.Mathlib.Omega.{arith}
 use lib.ListN.{length, getD, take, length-append, length-take, length-drop}
 use lib.IntN.{ℤ}
+use Rattle.reed_muller.specs.Level.{dimension}
 use Rattle.e8.specs.Lattice.{part}
 use Rattle.e8.specs.Rows.{reduced}
 use Rattle.e8.proofs.Rows.{reduced-length}
-use Rattle.reed_muller.specs.Level.{dimension}
 use Rattle.frames.specs.Kind.{degrees, levels, blocks, dimensions, levelBits, messageBits}
 use Rattle.frames.specs.Message.{widths}
 use Rattle.frames.specs.Frame.{levelWord}
@@ -18,22 +18,27 @@ use Rattle.frames.proofs.Stacked.{level-length}
 use Rattle.frames.proofs.Numbers.{all-length, total-widths}
 use Rattle.frames.proofs.Frame.{quotients-length}
 
--- ---- where the levels begin and end
-
-dimensions-next : (m : ℕ) (rs : List ℕ) (i : ℕ) → i < length rs → dimensions m (take (suc i) rs) ≡ dimensions m (take i rs) + dimension (getD rs i 0) m
-dimensions-next m [] i h = absurd (omega arith)
-dimensions-next m (r ∷ rs) zero h = omega arith
-dimensions-next m (r ∷ rs) (suc i) h = omega (arith, dimensions-next m rs i (omega arith))
+-- ---- the levels, each of which begins where the one before ends
 
 pub dimensions-more : (m : ℕ) (rs : List ℕ) (i : ℕ) → i < length rs → dimensions m (take (i + 1) rs) ≡ dimensions m (take i rs) + dimension (getD rs i 0) m
-dimensions-more m rs i h = rw (add-one i) (dimensions-next m rs i h)
+dimensions-more m rs i h = rw (add-one i) (next m rs i h)
+  where
+    next : (m : ℕ) (rs : List ℕ) (i : ℕ) → i < length rs → dimensions m (take (suc i) rs) ≡ dimensions m (take i rs) + dimension (getD rs i 0) m
+    next m [] i h = absurd (omega arith)
+    next m (r ∷ rs) zero h = omega arith
+    next m (r ∷ rs) (suc i) h = omega (arith, next m rs i (omega arith))
 
--- where the next level begins
+pub dimensions-le : (m : ℕ) (rs : List ℕ) (i : ℕ) → dimensions m (take i rs) ≤ dimensions m rs
+dimensions-le m rs zero = omega arith
+dimensions-le m [] (suc i) = omega arith
+dimensions-le m (r ∷ rs) (suc i) = omega (arith, dimensions-le m rs i)
+
+-- where the next level of a kind begins
 pub level-end : (k i : ℕ) → i < levels k → dimensions k (take (i + 1) (degrees k)) ≡ dimensions k (take i (degrees k)) + dimension (getD (degrees k) i 0) k
 unfolding levels
 level-end k i h = dimensions-more k (degrees k) i h
 
--- ---- lengths
+-- ---- what is read
 
 pub levels-length : (m i : ℕ) (rs : List ℕ) (f : List ℤ) → length (levelMessages m i rs f) ≡ dimensions m rs
 unfolding levelMessages

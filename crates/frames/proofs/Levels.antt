@@ -78,7 +78,11 @@ sq-pos x y ne = mul-le-mul one one
 -- numbers of one parity: their difference is twice that of their halves
 double-diff : (x y : ℤ) → modZ x 2 ≡ modZ y 2 → x -ℤ y ≡ pos 2 *ℤ (shrZ x 2 -ℤ shrZ y 2)
 double-diff x y e = eq! (` x ⊖ ` y) (# 2 ⊗ (` (shrZ x 2) ⊖ ` (shrZ y 2)))
-    (omega (arith, eq? (` x) (# 2 ⊗ ` (shrZ x 2) ⊕ # (modZ x 2)) (div-mod x 2 (omega arith)), eq? (` y) (# 2 ⊗ ` (shrZ y 2) ⊕ # (modZ y 2)) (div-mod y 2 (omega arith))))
+    (omega (
+      arith,
+      eq? (` x) (# 2 ⊗ ` (shrZ x 2) ⊕ # (modZ x 2)) (div-mod x 2 (omega arith)),
+      eq? (` y) (# 2 ⊗ ` (shrZ y 2) ⊕ # (modZ y 2)) (div-mod y 2 (omega arith)),
+    ))
 
 parity-sq : (x y : ℤ) → (modZ x 2 + modZ y 2) % 2 ≤ sq (x -ℤ y)
 parity-sq x y = go (ℤ-discrete x y)
@@ -91,7 +95,9 @@ parity-sq x y = go (ℤ-discrete x y)
 pub apart : (m : ℕ) (rs : List ℕ) → Fit m rs → (x y : ℕ → ℤ) → Codes m rs x → Codes m rs y → (p : ℕ) → p < 2 ^ m → (x p ≡ y p → ⊥)
     → apartBy m rs ≤ sumTo (2 ^ m) (λ q. sq (x q -ℤ y q))
 apart m [] fit x y cx cy p h ne = le-trans (sq-pos (x p) (y p) ne) (sum-term (2 ^ m) (λ q. sq (x q -ℤ y q)) p h)
-apart m (r ∷ rs) fit x y cx cy p h ne = go (look (2 ^ m) (λ q. modZ (x q) 2 + modZ (y q) 2)) (apart m rs (fit .1) (λ q. shrZ (x q) 2) (λ q. shrZ (y q) 2) (cx .1) (cy .1) p h)
+apart m (r ∷ rs) fit x y cx cy p h ne =
+    go (look (2 ^ m) (λ q. modZ (x q) 2 + modZ (y q) 2))
+    (apart m rs (fit .1) (λ q. shrZ (x q) 2) (λ q. shrZ (y q) 2) (cx .1) (cy .1) p h)
   where
     S : ℕ
     S = sumTo (2 ^ m) (λ q. sq (x q -ℤ y q))
@@ -112,4 +118,8 @@ apart m (r ∷ rs) fit x y cx cy p h ne = go (look (2 ^ m) (λ q. modZ (x q) 2 +
         same q l = omega (arith, all q l, modZ-lt (x q) 2 (omega arith), modZ-lt (y q) 2 (omega arith))
 
         whole : shrZ (x p) 2 ≡ shrZ (y p) 2 → x p ≡ y p
-        whole f = eq! (` (x p)) (` (y p)) (omega (arith, eq? (` (x p) ⊖ ` (y p)) (# 2 ⊗ (` (shrZ (x p) 2) ⊖ ` (shrZ (y p) 2))) (double-diff (x p) (y p) (same p h)), eq? (` (shrZ (x p) 2)) (` (shrZ (y p) 2)) f))
+        whole f = eq! (` (x p)) (` (y p)) (omega (
+          arith,
+          eq? (` (x p) ⊖ ` (y p)) (# 2 ⊗ (` (shrZ (x p) 2) ⊖ ` (shrZ (y p) 2))) (double-diff (x p) (y p) (same p h)),
+          eq? (` (shrZ (x p) 2)) (` (shrZ (y p) 2)) f,
+        ))

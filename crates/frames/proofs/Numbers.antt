@@ -1,8 +1,8 @@
 -- Numbers in a row of bits: the bits determine the numbers and the numbers the bits, for any widths. Assumes nothing.
 use Prim.Native.Nat.{ℕ, zero, suc, _+_, _-_, _*_, _%_, _/_, _^_, _≤_, _<_}
-use mathlib.Core.Path.{_≡_, refl, sym, ap, ap₂, _∙_}
+use mathlib.Core.Path.{_≡_, refl, sym, ap, ap₂, _∙_, subst}
 use mathlib.Core.List.{List, [], _∷_, _++_}
-use native.Mathlib.Nat.{mod-eq-of-lt, pow-suc}
+use native.Mathlib.Nat.{mod-eq-of-lt}
 use native.Mathlib.Decide.{decLt}
 use native.Mathlib.Omega.{arith}
 use lib.ListN.{length, getD, length-append, List·getD-append}
@@ -14,6 +14,7 @@ use Rattle.bits.proofs.Message.{number-lt, number-bit, number-digits}
 use Rattle.e8.specs.Rows.{Below, Ranged}
 use Rattle.frames.specs.Message.{numbers, widths}
 use Rattle.frames.specs.Reading.{digits, allDigits}
+use Rattle.frames.proofs.Stacked.{pow-double}
 
 -- the bits that numbers of the given widths take
 abbrev pub total : List ℕ → ℕ
@@ -79,7 +80,8 @@ all-length [] ss h = refl
 all-length (w ∷ ws) [] h = absurd (omega arith)
 all-length (w ∷ ws) (s ∷ ss) h = length-append (digits w s) (allDigits ws ss) ∙ ap₂ _+_ (digits-length w s) (all-length ws ss (omega arith))
 
-pub numbers-read : (bit : ℕ → ℕ) (ws ss : List ℕ) (from : ℕ) → Fits ws ss → ((o : ℕ) → o < total ws → bit (from + o) ≡ getD (allDigits ws ss) o 0) → numbers bit from ws ≡ ss
+pub numbers-read : (bit : ℕ → ℕ) (ws ss : List ℕ) (from : ℕ) → Fits ws ss
+    → ((o : ℕ) → o < total ws → bit (from + o) ≡ getD (allDigits ws ss) o 0) → numbers bit from ws ≡ ss
 unfolding numbers allDigits
 numbers-read bit [] [] from h e = refl
 numbers-read bit [] (s ∷ ss) from h e = absurd h
@@ -107,42 +109,39 @@ numbers-read bit (w ∷ ws) (s ∷ ss) from h e = ap₂ _∷_ first (numbers-rea
 pub total-widths : (b : ℕ) → 1 ≤ b → total (widths b) ≡ 8 * b
 total-widths b h = omega arith
 
--- grade b is c + 1 here, so that h = 2^c
+-- grade b is c + 1 here, so that h = 2^c: the widths b − 1, b and b + 1 hold the numbers below h, 2h and 4h
 module _ (c : ℕ) where
-  h1 : suc c - 1 ≡ c
-  h1 = omega arith
+  first-range : 2 ^ (suc c - 1) ≡ 2 ^ c
+  first-range = let e : suc c - 1 ≡ c = omega arith in ap (λ (n : ℕ). 2 ^ n) e
 
-  h2 : 2 ^ suc c ≡ 2 * 2 ^ c
-  h2 = rw pow-suc (omega arith)
+  last-range : 2 ^ (suc c + 1) ≡ 4 * 2 ^ c
+  last-range = let e : suc c + 1 ≡ suc (suc c) = omega arith in ap (λ (n : ℕ). 2 ^ n) e ∙ omega (arith, pow-double (suc c), pow-double c)
 
-  h4 : 2 ^ (suc c + 1) ≡ 4 * 2 ^ c
-  h4 = let e : suc c + 1 ≡ suc (suc c) = omega arith in rw (e, pow-suc, pow-suc) (omega arith)
+  -- the widths of the last n + 1 numbers: s8 and the n before it
+  abbrev lastWidths : ℕ → List ℕ
+  lastWidths zero = (suc c + 1) ∷ []
+  lastWidths (suc n) = suc c ∷ lastWidths n
 
-  -- the widths after n + 1 of the last numbers: s8 and the n before it
-  abbrev last : ℕ → List ℕ
-  last zero = (suc c + 1) ∷ []
-  last (suc n) = suc c ∷ last n
-
-  last-length : (n : ℕ) → length (last n) ≡ suc n
+  last-length : (n : ℕ) → length (lastWidths n) ≡ suc n
   last-length zero = refl
   last-length (suc n) = ap suc (last-length n)
 
-  fits-below : (n : ℕ) (ss : List ℕ) → Fits (last n) ss → Below (2 ^ c) ss
-  fits-below n [] f = absurd (omega (arith, fits-length (last n) [] f, last-length n))
-  fits-below zero (s ∷ []) f = rw h4 at (f .0)
-  fits-below (suc n) (s ∷ []) f = absurd (omega (arith, fits-length (last (suc n)) (s ∷ []) f, last-length (suc n)))
+  fits-below : (n : ℕ) (ss : List ℕ) → Fits (lastWidths n) ss → Below (2 ^ c) ss
+  fits-below n [] f = absurd (omega (arith, fits-length (lastWidths n) [] f, last-length n))
+  fits-below zero (s ∷ []) f = subst (λ (m : ℕ). s < m) last-range (f .0)
+  fits-below (suc n) (s ∷ []) f = absurd (omega (arith, fits-length (lastWidths (suc n)) (s ∷ []) f, last-length (suc n)))
   fits-below zero (s ∷ t ∷ ts) f = absurd (f .1)
-  fits-below (suc n) (s ∷ t ∷ ts) f = (rw h2 at (f .0), fits-below n (t ∷ ts) (f .1))
+  fits-below (suc n) (s ∷ t ∷ ts) f = (subst (λ (m : ℕ). s < m) (pow-double c) (f .0), fits-below n (t ∷ ts) (f .1))
 
   pub fits-ranged : (ss : List ℕ) → Fits (widths (suc c)) ss → Ranged (2 ^ c) ss
-  fits-ranged (s ∷ ss) f = (rw h1 at (f .0), fits-below 6 ss (f .1))
+  fits-ranged (s ∷ ss) f = (subst (λ (m : ℕ). s < m) first-range (f .0), fits-below 6 ss (f .1))
 
-  below-fits : (n : ℕ) (ss : List ℕ) → length ss ≡ suc n → Below (2 ^ c) ss → Fits (last n) ss
+  below-fits : (n : ℕ) (ss : List ℕ) → length ss ≡ suc n → Below (2 ^ c) ss → Fits (lastWidths n) ss
   below-fits n [] l r = absurd r
-  below-fits zero (s ∷ []) l r = (rw h4 r, tt)
+  below-fits zero (s ∷ []) l r = (subst (λ (m : ℕ). s < m) (sym last-range) r, tt)
   below-fits (suc n) (s ∷ []) l r = absurd (omega arith)
   below-fits zero (s ∷ t ∷ ts) l r = absurd (omega arith)
-  below-fits (suc n) (s ∷ t ∷ ts) l r = (rw h2 (r .0), below-fits n (t ∷ ts) (omega arith) (r .1))
+  below-fits (suc n) (s ∷ t ∷ ts) l r = (subst (λ (m : ℕ). s < m) (sym (pow-double c)) (r .0), below-fits n (t ∷ ts) (omega arith) (r .1))
 
   pub ranged-fits : (ss : List ℕ) → length ss ≡ 8 → Ranged (2 ^ c) ss → Fits (widths (suc c)) ss
-  ranged-fits (s ∷ ss) l r = (rw h1 (r .0), below-fits 6 ss (omega arith) (r .1))
+  ranged-fits (s ∷ ss) l r = (subst (λ (m : ℕ). s < m) (sym first-range) (r .0), below-fits 6 ss (omega arith) (r .1))

@@ -68,7 +68,10 @@ bits-table f h n = record { small = table-below 2 f n (lit< tt) h }
 levels-bits : (m i : ℕ) (rs : List ℕ) (f : List ℤ) → Bits (levelMessages m i rs f)
 unfolding levelMessages levelMessage
 levels-bits m i [] f = bits-none
-levels-bits m i (r ∷ rs) f = bits-append (bits-table (λ t. backwards m (levelWord i f) (getD (order m) t 0)) (λ t. backwards-small m (levelWord i f) (getD (order m) t 0)) (dimension r m)) (levels-bits m (suc i) rs f)
+levels-bits m i (r ∷ rs) f =
+    bits-append
+    (bits-table (λ t. backwards m (levelWord i f) (getD (order m) t 0)) (λ t. backwards-small m (levelWord i f) (getD (order m) t 0)) (dimension r m))
+    (levels-bits m (suc i) rs f)
 
 all-bits : (ws ss : List ℕ) → Bits (allDigits ws ss)
 unfolding allDigits digits
@@ -190,7 +193,8 @@ module _ (k c : ℕ) (shape : Shape k) where
     unfolding openMessage bytesOf
     open-message = record {
       long = length-bytes (messageBytes k b) (λ i. getD (readBits k b f) i 0);
-      each = table-below 256 (byteOf (λ i. getD (readBits k b f) i 0)) (messageBytes k b) (lit< tt) (λ j. byte-lt (λ i. getD (readBits k b f) i 0) j (λ i l. read-bits (8 * j + i)));
+      each = table-below 256 (byteOf (λ i. getD (readBits k b f) i 0)) (messageBytes k b) (lit< tt)
+          (λ j. byte-lt (λ i. getD (readBits k b f) i 0) j (λ i l. read-bits (8 * j + i)));
       spare = λ i l. message-bit i ∙ List·getD-eq-default (readBits k b f) 0 {n = i} (omega (arith, read-long));
     }
 
@@ -242,7 +246,8 @@ module _ (k c : ℕ) (shape : Shape k) where
         let ej : (8 * j + o) / 8 ≡ j = omega arith in
         let eo : (8 * j + o) % 8 ≡ o = omega arith in
         leader-at k b (openMessage k b f) (8 * j + o) p
-        ∙ ap₂ (λ (i r : ℕ). pos (stacked k (degrees k) (messageBit (openMessage k b f)) 0 (getD (blockNumbers k b (openMessage k b f) i) r 0) (8 * j + o))) ej eo
+        ∙ ap₂ (λ (i r : ℕ). pos (stacked k (degrees k) (messageBit (openMessage k b f)) 0 (getD (blockNumbers k b (openMessage k b f) i) r 0) (8 * j + o)))
+        ej eo
         ∙ ap (λ (s : List ℕ). pos (stacked k (degrees k) (messageBit (openMessage k b f)) 0 (getD s o 0) (8 * j + o))) (open-numbers j hj)
         ∙ stacked-read k (degrees k) (shape .fit) (at f) (codes-of k (degrees k) f (set .codewords)) (messageBit (openMessage k b f)) 0 level-bits
         (getD (reduced (2 ^ c) (part j v)) o 0) (8 * j + o) p
@@ -262,7 +267,8 @@ module _ (k c : ℕ) (shape : Shape k) where
             point = i .point;
             is = is-moved (half k b) (part j f) (i .ws) (part j L) (part-length f (blocks k) j lf hj) l8 (part-length L (blocks k) j lL hj) (λ o ho.
                 part-at L (blocks k) j lL hj o ho ∙ leader-in-block j o hj ho
-                ∙ same (2 ^ levels k) (2 ^ c) (half k b) (at f (8 * j + o)) (at (part j v) o) (at (ints (reduced (2 ^ c) (part j v))) o) (at (i .ws) o) (half-is k c)
+                ∙ same (2 ^ levels k) (2 ^ c) (half k b) (at f (8 * j + o)) (at (part j v) o) (at (ints (reduced (2 ^ c) (part j v))) o) (at (i .ws) o)
+                (half-is k c)
                 (ap (λ (x : List ℤ). at x o) (i .is) ∙ moved-at (2 ^ c) (part j v) (i .ws) (i .long) o (omega (arith, part-length v (blocks k) j lv hj)))
                 ∙ ap (λ (z : ℤ). z -ℤ pos (half k b) *ℤ at (i .ws) o) (sym (part-at f (blocks k) j lf hj o ho)));
           };
@@ -308,7 +314,8 @@ module _ (k c : ℕ) (shape : Shape k) where
           ws = point d j;
           long = point-long d lx j hj ∙ sym (eight x);
           point = point-at d j hj .two;
-          is = is-moved (2 ^ c) (ints (blockNumbers k b x j)) (point d j) (ints (blockNumbers k b y j)) (eight x) (point-long d lx j hj) (eight y) (λ o ho. coordinate-at o ho);
+          is = is-moved (2 ^ c) (ints (blockNumbers k b x j)) (point d j) (ints (blockNumbers k b y j)) (eight x) (point-long d lx j hj) (eight y)
+              coordinate-at;
         })
       where
         eight : (z : List ℕ) → length (ints (blockNumbers k b z j)) ≡ 8
@@ -319,7 +326,9 @@ module _ (k c : ℕ) (shape : Shape k) where
             let ej : (8 * j + o) / 8 ≡ j = omega arith in
             let eo : (8 * j + o) % 8 ≡ o = omega arith in
             subst (λ (i : ℕ). pos (getD (blockNumbers k b x i) o 0) ≡ pos (getD (blockNumbers k b y i) o 0) +ℤ pos (2 ^ c) *ℤ at (point d i) o) ej
-            (subst (λ (r : ℕ). pos (getD (blockNumbers k b x ((8 * j + o) / 8)) r 0) ≡ pos (getD (blockNumbers k b y ((8 * j + o) / 8)) r 0) +ℤ pos (2 ^ c) *ℤ at (point d ((8 * j + o) / 8)) r) eo
+            (subst
+            (λ (r : ℕ). pos (getD (blockNumbers k b x ((8 * j + o) / 8)) r 0)
+            ≡ pos (getD (blockNumbers k b y ((8 * j + o) / 8)) r 0) +ℤ pos (2 ^ c) *ℤ at (point d ((8 * j + o) / 8)) r) eo
             (agree .rest (8 * j + o) (omega (arith, shape .whole))))
 
         coordinate-at : (o : ℕ) → o < 8 → at (ints (blockNumbers k b y j)) o ≡ at (ints (blockNumbers k b x j)) o -ℤ pos (2 ^ c) *ℤ at (point d j) o
@@ -331,7 +340,8 @@ module _ (k c : ℕ) (shape : Shape k) where
 
     block-agree : (j o : ℕ) → j < blocks k → o < 8 * b → messageBit x (levelBits k + 8 * b * j + o) ≡ messageBit y (levelBits k + 8 * b * j + o)
     unfolding blockNumbers
-    block-agree j o hj ho = numbers-agree (messageBit x) (messageBit y) (message-small x) (message-small y) (widths b) (levelBits k + 8 * b * j) (levelBits k + 8 * b * j)
+    block-agree j o hj ho =
+        numbers-agree (messageBit x) (messageBit y) (message-small x) (message-small y) (widths b) (levelBits k + 8 * b * j) (levelBits k + 8 * b * j)
         (sym (same-numbers j hj)) o (omega (arith, total-widths (suc c) (omega arith)))
 
     bit-agree : (i : ℕ) → messageBit x i ≡ messageBit y i

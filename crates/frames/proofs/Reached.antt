@@ -60,7 +60,8 @@ Exactly k b = distance (sentFrame k b (firstByte 0 k b)) (sentFrame k b (firstBy
 
 -- the twelve pairs, computed
 exactly-at : (k : ℕ) → isKind k ≡ true → (b : ℕ) → isGrade b ≡ true → Exactly k b
-unfolding sentFrame half leastFrame leastBlock best better cent before energy sq distance leader coordinate stacked blockNumbers numbers messageBytes messageBits degrees kinds levels levelBits sumTo codeword order dimension masks ofWeight table messageBit ones
+unfolding sentFrame half leastFrame leastBlock best better cent before energy sq distance leader coordinate stacked blockNumbers numbers
+    messageBytes messageBits degrees kinds levels levelBits sumTo codeword order dimension masks ofWeight table messageBit ones
 exactly-at k kind b grade = eqb-true (apartAt k b) (leastDistance k) (each-row-and-grade (λ k b. eqb (apartAt k b) (leastDistance k)) refl k b kind grade)
   where
     apartAt : ℕ → ℕ → ℕ

@@ -20,12 +20,13 @@ use Rattle.frames.specs.Message.{Bytes, Message, leader}
 use Rattle.frames.specs.Frame.{InCodingSet, half, SameClass, sentFrame}
 use Rattle.frames.specs.Sending.{unless, Accepts}
 use Rattle.frames.specs.Reading.{openMessage, sameFrame, inRange, broken, openRefusal, isSent, strictRefusal, messageAfter, energyRead}
-use Rattle.frames.specs.Demands.{OneMessage, SentFor, ReadBack}
+use Rattle.frames.specs.Demands.{FirstBroken, OneMessage, SentFor, ReadBack}
 use Rattle.frames.proofs.Rows.{grade-low}
-use Rattle.frames.proofs.Limits.{shape, few-levels, scale-64}
+use Rattle.frames.proofs.Limits.{shape, scale-64}
 use Rattle.frames.proofs.Demands.{half-pos, sent-only, sent-within, sent-in-set, read-message, leader-class, read-class, exactly-one, sent-sendable}
 use Rattle.frames.proofs.Accepted.{message-accepted}
-use Rattle.frames.proofs.Refusals.{passed, same-frame, frame-same, within-range, levels-answer, set-passes, Accepted, accepted, levels-decide}
+use Rattle.frames.proofs.Refusals.{passed, same-frame, frame-same, within-range, Accepted, accepted}
+use Rattle.frames.proofs.Refusals.{levels-decide, levels-answer, set-passes, broken-refuses, seven-or-eight}
 
 module _ (k b : ℕ) (kind : isKind k ≡ true) (grade : isGrade b ≡ true) where
   low : 1 ≤ b
@@ -50,7 +51,8 @@ module _ (k b : ℕ) (kind : isKind k ≡ true) (grade : isGrade b ≡ true) whe
   -- and the other way round
   pub same-class-same-message : (f g : List ℤ) → InCodingSet k f → InCodingSet k g → SameClass k b f g → openMessage k b f ≡ openMessage k b g
   same-class-same-message f g sf sg d =
-      one .only (openMessage k b f) (read-message k b kind grade f sf) (differ-trans (half k b) (blocks k) (sentFrame k b (openMessage k b f)) f g (read-class k b kind grade f sf) d)
+      one .only (openMessage k b f) (read-message k b kind grade f sf)
+      (differ-trans (half k b) (blocks k) (sentFrame k b (openMessage k b f)) f g (read-class k b kind grade f sf) d)
       ∙ sym (open-gives-the-one g sg)
     where
       one : OneMessage k b g
@@ -107,35 +109,34 @@ module _ (k b : ℕ) (kind : isKind k ≡ true) (grade : isGrade b ≡ true) whe
     pub inside-taken : InCodingSet k f → inRange f ≡ true → openRefusal k b f n ≡ 0
     inside-taken set range = levels-decide k b f n kind grade (set .long) bytes range ∙ set-passes k f set
 
-    -- one outside is refused by 7 or 8, and by no other number
-    pub outside-refused : length f ≡ 2 ^ k → inRange f ≡ true → (InCodingSet k f → ⊥) → (openRefusal k b f n ≡ 7) ⊎ (openRefusal k b f n ≡ 8)
-    outside-refused l range out = go (levels-answer k (few-levels k kind) f l)
+    -- one outside is refused by the number of the first level that is not a codeword
+    pub outside-broken : length f ≡ 2 ^ k → inRange f ≡ true → (InCodingSet k f → ⊥) → FirstBroken k f (openRefusal k b f n)
+    outside-broken l range out = subst (FirstBroken k f) (sym (levels-decide k b f n kind grade l bytes range)) (go (levels-answer k f l))
       where
-        same : openRefusal k b f n ≡ broken k 0 (degrees k) f
-        same = levels-decide k b f n kind grade l bytes range
+        go : InCodingSet k f ⊎ FirstBroken k f (broken k 0 (degrees k) f) → FirstBroken k f (broken k 0 (degrees k) f)
+        go (inl set) = absurd (out set)
+        go (inr first) = first
 
-        go : ((broken k 0 (degrees k) f ≡ 0) × InCodingSet k f) ⊎ ((broken k 0 (degrees k) f ≡ 7) ⊎ (broken k 0 (degrees k) f ≡ 8))
-            → (openRefusal k b f n ≡ 7) ⊎ (openRefusal k b f n ≡ 8)
-        go (inl a) = absurd (out (a .1))
-        go (inr (inl e)) = inl (same ∙ e)
-        go (inr (inr e)) = inr (same ∙ e)
+    -- which is 7 or 8, and no other
+    pub outside-refused : length f ≡ 2 ^ k → inRange f ≡ true → (InCodingSet k f → ⊥) → (openRefusal k b f n ≡ 7) ⊎ (openRefusal k b f n ≡ 8)
+    outside-refused l range out = seven-or-eight k f (openRefusal k b f n) kind (outside-broken l range out)
 
 -- a frame that the open reading takes is of the coding set
 pub taken-in-set : (k b : ℕ) (f : List ℤ) (n : ℕ) → openRefusal k b f n ≡ 0 → InCodingSet k f
-taken-in-set k b f n e = go (levels-answer k (few-levels k (a .kind)) f (a .coordinates))
+taken-in-set k b f n e = go (levels-answer k f (a .coordinates))
   where
     a : Accepted k b f n
     a = accepted k b f n e
 
-    go : ((broken k 0 (degrees k) f ≡ 0) × InCodingSet k f) ⊎ ((broken k 0 (degrees k) f ≡ 7) ⊎ (broken k 0 (degrees k) f ≡ 8)) → InCodingSet k f
-    go (inl t) = t .1
-    go (inr (inl t)) = absurd (omega (arith, t, a .words))
-    go (inr (inr t)) = absurd (omega (arith, t, a .words))
+    go : InCodingSet k f ⊎ FirstBroken k f (broken k 0 (degrees k) f) → InCodingSet k f
+    go (inl set) = set
+    go (inr first) = absurd (omega (arith, broken-refuses k f (broken k 0 (degrees k) f) (a .kind) first, a .words))
 
 -- ---- the strict reading
 
 -- past the tests of the open reading, the frame is the least member of its class, or 9
-pub strict-by-least : (k b : ℕ) (f : List ℤ) (n : ℕ) → openRefusal k b f n ≡ 0 → strictRefusal k b f n ≡ unless (sameFrame f (leastFrame (half k b) (blocks k) f)) 9 0
+pub strict-by-least : (k b : ℕ) (f : List ℤ) (n : ℕ) → openRefusal k b f n ≡ 0
+    → strictRefusal k b f n ≡ unless (sameFrame f (leastFrame (half k b) (blocks k) f)) 9 0
 unfolding strictRefusal isSent
 strict-by-least k b f n e =
     ap (λ (x : ℕ). cond (eqb x 0) (unless (sameFrame f (sentFrame k b (openMessage k b f))) 9 0) x) e
@@ -181,7 +182,8 @@ strict-takes-sent k b f n e = record {
 module _ (k b : ℕ) (kind : isKind k ≡ true) (grade : isGrade b ≡ true) (bytes : List ℕ) (m : Message k b bytes) where
   -- what is sent for a message is taken by both readings
   pub open-takes-sent : openRefusal k b (sentFrame k b bytes) (length bytes) ≡ 0
-  open-takes-sent = inside-taken k b kind grade (sentFrame k b bytes) (length bytes) (m .long) (sent-in-set k b kind grade bytes) (sent-in-range k b kind grade bytes)
+  open-takes-sent =
+      inside-taken k b kind grade (sentFrame k b bytes) (length bytes) (m .long) (sent-in-set k b kind grade bytes) (sent-in-range k b kind grade bytes)
 
   pub sent-taken-strictly : strictRefusal k b (sentFrame k b bytes) (length bytes) ≡ 0
   unfolding strictRefusal isSent

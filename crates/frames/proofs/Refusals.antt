@@ -17,7 +17,9 @@ use Rattle.frames.specs.Kind.{brokenNumber, isKind, isGrade, degrees, le
 use Rattle.frames.specs.Frame.{levelWord, InCodingSet}
 use Rattle.frames.specs.Sending.{unless}
 use Rattle.frames.specs.Reading.{sameNumber, sameFrame, inRange, broken, openRefusal}
+use Rattle.frames.specs.Demands.{FirstBroken}
 use Rattle.frames.proofs.Rows.{and-both}
+use Rattle.frames.proofs.Limits.{few-levels, levels-numbered, number-refuses}
 
 -- ---- one test after the other
 
@@ -74,60 +76,101 @@ within-range f h = within-test 1048576 f h
 
 -- ---- the levels
 
+-- level j of those from i on, of the degrees rs, is a codeword, by its test
+abbrev isWord : ℕ → ℕ → List ℕ → List ℤ → ℕ → Bool
+isWord m i rs f j = belongs (getD rs j 0) m (levelWord (i + j) f)
+
 -- the levels from i on are codewords
 abbrev Words : ℕ → ℕ → List ℕ → List ℤ → Type 0
-Words m i rs f = (j : ℕ) → j < length rs → belongs (getD rs j 0) m (levelWord (i + j) f) ≡ true
+Words m i rs f = (j : ℕ) → j < length rs → isWord m i rs f j ≡ true
 
-first-word : (m i r : ℕ) (rs : List ℕ) (f : List ℤ) → Words m i (r ∷ rs) f → belongs r m (levelWord i f) ≡ true
-first-word m i r rs f h = let e : i ≡ i + 0 = omega arith in ap (λ (n : ℕ). belongs r m (levelWord n f)) e ∙ h 0 (omega arith)
+-- the first that is none, and its number
+record Broken (m i : ℕ) (rs : List ℕ) (f : List ℤ) : Type 0 where
+  level : ℕ
+  inside : level < length rs
+  earlier : (j : ℕ) → j < level → isWord m i rs f j ≡ true
+  none : isWord m i rs f level ≡ false
+  given : broken m i rs f ≡ brokenNumber (i + level)
 
-later-words : (m i r : ℕ) (rs : List ℕ) (f : List ℤ) → Words m i (r ∷ rs) f → Words m (suc i) rs f
-later-words m i r rs f h j l = let e : suc i + j ≡ i + suc j = omega arith in ap (λ (n : ℕ). belongs (getD rs j 0) m (levelWord n f)) e ∙ h (suc j) (omega arith)
+-- the first of the levels, and the others
+module _ (m i r : ℕ) (rs : List ℕ) (f : List ℤ) where
+  here : belongs r m (levelWord i f) ≡ isWord m i (r ∷ rs) f 0
+  here = let e : i ≡ i + 0 = omega arith in ap (λ (n : ℕ). belongs r m (levelWord n f)) e
 
-all-words : (m i r : ℕ) (rs : List ℕ) (f : List ℤ) → belongs r m (levelWord i f) ≡ true → Words m (suc i) rs f → Words m i (r ∷ rs) f
-all-words m i r rs f a h zero l = let e : i + 0 ≡ i = omega arith in ap (λ (n : ℕ). belongs r m (levelWord n f)) e ∙ a
-all-words m i r rs f a h (suc j) l = let e : i + suc j ≡ suc i + j = omega arith in ap (λ (n : ℕ). belongs (getD rs j 0) m (levelWord n f)) e ∙ h j (omega arith)
+  later : (j : ℕ) → isWord m (suc i) rs f j ≡ isWord m i (r ∷ rs) f (suc j)
+  later j = let e : suc i + j ≡ i + suc j = omega arith in ap (λ (n : ℕ). belongs (getD rs j 0) m (levelWord n f)) e
 
 -- codewords at every level are refused by no number
 words-pass : (m i : ℕ) (rs : List ℕ) (f : List ℤ) → Words m i rs f → broken m i rs f ≡ 0
 unfolding broken
 words-pass m i [] f h = refl
-words-pass m i (r ∷ rs) f h = rw (first-word m i r rs f h) (words-pass m (suc i) rs f (later-words m i r rs f h))
+words-pass m i (r ∷ rs) f h = rw (here m i r rs f ∙ h 0 (omega arith)) (words-pass m (suc i) rs f (λ j l. later m i r rs f j ∙ h (suc j) (omega arith)))
 
--- levels 0 and 1 have numbers: 7 and 8
-broken-first : (i : ℕ) → i < 2 → (brokenNumber i ≡ 7) ⊎ (brokenNumber i ≡ 8)
-broken-first zero h = inl refl
-broken-first (suc zero) h = inr refl
-broken-first (suc (suc i)) h = absurd (omega arith)
-
--- what two levels at most can answer: 0 where every one is a codeword, else 7 or 8
-answers : (m i : ℕ) (rs : List ℕ) (f : List ℤ) → i + length rs ≤ 2
-    → ((broken m i rs f ≡ 0) × Words m i rs f) ⊎ ((broken m i rs f ≡ 7) ⊎ (broken m i rs f ≡ 8))
+-- what levels can answer: 0 where every one is a codeword, else the number of the first that is none
+answers : (m i : ℕ) (rs : List ℕ) (f : List ℤ) → Words m i rs f ⊎ Broken m i rs f
 unfolding broken
-answers m i [] f h = inl (refl, λ j l. absurd (omega arith))
-answers m i (r ∷ rs) f h = go (belongs r m (levelWord i f)) refl (answers m (suc i) rs f (omega arith))
+answers m i [] f = inl (λ j l. absurd (omega arith))
+answers m i (r ∷ rs) f = go (belongs r m (levelWord i f)) refl (answers m (suc i) rs f)
   where
-    go : (t : Bool) → belongs r m (levelWord i f) ≡ t
-        → ((broken m (suc i) rs f ≡ 0) × Words m (suc i) rs f) ⊎ ((broken m (suc i) rs f ≡ 7) ⊎ (broken m (suc i) rs f ≡ 8))
-        → ((broken m i (r ∷ rs) f ≡ 0) × Words m i (r ∷ rs) f) ⊎ ((broken m i (r ∷ rs) f ≡ 7) ⊎ (broken m i (r ∷ rs) f ≡ 8))
-    go true e (inl a) = inl (rw e (a .0), all-words m i r rs f e (a .1))
-    go true e (inr b) = inr (rw e b)
-    go false e a = inr (rw e (broken-first i (omega arith)))
+    go : (t : Bool) → belongs r m (levelWord i f) ≡ t → Words m (suc i) rs f ⊎ Broken m (suc i) rs f → Words m i (r ∷ rs) f ⊎ Broken m i (r ∷ rs) f
+    go true e (inl words) = inl all
+      where
+        all : Words m i (r ∷ rs) f
+        all zero l = sym (here m i r rs f) ∙ e
+        all (suc j) l = sym (later m i r rs f j) ∙ words j (omega arith)
+    go true e (inr b) = inr (record {
+      level = suc (b .level);
+      inside = omega (arith, b .inside);
+      earlier = before;
+      none = sym (later m i r rs f (b .level)) ∙ b .none;
+      given = let q : suc i + b .level ≡ i + suc (b .level) = omega arith in rw e (b .given ∙ ap brokenNumber q);
+    })
+      where
+        before : (j : ℕ) → j < suc (b .level) → isWord m i (r ∷ rs) f j ≡ true
+        before zero l = sym (here m i r rs f) ∙ e
+        before (suc j) l = sym (later m i r rs f j) ∙ b .earlier j (omega arith)
+    go false e more = inr (record {
+      level = 0;
+      inside = omega arith;
+      earlier = λ j l. absurd (omega arith);
+      none = sym (here m i r rs f) ∙ e;
+      given = let q : i ≡ i + 0 = omega arith in rw e (ap brokenNumber q);
+    })
 
--- the levels of a frame of the right length: 0 exactly where the frame is in the coding set, else 7 or 8
-pub levels-answer : (k : ℕ) → levels k ≤ 2 → (f : List ℤ) → length f ≡ 2 ^ k
-    → ((broken k 0 (degrees k) f ≡ 0) × InCodingSet k f) ⊎ ((broken k 0 (degrees k) f ≡ 7) ⊎ (broken k 0 (degrees k) f ≡ 8))
+-- the levels of a frame of the right length: all codewords, so that it is in the coding set, or a first one that is none
+pub levels-answer : (k : ℕ) (f : List ℤ) → length f ≡ 2 ^ k → InCodingSet k f ⊎ FirstBroken k f (broken k 0 (degrees k) f)
 unfolding levels
-levels-answer k h f l = go (answers k 0 (degrees k) f (rw (zero-add (length (degrees k))) h))
+levels-answer k f l = go (answers k 0 (degrees k) f)
   where
-    go : ((broken k 0 (degrees k) f ≡ 0) × Words k 0 (degrees k) f) ⊎ ((broken k 0 (degrees k) f ≡ 7) ⊎ (broken k 0 (degrees k) f ≡ 8))
-        → ((broken k 0 (degrees k) f ≡ 0) × InCodingSet k f) ⊎ ((broken k 0 (degrees k) f ≡ 7) ⊎ (broken k 0 (degrees k) f ≡ 8))
-    go (inl a) = inl (a .0, record { long = l; codewords = λ i h. ap (λ (j : ℕ). belongs (getD (degrees k) i 0) k (levelWord j f)) (sym (zero-add i)) ∙ a .1 i h })
-    go (inr b) = inr b
+    from : (i : ℕ) → belongs (getD (degrees k) i 0) k (levelWord i f) ≡ isWord k 0 (degrees k) f i
+    from i = ap (λ (j : ℕ). belongs (getD (degrees k) i 0) k (levelWord j f)) (sym (zero-add i))
+
+    go : Words k 0 (degrees k) f ⊎ Broken k 0 (degrees k) f → InCodingSet k f ⊎ FirstBroken k f (broken k 0 (degrees k) f)
+    go (inl words) = inl (record { long = l; codewords = λ i h. from i ∙ words i h })
+    go (inr b) = inr (record {
+      level = b .level;
+      inside = b .inside;
+      earlier = λ i h. from i ∙ b .earlier i h;
+      broken = from (b .level) ∙ b .none;
+      given = b .given ∙ ap brokenNumber (zero-add (b .level));
+    })
 
 pub set-passes : (k : ℕ) (f : List ℤ) → InCodingSet k f → broken k 0 (degrees k) f ≡ 0
 unfolding levels
-set-passes k f set = words-pass k 0 (degrees k) f (λ i h. ap (λ (j : ℕ). belongs (getD (degrees k) i 0) k (levelWord j f)) (zero-add i) ∙ set .codewords i h)
+set-passes k f set =
+    words-pass k 0 (degrees k) f (λ i h. ap (λ (j : ℕ). belongs (getD (degrees k) i 0) k (levelWord j f)) (zero-add i) ∙ set .codewords i h)
+
+-- a broken level is refused: its number is not 0, and it is 7 or 8
+pub broken-refuses : (k : ℕ) (f : List ℤ) (n : ℕ) → isKind k ≡ true → FirstBroken k f n → 1 ≤ n
+broken-refuses k f n kind b = rw (b .given) (number-refuses (b .level) (omega (arith, b .inside, levels-numbered k kind)))
+
+pub seven-or-eight : (k : ℕ) (f : List ℤ) (n : ℕ) → isKind k ≡ true → FirstBroken k f n → (n ≡ 7) ⊎ (n ≡ 8)
+seven-or-eight k f n kind b = go (b .level) (b .given) (omega (arith, b .inside, few-levels k kind))
+  where
+    go : (i : ℕ) → n ≡ brokenNumber i → i < 2 → (n ≡ 7) ⊎ (n ≡ 8)
+    go zero e h = inl e
+    go (suc zero) e h = inr e
+    go (suc (suc i)) e h = absurd (omega arith)
 
 -- ---- the open reading's tests
 

@@ -39,7 +39,8 @@ unfolding stacked
 stacked-codes m [] fit bit from s = tt
 stacked-codes m (r ∷ rs) fit bit from s = (
   ap (belongs r m) (fun-ext (λ p. low (c p) (t p) (codeword-small r m (λ i. bit (from + i)) p))) ∙ codeword-belongs r m (fit .0) (λ i. bit (from + i)),
-  subst (Codes m rs) (sym (fun-ext (λ p. high (c p) (t p) (codeword-small r m (λ i. bit (from + i)) p)))) (stacked-codes m rs (fit .1) bit (from + dimension r m) s),
+  subst (Codes m rs) (sym (fun-ext (λ p. high (c p) (t p) (codeword-small r m (λ i. bit (from + i)) p))))
+      (stacked-codes m rs (fit .1) bit (from + dimension r m) s),
 )
   where
     c : ℕ → ℕ
@@ -66,18 +67,19 @@ module _ (c : ℕ) (x y w : ℤ) (e : x ≡ y +ℤ pos (2 * c) *ℤ w) where
   pub plus-high : shrZ x 2 ≡ shrZ y 2 +ℤ pos c *ℤ w
   plus-high = quot-is x 2 (shrZ y 2 +ℤ pos c *ℤ w) (modZ y 2) (modZ-lt y 2 (omega arith)) witness
 
-pub double : (a : ℕ) → 2 ^ suc a ≡ 2 * 2 ^ a
-double a = rw pow-suc (omega arith)
+pub pow-double : (a : ℕ) → 2 ^ suc a ≡ 2 * 2 ^ a
+pow-double a = rw pow-suc (omega arith)
 
 pub codes-plus : (m : ℕ) (rs : List ℕ) (x y : ℕ → ℤ) → ((p : ℕ) → p < 2 ^ m → Plus (2 ^ length rs) (x p) (y p)) → Codes m rs y → Codes m rs x
 codes-plus m [] x y e h = tt
 codes-plus m (r ∷ rs) x y e h = (
   belongs-cong r m (λ p. modZ (x p) 2) (λ p. modZ (y p) 2) (λ p l. ap (λ (n : ℕ). n % 2) (plus-low (2 ^ length rs) (x p) (y p) (e p l .w) (at p l))) ∙ h .0,
-  codes-plus m rs (λ p. shrZ (x p) 2) (λ p. shrZ (y p) 2) (λ p l. record { w = e p l .w; is = plus-high (2 ^ length rs) (x p) (y p) (e p l .w) (at p l) }) (h .1),
+  codes-plus m rs (λ p. shrZ (x p) 2) (λ p. shrZ (y p) 2)
+      (λ p l. record { w = e p l .w; is = plus-high (2 ^ length rs) (x p) (y p) (e p l .w) (at p l) }) (h .1),
 )
   where
     at : (p : ℕ) (l : p < 2 ^ m) → x p ≡ y p +ℤ pos (2 * 2 ^ length rs) *ℤ e p l .w
-    at p l = subst (λ (c : ℕ). x p ≡ y p +ℤ pos c *ℤ e p l .w) (double (length rs)) (e p l .is)
+    at p l = subst (λ (c : ℕ). x p ≡ y p +ℤ pos c *ℤ e p l .w) (pow-double (length rs)) (e p l .is)
 
 -- ---- two stacks that differ by multiples of 2^a have the same level bits
 
@@ -87,7 +89,8 @@ module _ (bit bit′ : ℕ → ℕ) (small : (i : ℕ) → bit i < 2) (small′ 
     pub rest : (p : ℕ) → p < 2 ^ m → pos (s p) ≡ pos (s′ p) +ℤ w p
 
   pub stacked-agree : (m : ℕ) (rs : List ℕ) → Fit m rs → (from from′ : ℕ)
-      → ((p : ℕ) → p < 2 ^ m → pos (stacked m rs bit from (s p) p) ≡ pos (stacked m rs bit′ from′ (s′ p) p) +ℤ pos (2 ^ length rs) *ℤ w p) → Agree m rs from from′
+      → ((p : ℕ) → p < 2 ^ m → pos (stacked m rs bit from (s p) p) ≡ pos (stacked m rs bit′ from′ (s′ p) p) +ℤ pos (2 ^ length rs) *ℤ w p)
+      → Agree m rs from from′
   unfolding stacked
   stacked-agree m [] fit from from′ e = record {
     bits = λ t h. absurd (omega arith);
@@ -108,7 +111,7 @@ module _ (bit bit′ : ℕ → ℕ) (small : (i : ℕ) → bit i < 2) (small′ 
       t₁′ p = stacked m rs bit′ (from′ + dimension r m) (s′ p) p
 
       at : (p : ℕ) → p < 2 ^ m → pos (c p + 2 * t₁ p) ≡ pos (c′ p + 2 * t₁′ p) +ℤ pos (2 * 2 ^ length rs) *ℤ w p
-      at p h = subst (λ (n : ℕ). pos (c p + 2 * t₁ p) ≡ pos (c′ p + 2 * t₁′ p) +ℤ pos n *ℤ w p) (double (length rs)) (e p h)
+      at p h = subst (λ (n : ℕ). pos (c p + 2 * t₁ p) ≡ pos (c′ p + 2 * t₁′ p) +ℤ pos n *ℤ w p) (pow-double (length rs)) (e p h)
 
       same : (p : ℕ) → p < 2 ^ m → c p ≡ c′ p
       same p h =
@@ -159,7 +162,8 @@ pub stacked-read : (m : ℕ) (rs : List ℕ) → Fit m rs → (x : ℕ → ℤ) 
 unfolding stacked
 stacked-read m [] fit x codes bit from e s p h =
     eq! (# s) (` (x p) ⊖ # 1 ⊗ (` (shrZ (x p) 1) ⊖ # s)) (omega (arith, eq? (` (shrZ (x p) 1)) (` (x p)) (shr-one (x p))))
-stacked-read m (r ∷ rs) fit x codes bit from e s p h = step c-is (stacked-read m rs (fit .1) (λ q. shrZ (x q) 2) (codes .1) bit (from + dimension r m) later s p h)
+stacked-read m (r ∷ rs) fit x codes bit from e s p h =
+    step c-is (stacked-read m rs (fit .1) (λ q. shrZ (x q) 2) (codes .1) bit (from + dimension r m) later s p h)
   where
     A : List ℕ
     A = levelMessage m r (λ p. modZ (x p) 2)
@@ -179,7 +183,8 @@ stacked-read m (r ∷ rs) fit x codes bit from e s p h = step c-is (stacked-read
     c-is : codeword r m (λ i. bit (from + i)) p ≡ modZ (x p) 2
     c-is =
         codeword-cong r m (λ i. bit (from + i)) (λ i. backwards m (λ q. modZ (x q) 2) (getD (order m) i 0))
-        (λ i l. ap (λ (n : ℕ). n % 2) (e i (omega arith) ∙ List·getD-append A B 0 i (omega (arith, level-length m r (λ q. modZ (x q) 2))) ∙ level-at m r (λ q. modZ (x q) 2) i l)) p
+        (λ i l. ap (λ (n : ℕ). n % 2)
+        (e i (omega arith) ∙ List·getD-append A B 0 i (omega (arith, level-length m r (λ q. modZ (x q) 2))) ∙ level-at m r (λ q. modZ (x q) 2) i l)) p
         ∙ belongs-read r m (fit .0) (λ q. modZ (x q) 2) (codes .0) p h
         ∙ mod-eq-of-lt (modZ-lt (x p) 2 (omega arith))
 
@@ -192,7 +197,7 @@ stacked-read m (r ∷ rs) fit x codes bit from e s p h = step c-is (stacked-read
     step : codeword r m (λ i. bit (from + i)) p ≡ modZ (x p) 2 → pos t ≡ y -ℤ pos n *ℤ (shrZ y n -ℤ pos s)
         → pos (codeword r m (λ i. bit (from + i)) p + 2 * t) ≡ x p -ℤ pos (2 ^ suc (length rs)) *ℤ (shrZ (x p) (2 ^ suc (length rs)) -ℤ pos s)
     step c ih =
-        rw (double (length rs))
+        rw (pow-double (length rs))
         (eq! (# (codeword r m (λ i. bit (from + i)) p + 2 * t)) (` (x p) ⊖ # (2 * n) ⊗ (` (shrZ (x p) (2 * n)) ⊖ # s))
         (omega (
           arith,

@@ -1,14 +1,15 @@
 -- What the theorems of the demands say beyond the definitions of Frame and Sending: one record for each such sentence. Assumes nothing.
-use Prim.Native.Nat.{ℕ, _^_}
+use Prim.Native.Nat.{ℕ, _^_, _<_}
 use mathlib.Core.Path.{_≡_}
-use mathlib.Core.Bool.{true}
+use mathlib.Core.Bool.{true, false}
 use mathlib.Core.List.{List}
-use lib.ListN.{length}
+use lib.ListN.{length, getD}
 use lib.IntN.{ℤ}
+use Rattle.reed_muller.specs.Level.{belongs}
 use Rattle.e8.specs.Energy.{distance}
-use Rattle.frames.specs.Kind.{isKind, isGrade}
+use Rattle.frames.specs.Kind.{brokenNumber, isKind, isGrade, degrees, levels}
 use Rattle.frames.specs.Message.{Message}
-use Rattle.frames.specs.Frame.{SameClass, sentFrame, leastDistance}
+use Rattle.frames.specs.Frame.{levelWord, SameClass, sentFrame, leastDistance}
 use Rattle.frames.specs.Sending.{sendRefusal, Accepts}
 use Rattle.frames.specs.Reading.{openMessage, openRefusal, strictRefusal}
 
@@ -19,10 +20,18 @@ pub record Sendable (k b : ℕ) (bytes : List ℕ) (n : ℕ) : Type 0 where
   pub message : Message k b bytes
   pub coordinates : n ≡ 2 ^ k
 
--- "Sending tests 1, 2, 3, 4, 5": it accepts exactly what it asks, and so what it is that a message is SENT
+-- "Sending tests 1, 2, 3, 4, 5": it accepts exactly what it asks
 pub record AcceptedExactly (k b : ℕ) (bytes : List ℕ) (n : ℕ) : Type 0 where
   pub sendable : sendRefusal k b bytes n ≡ 0 → Sendable k b bytes n
   pub accepted : Sendable k b bytes n → sendRefusal k b bytes n ≡ 0
+
+-- "broken level 0", "broken level 1": the first level of the frame f that is not a codeword, and the number that is given for it
+pub record FirstBroken (k : ℕ) (f : List ℤ) (number : ℕ) : Type 0 where
+  pub level : ℕ
+  pub inside : level < levels k
+  pub earlier : (i : ℕ) → i < level → belongs (getD (degrees k) i 0) k (levelWord i f) ≡ true
+  pub broken : belongs (getD (degrees k) level 0) k (levelWord level f) ≡ false
+  pub given : number ≡ brokenNumber level
 
 -- "Each coding-set frame differs so from the sent frame of exactly one message at each grade": the message, for the frame f
 pub record OneMessage (k b : ℕ) (f : List ℤ) : Type 0 where

@@ -1,4 +1,4 @@
--- What document 01 prints, to be met by the definitions: its table of kinds and its exam frames. Assumes nothing.
+-- What document 01 prints, to be met by the definitions: its table of kinds, its exam frames, the further cases, the order of tests. Assumes nothing.
 use Prim.Native.Nat.{ℕ, _+_, _*_, _^_}
 use mathlib.Core.Path.{_≡_}
 use mathlib.Core.List.{List, [], _∷_}
@@ -7,34 +7,44 @@ use lib.ListN.{replicate}
 use Rattle.e8.specs.Energy.{energy}
 use Rattle.e8.specs.Rows.{ints}
 use Rattle.frames.specs.Kind.{degrees, levels, messageBits, messageBytes}
-use Rattle.frames.specs.Frame.{sentFrame}
+use Rattle.frames.specs.Frame.{sentFrame, leastDistance}
+use Rattle.frames.specs.Sending.{sendRefusal}
+use Rattle.frames.specs.Reading.{openMessage, openRefusal, strictRefusal}
 
 -- ---- the table of kinds
 
--- a printed row: the kind, the length n, the levels a, the degrees of the level codes, message bits and message bytes by the grade b
+-- a printed row: the kind, the length n, the levels a, the degrees of the level codes, message bits and message bytes by the grade b;
+-- and the squared distance that demand 3 says of the kind
 pub record Printed : Type 0 where
   pub kind : ℕ
-  pub coordinates : ℕ
-  pub levels : ℕ
-  pub degrees : List ℕ
+  pub n : ℕ
+  pub a : ℕ
+  pub codes : List ℕ
   pub bits : ℕ → ℕ
   pub bytes : ℕ → ℕ
+  pub apart : ℕ
 
 -- document 01, "Kinds and grades"
 abbrev pub printed : List Printed
 printed =
-    record { kind = 3; coordinates = 8; levels = 1; degrees = 1 ∷ []; bits = λ b. 4 + 8 * b; bytes = λ b. b + 1 }
-    ∷ record { kind = 4; coordinates = 16; levels = 2; degrees = 1 ∷ 3 ∷ []; bits = λ b. 20 + 16 * b; bytes = λ b. 2 * b + 3 }
-    ∷ record { kind = 5; coordinates = 32; levels = 2; degrees = 1 ∷ 3 ∷ []; bits = λ b. 32 + 32 * b; bytes = λ b. 4 * b + 4 }
+    record { kind = 3; n = 8; a = 1; codes = 1 ∷ []; bits = λ b. 4 + 8 * b; bytes = λ b. b + 1; apart = 4 }
+    ∷ record { kind = 4; n = 16; a = 2; codes = 1 ∷ 3 ∷ []; bits = λ b. 20 + 16 * b; bytes = λ b. 2 * b + 3; apart = 8 }
+    ∷ record { kind = 5; n = 32; a = 2; codes = 1 ∷ 3 ∷ []; bits = λ b. 32 + 32 * b; bytes = λ b. 4 * b + 4; apart = 16 }
     ∷ []
 
 -- the definitions give what the row says
 pub record AsPrinted (row : Printed) : Type 0 where
-  pub coordinates : 2 ^ row .kind ≡ row .coordinates
-  pub levels : levels (row .kind) ≡ row .levels
-  pub degrees : degrees (row .kind) ≡ row .degrees
+  pub n : 2 ^ row .kind ≡ row .n
+  pub a : levels (row .kind) ≡ row .a
+  pub codes : degrees (row .kind) ≡ row .codes
   pub bits : (b : ℕ) → messageBits (row .kind) b ≡ row .bits b
   pub bytes : (b : ℕ) → messageBytes (row .kind) b ≡ row .bytes b
+  pub apart : leastDistance (row .kind) ≡ row .apart
+
+-- and so each row of the table
+abbrev pub AllPrinted : List Printed → Type 0
+AllPrinted [] = Unit {0}
+AllPrinted (row ∷ rows) = AsPrinted row × AllPrinted rows
 
 -- ---- the exam frames
 
@@ -77,3 +87,40 @@ sentAs e = (sentFrame (e .kind) (e .grade) (e .message), energy (sentFrame (e .k
 
 abbrev pub examined : Exam → List ℤ × ℕ
 examined e = (e .frame, e .energy)
+
+-- ---- further cases
+
+-- document 01, "Exam frames", after the table
+pub record FurtherCases : Type 0 where
+  pub all-2-openly : openRefusal 4 1 (replicate 16 (pos 2)) 5 ≡ 0
+  pub all-2-message : openMessage 4 1 (replicate 16 (pos 2)) ≡ 32 ∷ replicate 4 0
+  pub all-2-strictly : strictRefusal 4 1 (replicate 16 (pos 2)) 5 ≡ 9
+  pub broken-level-0 : openRefusal 3 1 (pos 1 ∷ replicate 7 (pos 0)) 2 ≡ 7
+  pub spare-bit : sendRefusal 3 1 (0 ∷ 16 ∷ []) 8 ≡ 5
+  pub largest : openRefusal 3 1 (pos 1048576 ∷ replicate 7 (pos 0)) 2 ≡ 0
+  pub past-largest : openRefusal 3 1 (pos 1048577 ∷ replicate 7 (pos 0)) 2 ≡ 6
+  pub least : openRefusal 3 1 (minus 1048576 ∷ replicate 7 (pos 0)) 2 ≡ 0
+  pub past-least : openRefusal 3 1 (minus 1048577 ∷ replicate 7 (pos 0)) 2 ≡ 6
+
+-- ---- the order of tests
+
+-- "Sending tests 1, 2, 3, 4, 5": each call is wrong in that test and in all later ones
+pub record SendingTests : Type 0 where
+  pub kind : sendRefusal 6 5 (0 ∷ 16 ∷ 0 ∷ []) 7 ≡ 1
+  pub grade : sendRefusal 3 5 (0 ∷ 16 ∷ 0 ∷ []) 7 ≡ 2
+  pub bytes : sendRefusal 3 1 (0 ∷ 16 ∷ 0 ∷ []) 7 ≡ 3
+  pub coordinates : sendRefusal 3 1 (0 ∷ 16 ∷ []) 7 ≡ 4
+  pub spare : sendRefusal 3 1 (0 ∷ 16 ∷ []) 8 ≡ 5
+  pub none : sendRefusal 3 1 (255 ∷ 15 ∷ []) 8 ≡ 0
+
+-- "Reading tests 1, 2, 4, 3, then 6 over all coordinates, then 7, 8, 9": 1,048,579 is over range, and its bits of weight 1 and 2 are set
+pub record ReadingTests : Type 0 where
+  pub kind : strictRefusal 6 5 (pos 1048579 ∷ replicate 14 (pos 0)) 4 ≡ 1
+  pub grade : strictRefusal 4 5 (pos 1048579 ∷ replicate 14 (pos 0)) 4 ≡ 2
+  pub coordinates : strictRefusal 4 1 (pos 1048579 ∷ replicate 14 (pos 0)) 4 ≡ 4
+  pub bytes : strictRefusal 4 1 (pos 1048579 ∷ replicate 15 (pos 0)) 4 ≡ 3
+  pub range : strictRefusal 4 1 (pos 1048579 ∷ replicate 15 (pos 0)) 5 ≡ 6
+  pub level-0 : strictRefusal 4 1 (pos 3 ∷ replicate 15 (pos 0)) 5 ≡ 7
+  pub level-1 : strictRefusal 4 1 (pos 2 ∷ replicate 15 (pos 0)) 5 ≡ 8
+  pub unshaped : strictRefusal 4 1 (replicate 16 (pos 2)) 5 ≡ 9
+  pub none : strictRefusal 4 1 (replicate 16 (minus 2)) 5 ≡ 0

@@ -35,7 +35,7 @@ sendRefusal k b bytes n =
     (unless (eqb n (2 ^ k)) 4
     (cond (spareSet k b bytes) 5 0))))
 
--- SENT: sending accepts the bytes at kind k and grade b, with as many coordinates lent as the kind has
+-- the bytes are SENT at kind k and grade b: sending accepts them, where as many coordinates are lent as the kind has
 abbrev pub Accepts : ℕ → ℕ → List ℕ → Type 0
 Accepts k b bytes = sendRefusal k b bytes (2 ^ k) ≡ 0
 

@@ -24,7 +24,9 @@ mul-result : tie.Need-mul-result
 mul-result c = record { fits = omega (arith, product c) }
 
 add-result : tie.Need-add-result
-add-result c = let s = c .before .before in record { fits = omega (arith, product c, few-level-bits (s .args .kind) (s .pre .0), c .before .level-bits .ensures) }
+add-result c =
+    let s = c .before .before in
+    record { fits = omega (arith, product c, few-level-bits (s .args .kind) (s .pre .0), c .before .level-bits .ensures) }
 
 returns : tie.Need-returns
 unfolding messageBits
