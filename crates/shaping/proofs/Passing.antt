@@ -26,15 +26,6 @@ use Rattle.e8.proofs.Rounding.{Parity, parity-none, parity-more, parity-rest, T
 use Rattle.e8.proofs.Rows.{lowered-length}
 use Rattle.shaping.specs.Rounded.{across, wholeFirst, rankOf, rounded, off, highest}
 
--- ---- sizes
-
-pub cent-abs : (M : ℕ) (x : ℤ) → 0 < M → natAbs (cent M x) ≤ M
-cent-abs M x h = go (cent M x) (cent-range M x h)
-  where
-    go : (z : ℤ) → Range M z → natAbs z ≤ M
-    go (pos n) r = omega (arith, r .high)
-    go (negsuc n) r = omega (arith, r .low)
-
 -- ---- ranks
 
 -- the place that a rank names
