@@ -5,7 +5,6 @@ use mathlib.Core.List.{List, [], _∷_}
 use Prim.Native.Nat.{ℕ, zero, suc, _*_, _^_, _<_, _≤_}
 use native.Mathlib.Omega.{arith}
 use lib.Dec.{ltb}
-use lib.Pow.{pow-mono, pow-pos}
 use lib.ListN.{length, drop, getD, set}
 use lib.Seq.{drop-cons}
 use lib.IntN.{ℤ, pos, _+ℤ_, _-ℤ_, natAbs}
@@ -17,6 +16,7 @@ use Rattle.e8.specs.Energy.{Within}
 use Rattle.e8.specs.Least.{cent}
 use Rattle.e8.proofs.Cent.{range-abs, cent-range}
 use Rattle.coordinates.proofs.Size.{sum-abs, less-abs}
+use Rattle.coordinates.proofs.Rest.{Scale}
 use Rattle.shaping.specs.Rounded.{rankOf, rounded, off, floors, sizes, highest, lowest, Rounded}
 
 -- ---- one coordinate more
@@ -69,13 +69,6 @@ pub back : (x c : ℤ) → x -ℤ (x -ℤ c) ≡ c
 back x c = eq! (` x ⊖ (` x ⊖ ` c)) (` c) (omega arith)
 
 -- ---- how large they are, at a scale that the code takes
-
-pub record Scale (H : ℕ) : Type 0 where
-  pub some : 0 < H
-  pub small : H ≤ 2 ^ 6
-
-pub scale : (k : ℕ) → k ≤ 6 → Scale (2 ^ k)
-scale k low = record { some = pow-pos k; small = pow-mono {j = 6} low }
 
 module _ {H : ℕ} (s : Scale H) where
   pub cent-low : (x : ℤ) → natAbs (cent H x) ≤ 2 ^ 6

@@ -31,7 +31,7 @@ use Rattle.e8.proofs.Cent.{Range, cent-range, cent-is, turns}
 use Rattle.e8.proofs.Best.{All}
 use Rattle.e8.proofs.Rounding.{cent-only, cost-one}
 use Rattle.e8.proofs.Rows.{lowered-length}
-use Rattle.shaping.proofs.Passing.{placeOf, ranked, changed, across-none, Passed, passed, Mended, mended, least-is}
+use Rattle.shaping.proofs.Mending.{placeOf, ranked, changed, across-none, Passed, passed, Mended, mended, least-is}
 use Rattle.shaping.specs.Rounded.{across, wholeFirst, rankOf, rounded, off, floors, sizes, highest, lowest, memberOf, members}
 
 -- ---- one coordinate

@@ -1,5 +1,5 @@
 -- `least` meets its contract: the block is rounded once, both candidates are made of it, and the first of them by cost and first coordinate is taken.
--- That at most one coordinate is changed, and which, is in Passing; the half part, the costs and their comparison are in Halving (`Two`).
+-- That at most one coordinate is changed, and which, is in Mending; the half part, the costs and their comparison are in Halving (`Two`).
 -- Here it is shown that the figures of the rounded block fit an i32 and what remainders and costs they make (`Known`), that each local is read as its
 -- figure (the facts after `remainder2`, where the last of them is known), and that each call then gives its part of `Two`. H = 2^k and M = 2·H
 use mathlib.Core.Path.{_≡_, refl, sym, _∙_, ap, ap₂, subst}
@@ -18,12 +18,12 @@ use Rattle.e8.specs.Energy.{Within}
 use Rattle.e8.specs.Lattice.{bit}
 use Rattle.e8.proofs.Within.{within-at}
 use Rattle.coordinates.proofs.Size.{fits, abs! }
-use Rattle.coordinates.proofs.Rest.{double}
+use Rattle.coordinates.proofs.Rest.{quadruple, Scale, scale}
 use Rattle.coordinates.proofs.Reading.{read, plain, plain-size, power-read, power-size}
-use Rattle.shaping.specs.Rounded.{wholeFirst, rounded, memberOf, members, sizes, highest, lowest, Rounded}
+use Rattle.shaping.specs.Rounded.{wholeFirst, memberOf, members, sizes, highest, lowest, Rounded}
 use Rattle.shaping.specs.declared.Quantized.{Quantized}
 use Rattle.shaping.proofs.Halving.{left, wholeCost, halfCost, wholePart, halfPart, wholeHead, halfHead, Two, two}
-use Rattle.shaping.proofs.Figures.{Scale, scale, off-size, floors-size, sizes-low, rounded-within}
+use Rattle.shaping.proofs.Figures.{off-size, floors-size, sizes-low, rounded-within}
 use Rattle.shaping.proofs.least.Statement.{statement}
 use Rattle.shaping.proofs.least.Tie as tie
 
@@ -76,7 +76,7 @@ module _ (k : ℕ) (x : List ℤ) (q : Quantized) (low : k ≤ 6) (w : Within (2
 
   -- the modulus of the sums is 2M
   twice : 2 ^ (k + 2) ≡ 2 * M
-  twice = let e : k + 2 ≡ k + 1 + 1 = omega arith in ap (λ (m : ℕ). 2 ^ m) e ∙ double (k + 1) ∙ ap (λ (m : ℕ). 2 * m) (double k)
+  twice = quadruple k ∙ omega arith
 
   both : Two H x (q .block)
   both = subst (Two H x) (sym (r .block)) (two H x (H-scale .some) (H-scale .small) eight)

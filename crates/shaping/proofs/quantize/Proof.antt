@@ -18,9 +18,9 @@ use Rattle.e8.specs.Energy.{Within}
 use Rattle.e8.specs.Least.{cent}
 use Rattle.e8.proofs.Within.{within-at, within-drop}
 use Rattle.coordinates.proofs.Size.{fits, sum-abs}
-use Rattle.coordinates.proofs.Rest.{double}
+use Rattle.coordinates.proofs.Rest.{double, Scale, scale}
 use Rattle.coordinates.proofs.Reading.{read, power-read, plain}
-use Rattle.shaping.proofs.Figures.{rounded-turn, off-floor, back, Scale, scale, cent-low, off-one, floor-one, off-size, floors-size, sizes-low}
+use Rattle.shaping.proofs.Figures.{rounded-turn, off-floor, back, cent-low, off-one, floor-one, off-size, floors-size, sizes-low}
 use Rattle.shaping.specs.Rounded.{rankOf, sizes, Rounded}
 use Rattle.shaping.proofs.quantize.Statement.{statement}
 use Rattle.shaping.proofs.quantize.Tie as tie
