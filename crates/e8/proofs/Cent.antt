@@ -17,6 +17,10 @@ pub record Range (M : ℕ) (c : ℤ) : Type 0 where
   pub low : down c ≤ up c + M
   pub high : up c < down c + M
 
+pub range-abs : (M : ℕ) (c : ℤ) → Range M c → natAbs c ≤ M
+range-abs M (pos n) r = omega (arith, r .high)
+range-abs M (negsuc n) r = omega (arith, r .low)
+
 pub cent-range : (M : ℕ) (x : ℤ) → 0 < M → Range M (cent M x)
 unfolding cent
 cent-range M x h =

@@ -2,16 +2,16 @@
 use mathlib.Core.Path.{_≡_, refl, sym, _∙_, ap, subst, subst₂}
 use mathlib.Core.Logic.{inl, inr}
 use mathlib.Core.List.{List, [], _∷_, _++_, append-nil, append-assoc}
-use Prim.Native.Nat.{ℕ, zero, suc, _+_, _*_, _-_, _<_, _≤_}
+use Prim.Native.Nat.{ℕ, zero, suc, _+_, _*_, _<_}
 use native.Mathlib.Omega.{arith}
 use lib.ListN.{length, take, drop, length-take, length-drop, length-append, take-append-drop}
 use lib.Seq.{drop-drop, take-at, drop-at}
-use lib.IntN.{ℤ, pos, negsuc, natAbs}
+use lib.IntN.{ℤ}
 use Rattle.e8.specs.Energy.{energy, Within}
 use Rattle.e8.specs.Lattice.{InBlock, part, Differ}
 use Rattle.e8.specs.Least.{IsLeast, leastBlock, leastFrame}
 use Rattle.e8.proofs.Order.{_≼_, reads-antisym, append-mono}
-use Rattle.e8.proofs.Cent.{Range}
+use Rattle.e8.proofs.Cent.{Range, range-abs}
 use Rattle.e8.proofs.Best.{All}
 use Rattle.e8.proofs.Group.{block-refl, block-sym, block-trans, block-length}
 use Rattle.e8.proofs.Block.{block-in, block-least, block-range}
@@ -57,11 +57,7 @@ all-append P (z ∷ a) b h k = (h .0, all-append P a b (h .1) k)
 
 range-within : (M : ℕ) (zs : List ℤ) → All (Range M) zs → Within M zs
 range-within M [] h = tt
-range-within M (z ∷ zs) h = (range-abs z (h .0), range-within M zs (h .1))
-  where
-    range-abs : (z : ℤ) → Range M z → natAbs z ≤ M
-    range-abs (pos n) r = omega (arith, r .high)
-    range-abs (negsuc n) r = omega (arith, r .low)
+range-within M (z ∷ zs) h = (range-abs M z (h .0), range-within M zs (h .1))
 
 -- ---- the least frame
 

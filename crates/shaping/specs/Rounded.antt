@@ -1,4 +1,5 @@
--- A block rounded coordinate by coordinate, and the candidates for its least member: each coordinate rounded, and the one first in rank changed where the sum is odd.
+-- A block rounded coordinate by coordinate, and the candidates for its least member: each coordinate rounded, and where the sum is odd the one of highest
+-- rank changed.
 -- Clients need none of it; the contracts of private functions cite it. M = 2·H. Assumes nothing.
 use mathlib.Core.Path.{_≡_}
 use mathlib.Core.Bool.{Bool, cond}

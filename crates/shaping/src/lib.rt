@@ -34,7 +34,8 @@ fn across(m: i32, c: i32) -> i32
     if c < 0 { c + m } else { c - m }
 }
 
-// The rank of a coordinate as the one to change: the larger first, of equals those that are not negative from the first on, then the negative ones from the last on.
+// The rank of a coordinate as the one to change: the larger first; of equals those that are not negative, from the first on, then the negative ones,
+// from the last on.
 fn rank(c: i32, i: usize) -> i32
     requires { ⌜ (natAbs c ≤ 2 ^ 7) × (i < 8) ⌝ }
     ensures { λ r. ⌜ r ≡ pos (rankOf c i) ⌝ }

@@ -22,7 +22,10 @@ module _ (s : tie.Start Inv-loop μ-loop) where
   eight : length (s .args .part .now) ≡ 8
   eight = s .pre .0
 
-  small : (i : ℕ) → natAbs (getD (s .args .part .now) i (pos 0)) ≤ 2 ^ 10
+  abbrev at : ℕ → ℤ
+  at i = getD (s .args .part .now) i (pos 0)
+
+  small : (i : ℕ) → natAbs (at i) ≤ 2 ^ 10
   small i = within-at (2 ^ 10) (s .args .part .now) i (s .pre .1)
 
 module _ (c : tie.After-square Inv-loop μ-loop) where
@@ -30,7 +33,7 @@ module _ (c : tie.After-square Inv-loop μ-loop) where
   l = c .before .before .before
 
   abbrev z : ℤ
-  z = getD (l .before .args .part .now) (l .loop .i) (pos 0)
+  z = at (l .before) (l .loop .i)
 
   square-is : c .square .result ≡ sq z
   square-is = c .square .ensures ∙ ap sq (plain z (omega (arith, small (l .before) (l .loop .i))))
@@ -49,7 +52,9 @@ shared-slice-copy-out-z : tie.Need-shared-slice-copy-out-z Inv-loop μ-loop
 shared-slice-copy-out-z c = search needs
 
 square-requires : tie.Need-square-requires Inv-loop μ-loop
-square-requires c κs = let l = c .before .before in plain-size (getD (l .before .args .part .now) (l .loop .i) (pos 0)) (2 ^ 10) (small (l .before) (l .loop .i)) (omega arith)
+square-requires c κs =
+    let l = c .before .before in
+    plain-size (at (l .before) (l .loop .i)) (2 ^ 10) (small (l .before) (l .loop .i)) (omega arith)
 
 add-sum : tie.Need-add-sum Inv-loop μ-loop
 add-sum c = record { fits = omega (arith, square-low c, l c .loop .inv .1 .1, c .before .before .loop-test .taken) }
@@ -63,7 +68,9 @@ loop-less c = search needs
 loop-again : tie.Need-loop-again Inv-loop μ-loop
 loop-again c =
     let p = l c in
-    (omega (arith, c .before .before .loop-test .taken), (omega (arith, energy-drop (p .before .args .part .now) (p .loop .i) (omega (arith, eight (p .before), c .before .before .loop-test .taken)), square-is c, p .loop .inv .1 .0), omega (arith, square-low c, p .loop .inv .1 .1)))
+    let t = c .before .before .loop-test .taken in
+    let e = energy-drop (p .before .args .part .now) (p .loop .i) (omega (arith, eight (p .before), t)) in
+    (omega (arith, t), (omega (arith, e, square-is c, p .loop .inv .1 .0), omega (arith, square-low c, p .loop .inv .1 .1)))
 
 cast-result : tie.Need-cast-result Inv-loop μ-loop
 cast-result c = search needs
@@ -71,9 +78,10 @@ cast-result c = search needs
 returns : tie.Need-returns Inv-loop μ-loop
 unfolding energy
 returns c =
-    let x = c .before .before .args .part .now in
-    let e : energy (drop (c .before .loop .i) x) ≡ 0 = ap energy (drop-of-length-le x {i = c .before .loop .i} (omega (arith, eight (c .before .before), c .loop-test .left))) in
-    omega (arith, e, c .before .loop .inv .1 .0)
+    let l = c .before in
+    let x = l .before .args .part .now in
+    let e : energy (drop (l .loop .i) x) ≡ 0 = ap energy (drop-of-length-le x {i = l .loop .i} (omega (arith, eight (l .before), c .loop-test .left))) in
+    omega (arith, e, l .loop .inv .1 .0)
 
 pub block-energy-spec : {M : Type 1} → statement M
 block-energy-spec =

@@ -1,16 +1,24 @@
--- Rounding coordinate by coordinate, from the last to the first: what one more does to the best block; and the better of the two parts is the least block
+-- A block rounded, with one coordinate changed where its sum is odd, is the best by whole vectors; and the better of the two parts is the least block.
+--
+-- The members by whole vectors are xs − M·u with the sum of u even. Each coordinate by itself is least at c = cent H x, the nearest to 0 modulo M (of H and
+-- −H the latter, which reads first), and these make a member where what comes off in all is an even multiple of M. Where it is an odd one, some
+-- coordinate has to take an odd number of Ms more, and no way is cheaper than one coordinate by one M, across 0. That adds M·(M − 2·|c|): it
+-- costs least where |c| is largest. Among equals reading order decides: a c that is not negative becomes smaller, so the first of these is changed;
+-- a negative one becomes larger, so the last of these is, and only where every equal is negative.
+-- One number orders the places so, the rank: 16·|c| + 15 − i at place i where c is not negative, and 16·|c| + i where it is.
+--
+-- The proof takes the coordinates from the last to the first and keeps the best block for the parity that rounding leaves (all rounded) and the best
+-- for the other (the coordinate of highest rank changed); what one coordinate more does to both is in e8, Rounding
 use mathlib.Core.Path.{_≡_, refl, sym, _∙_, ap, ap₂, subst}
 use mathlib.Core.Logic.{_⊎_, inl, inr}
 use mathlib.Core.Bool.{Bool, true, false, cond}
 use mathlib.Core.List.{List, [], _∷_}
-use Prim.Native.Nat.{ℕ, zero, suc, _+_, _*_, _-_, _^_, _/_, _%_, _<_, _≤_}
+use Prim.Native.Nat.{ℕ, zero, suc, _+_, _*_, _-_, _/_, _%_, _<_, _≤_}
 use native.Mathlib.Nat.{eq-or-lt-of-le}
 use native.Mathlib.Omega.{arith}
 use borrow.Author.Tests.{lt-ltb, le-ltb, ltb-true, ltb-false}
 use lib.Dec.{ltb}
-use lib.Pow.{pow-mono, pow-pos}
-use lib.ListN.{length, drop, getD, set, drop-of-length-le}
-use lib.Seq.{drop-cons}
+use lib.ListN.{length, drop, getD, set}
 use lib.IntN.{ℤ, pos, negsuc, _+ℤ_, _-ℤ_, natAbs}
 use lib.Signed.{ltZ}
 use Rattle.integers.specs.Integer.{modZ}
@@ -19,21 +27,11 @@ use Rattle.e8.specs.Energy.{energy}
 use Rattle.e8.specs.Lattice.{bit}
 use Rattle.e8.specs.Least.{cent, better, best, lowered, leastBlock}
 use Rattle.e8.proofs.Order.{better-heads}
-use Rattle.e8.proofs.Cent.{cent-range, Range}
 use Rattle.e8.proofs.Points.{rest}
 use Rattle.e8.proofs.Best.{best-head, parts-differ, best-length}
 use Rattle.e8.proofs.Rounding.{Parity, parity-none, parity-more, parity-rest, Turned, turned, Rounding, round-one, round-here, round-later}
 use Rattle.e8.proofs.Rows.{lowered-length}
 use Rattle.shaping.specs.Rounded.{across, wholeFirst, rankOf, rounded, off, highest}
-
--- ---- sizes
-
-pub cent-abs : (M : ℕ) (x : ℤ) → 0 < M → natAbs (cent M x) ≤ M
-cent-abs M x h = go (cent M x) (cent-range M x h)
-  where
-    go : (z : ℤ) → Range M z → natAbs z ≤ M
-    go (pos n) r = omega (arith, r .high)
-    go (negsuc n) r = omega (arith, r .low)
 
 -- ---- ranks
 
@@ -84,8 +82,6 @@ rank-less : (low : Bool) (n a i : ℕ) → i < 8 → Late n (suc i) → 16 * a +
 rank-less true n a i h l k = let b : a ≤ n / 16 = omega arith in elim (eq-or-lt-of-le b) [ inl e ↦ inr (e, refl) | inr e ↦ inl e ]
 rank-less false n a i h l k = inl (omega (arith, l .low, l .high))
 
--- ---- the pass
-
 -- ---- one coordinate more
 
 -- one coordinate changed
@@ -130,7 +126,8 @@ module _ (H : ℕ) (x : ℤ) (i : ℕ) (h : 0 < H) (k : i < 8) where
             (subst (λ (j : ℕ). Rounding (2 * H) odd xs (c ∷ rs) (changed (pos (2 * H)) (c ∷ rs) j) (natAbs c)) none r);
       }
 
-  more : (p : Bool) (y : ℤ) (ys rs : List ℤ) (top : ℕ) → Highest H p (y ∷ ys) rs top (suc i) → Highest H (rest (t .odd) p) (x ∷ y ∷ ys) (c ∷ rs) (cond (ltb top n) n top) i
+  more : (p : Bool) (y : ℤ) (ys rs : List ℤ) (top : ℕ) → Highest H p (y ∷ ys) rs top (suc i)
+      → Highest H (rest (t .odd) p) (x ∷ y ∷ ys) (c ∷ rs) (cond (ltb top n) n top) i
   more p y ys rs top r = go (ltb top n) refl
     where
       d : ℤ
@@ -141,14 +138,16 @@ module _ (H : ℕ) (x : ℤ) (i : ℕ) (h : 0 < H) (k : i < 8) where
 
       go : (s : Bool) → ltb top n ≡ s → Highest H (rest (t .odd) p) (x ∷ y ∷ ys) (c ∷ rs) (cond s n top) i
       go true e = here (rest (t .odd) p) (x ∷ y ∷ ys) rs
-          (round-here H x d (ltZ c (pos 0)) t h refl refl p y ys rs cs (top / 16) (r .rounding) (rank-more (ltZ c (pos 0)) top (natAbs c) i k (r .late) (ltb-true top n e)))
+          (round-here H x d (ltZ c (pos 0)) t h refl refl p y ys rs cs (top / 16) (r .rounding)
+          (rank-more (ltZ c (pos 0)) top (natAbs c) i k (r .late) (ltb-true top n e)))
       go false e =
           let one : suc (placeOf top - suc i) ≡ placeOf top - i = omega (arith, place-late top (suc i) (r .late)) in
           record {
             late = record { low = omega (arith, r .late .low); high = omega (arith, r .late .high) };
             taken = r .taken ∙ ap (λ (j : ℕ). rankOf (getD (c ∷ rs) j (pos 0)) (placeOf top)) one;
             rounding = subst (λ (j : ℕ). Rounding (2 * H) (rest (t .odd) p) (x ∷ y ∷ ys) (c ∷ rs) (changed (pos (2 * H)) (c ∷ rs) j) (top / 16)) one
-                (round-later H x d (ltZ c (pos 0)) t h refl refl p y ys rs cs (top / 16) (r .rounding) (rank-less (ltZ c (pos 0)) top (natAbs c) i k (r .late) (ltb-false top n e)));
+                (round-later H x d (ltZ c (pos 0)) t h refl refl p y ys rs cs (top / 16) (r .rounding)
+                (rank-less (ltZ c (pos 0)) top (natAbs c) i k (r .late) (ltb-false top n e)));
           }
 
   -- a coordinate of any size comes before none
@@ -161,11 +160,15 @@ module _ (H : ℕ) (x : ℤ) (i : ℕ) (h : 0 < H) (k : i < 8) where
       go (negsuc a) true e = omega arith
 
   begun : (p : Bool) (xs rs : List ℤ) (top : ℕ) → Begun H p xs rs top (suc i) → Begun H (rest (t .odd) p) (x ∷ xs) (c ∷ rs) (cond (ltb top n) n top) i
-  begun p [] rs top b = subst (λ l. Highest H (rest (t .odd) p) (x ∷ []) (c ∷ l) (cond (ltb top n) n top) i) (sym (b .0))
-      (subst (λ (m : ℕ). Highest H (rest (t .odd) p) (x ∷ []) (c ∷ []) (cond (ltb m n) n m) i) (sym (b .1 .1))
-      (subst (λ s. Highest H (rest (t .odd) p) (x ∷ []) (c ∷ []) (cond s n 0) i) (sym (lt-ltb 0 n n-pos))
-      (here (rest (t .odd) p) (x ∷ []) [] (subst (λ s. Rounding (2 * H) s (x ∷ []) (c ∷ []) (across (pos (2 * H)) c ∷ []) (natAbs c)) (sym (rest-false (t .odd)) ∙ ap (rest (t .odd)) (sym (b .1 .0)))
-      (round-one H x (across (pos (2 * H)) c) (ltZ c (pos 0)) t h refl refl)))))
+  begun p [] rs top b =
+      let q : Bool = rest (t .odd) p in
+      let d : ℤ = across (pos (2 * H)) c in
+      let e : t .odd ≡ q = sym (rest-false (t .odd)) ∙ ap (rest (t .odd)) (sym (b .1 .0)) in
+      subst (λ l. Highest H q (x ∷ []) (c ∷ l) (cond (ltb top n) n top) i) (sym (b .0))
+      (subst (λ (m : ℕ). Highest H q (x ∷ []) (c ∷ []) (cond (ltb m n) n m) i) (sym (b .1 .1))
+      (subst (λ s. Highest H q (x ∷ []) (c ∷ []) (cond s n 0) i) (sym (lt-ltb 0 n n-pos))
+      (here q (x ∷ []) []
+      (subst (λ s. Rounding (2 * H) s (x ∷ []) (c ∷ []) (d ∷ []) (natAbs c)) e (round-one H x d (ltZ c (pos 0)) t h refl refl)))))
     where
       rest-false : (q : Bool) → rest q false ≡ q
       rest-false false = refl
@@ -216,8 +219,8 @@ mended H (x ∷ xs) rs sum top h l p = go (p .odd) (p .parity) (p .begun)
       odd = false;
       left = parity-rest (2 * H) false sum (omega arith) a;
       taken = b .taken;
-      is = ap (λ (n : ℕ). changed (pos n) rs (placeOf top - 0)) {x = 0 * (2 * H)} {y = 0} (omega arith) ∙ ap (set rs (placeOf top - 0)) (across-none (getD rs (placeOf top - 0) (pos 0)))
-          ∙ set-same rs (placeOf top - 0) ∙ sym (b .rounding .near);
+      is = ap (λ (n : ℕ). changed (pos n) rs (placeOf top - 0)) {x = 0 * (2 * H)} {y = 0} (omega arith)
+          ∙ ap (set rs (placeOf top - 0)) (across-none (getD rs (placeOf top - 0) (pos 0))) ∙ set-same rs (placeOf top - 0) ∙ sym (b .rounding .near);
       cost = omega (arith, ap energy (b .rounding .near));
     }
     go true a b = record {
@@ -235,19 +238,27 @@ head-on [] h = absurd (omega arith)
 head-on (z ∷ l) h = refl
 
 -- their first coordinates differ
-firsts-differ : (H : ℕ) (x : List ℤ) → 0 < H → 0 < length x → getD (best (2 * H) false x) 0 (pos 0) ≡ getD (best (2 * H) false (lowered (pos H) x)) 0 (pos 0) → ⊥
+firsts-differ : (H : ℕ) (x : List ℤ) → 0 < H → 0 < length x
+    → getD (best (2 * H) false x) 0 (pos 0) ≡ getD (best (2 * H) false (lowered (pos H) x)) 0 (pos 0) → ⊥
 firsts-differ H [] h l e = absurd (omega arith)
 firsts-differ H (x ∷ xs) h l e =
     let p = best-head (2 * H) false x xs (omega arith) in
     let q = best-head (2 * H) false (x -ℤ pos H) (lowered (pos H) xs) (omega arith) in
     parts-differ H x (p .0) (q .0) h (sym (p .1) ∙ e ∙ q .1)
 
-pub least-is : (H : ℕ) (x : List ℤ) (e f : ℕ) → 0 < H → 0 < length x → e ≡ energy (best (2 * H) false x) → f ≡ energy (best (2 * H) false (lowered (pos H) x))
-    → cond (wholeFirst (pos e) (getD (best (2 * H) false x) 0 (pos 0)) (pos f) (getD (best (2 * H) false (lowered (pos H) x)) 0 (pos 0))) (best (2 * H) false x) (best (2 * H) false (lowered (pos H) x)) ≡ leastBlock H x
+-- so the energies and the first coordinates tell which is the least block
+abbrev pub byWhole : ℕ → List ℤ → List ℤ
+byWhole H x = best (2 * H) false x
+
+abbrev pub byHalves : ℕ → List ℤ → List ℤ
+byHalves H x = best (2 * H) false (lowered (pos H) x)
+
+pub least-is : (H : ℕ) (x : List ℤ) (e f : ℕ) → 0 < H → 0 < length x → e ≡ energy (byWhole H x) → f ≡ energy (byHalves H x)
+    → cond (wholeFirst (pos e) (getD (byWhole H x) 0 (pos 0)) (pos f) (getD (byHalves H x) 0 (pos 0))) (byWhole H x) (byHalves H x) ≡ leastBlock H x
 unfolding leastBlock
 least-is H x e f h l he hf =
-    let a : List ℤ = best (2 * H) false x in
-    let b : List ℤ = best (2 * H) false (lowered (pos H) x) in
+    let a : List ℤ = byWhole H x in
+    let b : List ℤ = byHalves H x in
     let c : ℤ = getD a 0 (pos 0) in
     let d : ℤ = getD b 0 (pos 0) in
     let ea : a ≡ c ∷ drop 1 a = head-on a (omega (arith, best-length (2 * H) false x)) in
