@@ -23,7 +23,7 @@ coordinate-short z f = length-signed 9 z (small z f)
 coordinates-append : (s t : List ℤ) → coordinatesOf (s ++ t) ≡ coordinatesOf s ++ coordinatesOf t
 unfolding coordinatesOf
 coordinates-append [] t = refl
-coordinates-append (z ∷ s) t = ap (λ (l : List ℕ). 32 ∷ signedOf z ++ l) (coordinates-append s t) ∙ sym (append-assoc (32 ∷ signedOf z) (coordinatesOf s) (coordinatesOf t))
+coordinates-append (z ∷ s) t = simp (coordinates-append s t, append-assoc)
 
 -- one coordinate more
 pub coordinates-suc : (s : List ℤ) (i : ℕ) → i < length s → coordinatesOf (take (suc i) s) ≡ coordinatesOf (take i s) ++ (32 ∷ signedOf (getD s i (pos 0)))
