@@ -57,7 +57,7 @@ fn case(tally: &mut [u64; 10], k: u64, passed: bool) {
 fn run_twos(tally: &mut [u64; 10]) {
     let frame = [2i32; 16];
     let message = b"\x20\x00\x00\x00\x00";
-    case(tally, 1, reads(false, 4, 1, &frame, message, 64, 64));
+    case(tally, 1, reads(false, 4, 1, &frame, message, 64));
     case(tally, 2, answers(true, 4, 1, &frame, 5, 9));
 }
 

@@ -37,6 +37,13 @@ fn begins_bytes(x: &[u8; 32], y: &[u8]) -> bool {
     true
 }
 
+// The energies of a vector: of the sent frame, and of the frames that it becomes with a point of the lattice added.
+pub struct Energies {
+    pub sent: u64,
+    pub whole: u64,
+    pub half: u64,
+}
+
 // A frame of marks: no sent frame has one of their size.
 fn marks() -> [i32; 32]
     ensures { λ r. ⌜ length r ≡ 32 ⌝ }
@@ -92,15 +99,14 @@ fn read(strict: bool, kind: u8, grade: u8, frame: &[i32], message: &mut [u8]) ->
     reading::read_open(kind, grade, frame, message)
 }
 
-// The frame is read as the message, with an energy from `least` to `most`.
+// The frame is read as the message, with the energy.
 pub fn reads(
     strict: bool,
     kind: u8,
     grade: u8,
     frame: &[i32],
     message: &[u8],
-    least: u64,
-    most: u64,
+    energy: u64,
 ) -> bool {
     let n = message.len();
     let mut out = mark_bytes();
@@ -111,10 +117,7 @@ pub fn reads(
     if r.number != 0 {
         return false;
     }
-    if r.energy < least {
-        return false;
-    }
-    if most < r.energy {
+    if r.energy != energy {
         return false;
     }
     begins_bytes(&out, message)
@@ -200,9 +203,9 @@ fn coordinate(z: i32, p: usize, a: usize, e: usize, by: u8) -> i32 {
     sum(z, by)
 }
 
-// Another frame of the sent frame's class: the open reading gives the message, with no less energy, and the strict reading 9.
+// Another frame of the sent frame's class: the open reading gives the message, with the energy, and the strict reading 9.
 fn equivalent(kind: u8, grade: u8, frame: &[i32], message: &[u8], energy: u64) -> bool {
-    if !reads(false, kind, grade, frame, message, energy, u64::MAX) {
+    if !reads(false, kind, grade, frame, message, energy) {
         return false;
     }
     answers(true, kind, grade, frame, message.len(), 9)
@@ -215,7 +218,7 @@ fn hold_points(
     grade: u8,
     message: &[u8],
     frame: &[i32],
-    energy: u64,
+    energies: Energies,
     tally: &mut [u64; 10],
 )
     requires { ⌜ (8 ≤ length (now frame)) × (length (now frame) ≤ 32) ⌝ }
@@ -227,14 +230,14 @@ fn hold_points(
         tally,
         v,
         tally::WHOLE,
-        equivalent(kind, grade, &whole[0..n], message, energy),
+        equivalent(kind, grade, &whole[0..n], message, energies.whole),
     );
     let half = moved(frame, n - 8, n, m / 2);
     judge(
         tally,
         v,
         tally::HALF,
-        equivalent(kind, grade, &half[0..n], message, energy),
+        equivalent(kind, grade, &half[0..n], message, energies.half),
     );
 }
 
@@ -268,26 +271,26 @@ pub fn hold(
     grade: u8,
     message: &[u8],
     frame: &[i32],
-    energy: u64,
+    energies: Energies,
     tally: &mut [u64; 10],
 ) {
     judge(
         tally,
         v,
         tally::SENT,
-        sends(kind, grade, message, frame, energy),
+        sends(kind, grade, message, frame, energies.sent),
     );
     judge(
         tally,
         v,
         tally::OPEN,
-        reads(false, kind, grade, frame, message, energy, energy),
+        reads(false, kind, grade, frame, message, energies.sent),
     );
     judge(
         tally,
         v,
         tally::STRICT,
-        reads(true, kind, grade, frame, message, energy, energy),
+        reads(true, kind, grade, frame, message, energies.sent),
     );
     if frame.len() < 8 {
         return;
@@ -295,6 +298,6 @@ pub fn hold(
     if 32 < frame.len() {
         return;
     }
-    hold_points(v, kind, grade, message, frame, energy, tally);
+    hold_points(v, kind, grade, message, frame, energies, tally);
     hold_broken(v, kind, grade, message, frame, tally);
 }

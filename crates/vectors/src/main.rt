@@ -1,7 +1,7 @@
 // Holds sending and the two readings to the vectors of a coder that was written apart (tools/second-coder, which
 // writes data/vectors.bin), and to the further cases of document 01. Each vector is sent, read back openly and
-// strictly, and read again with a lattice point added and with a coordinate moved out of the coding set. It prints how many
-// passed each check, after a line for each that did not.
+// strictly, and read again with a lattice point added, for which the other coder has the energy too, and with a coordinate moved
+// out of the coding set. It prints how many passed each check, after a line for each that did not.
 mod cases;
 mod checks;
 mod record;

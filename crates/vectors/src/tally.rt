@@ -1,5 +1,6 @@
 // How many passed each check. A check is a place of the tally; the last place counts the differences.
-use libc::STDOUT_FILENO;
+use fields::write;
+use fields::write_number;
 
 pub const RECORD: usize = 0;
 
@@ -23,14 +24,6 @@ pub const DIFFERENT: usize = 9;
 
 pub fn zeros() -> [u64; 10] {
     [0; 10]
-}
-
-fn write(text: &[u8]) {
-    io::write_all(STDOUT_FILENO, text);
-}
-
-fn write_number(n: u64) {
-    io::print_decimal(STDOUT_FILENO, n);
 }
 
 fn write_name(check: usize) {

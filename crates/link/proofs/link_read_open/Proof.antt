@@ -4,8 +4,9 @@ use native.Mathlib.Omega.{arith}
 use lib.ListN.{length}
 use mir.Facts.{toZ-ofZ}
 use borrow.Author.Needs.{needs}
-use Rattle.link.specs.Answer.{answerOf}
-use Rattle.link.proofs.Bounds.{open-fits}
+use Rattle.frames.specs.Reading.{messageAfter}
+use Rattle.link.specs.Answer.{answerOf, openBytes}
+use Rattle.link.proofs.Bounds.{open-fits, open-answer}
 use Rattle.link.proofs.link_read_open.Statement.{statement}
 use Rattle.link.proofs.link_read_open.Tie as tie
 
@@ -21,9 +22,12 @@ same-length : tie.Need-same-length
 same-length c = search needs
 
 returns : tie.Need-returns
+unfolding openBytes messageAfter
 returns c =
+    let s = c .before .before .before .before .before .before .args in
     let e = c .before .before .before .read-open .ensures in
-    (toZ-ofZ (record { sfits = c .answer .ok }) ∙ c .answer .ensures ∙ ap₂ answerOf (e .0) (e .1 .1), e .1 .0)
+    let l = open-answer (s .kind) (s .grade) (s .frame .now) (length (s .message .now)) in
+    (toZ-ofZ (record { sfits = c .answer .ok }) ∙ c .answer .ensures ∙ ap₂ answerOf (e .0) (e .1 .1) ∙ l, e .1 .0)
 
 pub link-read-open-spec : {M : Type 1} → statement M
 link-read-open-spec = tie.close (tie.spec read-open-requires answer-requires same-length returns)

@@ -4,8 +4,9 @@ use native.Mathlib.Omega.{arith}
 use lib.ListN.{length}
 use mir.Facts.{toZ-ofZ}
 use borrow.Author.Needs.{needs}
-use Rattle.link.specs.Answer.{answerOf}
-use Rattle.link.proofs.Bounds.{strict-fits}
+use Rattle.frames.specs.Reading.{messageAfter}
+use Rattle.link.specs.Answer.{answerOf, strictBytes}
+use Rattle.link.proofs.Bounds.{strict-fits, strict-answer}
 use Rattle.link.proofs.link_read_strict.Statement.{statement}
 use Rattle.link.proofs.link_read_strict.Tie as tie
 
@@ -21,9 +22,12 @@ same-length : tie.Need-same-length
 same-length c = search needs
 
 returns : tie.Need-returns
+unfolding strictBytes messageAfter
 returns c =
+    let s = c .before .before .before .before .before .before .args in
     let e = c .before .before .before .read-strict .ensures in
-    (toZ-ofZ (record { sfits = c .answer .ok }) ∙ c .answer .ensures ∙ ap₂ answerOf (e .0) (e .1 .1), e .1 .0)
+    let l = strict-answer (s .kind) (s .grade) (s .frame .now) (length (s .message .now)) in
+    (toZ-ofZ (record { sfits = c .answer .ok }) ∙ c .answer .ensures ∙ ap₂ answerOf (e .0) (e .1 .1) ∙ l, e .1 .0)
 
 pub link-read-strict-spec : {M : Type 1} → statement M
 link-read-strict-spec =

@@ -4,8 +4,9 @@ use native.Mathlib.Omega.{arith}
 use lib.ListN.{length}
 use mir.Facts.{toZ-ofZ}
 use borrow.Author.Needs.{needs}
-use Rattle.link.specs.Answer.{answerOf}
-use Rattle.link.proofs.Bounds.{sent-fits}
+use Rattle.frames.specs.Sending.{frameAfter}
+use Rattle.link.specs.Answer.{answerOf, sendFrame}
+use Rattle.link.proofs.Bounds.{sent-fits, send-answer}
 use Rattle.link.proofs.link_send.Statement.{statement}
 use Rattle.link.proofs.link_send.Tie as tie
 
@@ -21,9 +22,12 @@ same-length : tie.Need-same-length
 same-length c = search needs
 
 returns : tie.Need-returns
+unfolding sendFrame frameAfter
 returns c =
+    let s = c .before .before .before .before .before .args in
     let e = c .before .before .send .ensures in
-    (toZ-ofZ (record { sfits = c .answer .ok }) ∙ c .answer .ensures ∙ ap₂ answerOf (e .0) (e .1 .1 .0), e .1 .0)
+    let l = send-answer (s .kind) (s .grade) (s .message .now) (length (s .frame .now)) in
+    (toZ-ofZ (record { sfits = c .answer .ok }) ∙ c .answer .ensures ∙ ap₂ answerOf (e .0) (e .1 .1 .0) ∙ l, e .1 .0)
 
 pub link-send-spec : {M : Type 1} → statement M
 link-send-spec = tie.close (tie.spec send-requires answer-requires same-length returns)

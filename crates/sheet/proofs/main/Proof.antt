@@ -50,11 +50,12 @@ begin-requires : tie.Need-begin-requires Inv-loop μ-loop
 begin-requires c κs = search needs
 
 array-share-prefix-out : tie.Need-array-share-prefix-out Inv-loop μ-loop
-array-share-prefix-out c = omega (arith, c .before .begin .ensures .0 .1, c .before .begin .kept .1 .0)
+array-share-prefix-out c = omega (arith, c .before .begin .ensures .1 .0, c .before .begin .kept .1 .0)
 
 slice-aggregate-write-all-2 : tie.Need-slice-aggregate-write-all-2 Inv-loop μ-loop
 slice-aggregate-write-all-2 c =
-    let b = c .before .before in sym (length-take-le (b .begin .result .length) (b .begin .last .1 .0) (omega (arith, b .begin .ensures .0 .1, b .begin .kept .1 .0)))
+    let b = c .before .before in
+    sym (length-take-le (b .begin .result .length) (b .begin .last .1 .0) (omega (arith, b .begin .ensures .1 .0, b .begin .kept .1 .0)))
 
 write-all-requires-2 : tie.Need-write-all-requires-2 Inv-loop μ-loop
 write-all-requires-2 c κs = search needs
@@ -75,12 +76,12 @@ line-requires : tie.Need-line-requires Inv-loop μ-loop
 line-requires c κs = search needs
 
 array-share-prefix-out-2 : tie.Need-array-share-prefix-out-2 Inv-loop μ-loop
-array-share-prefix-out-2 c = omega (arith, same-room (c .before), c .before .line .ensures .0 .1)
+array-share-prefix-out-2 c = omega (arith, same-room (c .before), c .before .line .ensures .1 .0)
 
 slice-aggregate-write-all-3 : tie.Need-slice-aggregate-write-all-3 Inv-loop μ-loop
 slice-aggregate-write-all-3 c =
     let l = c .before .before in
-    sym (length-take-le (l .line .result .length) (l .line .last .1 .1 .0) (omega (arith, same-room l, l .line .ensures .0 .1)))
+    sym (length-take-le (l .line .result .length) (l .line .last .1 .1 .0) (omega (arith, same-room l, l .line .ensures .1 .0)))
 
 write-all-requires-3 : tie.Need-write-all-requires-3 Inv-loop μ-loop
 write-all-requires-3 c κs = search needs
@@ -90,7 +91,7 @@ loop-less c =
     let l = c .before .before .before in
     let t = l .before .before .before in
     let r = t .before .before .before .before .before .before .before .before .before .before in
-    omega (arith, l .line .ensures .1 .1 (omega (arith, t .loop-test .taken, r .read-full .ensures .1)), t .loop-test .taken)
+    omega (arith, l .line .ensures .1 .1 .1 (omega (arith, t .loop-test .taken, r .read-full .ensures .1)), t .loop-test .taken)
 
 loop-again : tie.Need-loop-again Inv-loop μ-loop
 loop-again c = same-room (c .before .before .before)

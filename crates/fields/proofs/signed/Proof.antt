@@ -6,8 +6,8 @@ use mir.Syntax.{w32}
 use mir.Facts.{toZ-pos}
 use Rattle.integers.proofs.Zed.{`_, #_, _⊖_, sfits! }
 use borrow.Author.Needs.{needs}
-use Rattle.vectors.proofs.record.signed.Statement.{statement}
-use Rattle.vectors.proofs.record.signed.Tie as tie
+use Rattle.fields.proofs.signed.Statement.{statement}
+use Rattle.fields.proofs.signed.Tie as tie
 
 cast-result : tie.Need-cast-result
 cast-result c = search needs

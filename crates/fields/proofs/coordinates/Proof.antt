@@ -1,22 +1,28 @@
--- `coordinates` is safe and ends: the frame is of 32 places throughout. Assumes nothing.
-use borrow.Author.Needs.{needs}
-use Prim.Native.Nat.{_-_}
-use lib.ListN.{length}
+-- `coordinates` is safe and ends. The measure is the number of coordinates left. Assumes nothing.
+use Prim.Native.Nat.{_-_, _≤_}
 use mathlib.Core.Path.{_≡_}
-use Rattle.vectors.proofs.record.coordinates.Statement.{statement}
-use Rattle.vectors.proofs.record.coordinates.Tie as tie
+use lib.ListN.{length}
+use borrow.Author.Needs.{needs}
+use Rattle.fields.proofs.coordinates.Statement.{statement}
+use Rattle.fields.proofs.coordinates.Tie as tie
 
 abbrev Inv-loop : tie.InvT-loop
-Inv-loop bytes n frame₀ p₀ frame p = length frame ≡ 32
+Inv-loop bytes frame₀ a₀ p₀ frame a p = (a ≤ length bytes) × (length frame ≡ length frame₀)
 
 abbrev μ-loop : tie.MeasureT-loop
-μ-loop bytes n frame₀ p₀ frame p = n - p
+μ-loop bytes frame₀ a₀ p₀ frame a p = length frame₀ - p
 
 loop-holds : tie.Need-loop-holds Inv-loop μ-loop
 loop-holds c = search needs
 
-mul-a : tie.Need-mul-a Inv-loop μ-loop
-mul-a c = search needs
+sub-if1 : tie.Need-sub-if1 Inv-loop μ-loop
+sub-if1 c = search needs
+
+same-length : tie.Need-same-length Inv-loop μ-loop
+same-length c = search needs
+
+returns : tie.Need-returns Inv-loop μ-loop
+returns c = search needs
 
 add-e : tie.Need-add-e Inv-loop μ-loop
 add-e c = search needs
@@ -36,11 +42,11 @@ number-requires c κs = search needs
 signed-requires : tie.Need-signed-requires Inv-loop μ-loop
 signed-requires c κs = search needs
 
-mul-frame : tie.Need-mul-frame Inv-loop μ-loop
-mul-frame c = search needs
+mul-t8 : tie.Need-mul-t8 Inv-loop μ-loop
+mul-t8 c = search needs
 
-array-set-from-frame : tie.Need-array-set-from-frame Inv-loop μ-loop
-array-set-from-frame c = search needs
+slice-set-from-frame : tie.Need-slice-set-from-frame Inv-loop μ-loop
+slice-set-from-frame c = search needs
 
 add-p : tie.Need-add-p Inv-loop μ-loop
 add-p c = search needs
@@ -51,8 +57,11 @@ loop-less c = search needs
 loop-again : tie.Need-loop-again Inv-loop μ-loop
 loop-again c = search needs
 
-returns : tie.Need-returns Inv-loop μ-loop
-returns c = search needs
+same-length-2 : tie.Need-same-length-2 Inv-loop μ-loop
+same-length-2 c = search needs
+
+returns-2 : tie.Need-returns-2 Inv-loop μ-loop
+returns-2 c = search needs
 
 pub coordinates-spec : {M : Type 1} → statement M
 coordinates-spec =
@@ -61,16 +70,19 @@ coordinates-spec =
     Inv-loop
     μ-loop
     loop-holds
-    mul-a
+    sub-if1
+    same-length
+    returns
     add-e
     sub-number
     part-number-start
     part-number-end
     number-requires
     signed-requires
-    mul-frame
-    array-set-from-frame
+    mul-t8
+    slice-set-from-frame
     add-p
     loop-less
     loop-again
-    returns)
+    same-length-2
+    returns-2)

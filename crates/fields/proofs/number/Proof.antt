@@ -2,8 +2,8 @@
 use borrow.Author.Needs.{needs}
 use Prim.Native.Nat.{_≤_}
 use lib.ListN.{length}
-use Rattle.vectors.proofs.record.number.Statement.{statement}
-use Rattle.vectors.proofs.record.number.Tie as tie
+use Rattle.fields.proofs.number.Statement.{statement}
+use Rattle.fields.proofs.number.Tie as tie
 
 abbrev Inv-loop : tie.InvT-loop
 Inv-loop bytes x₀ i₀ x i = i ≤ length bytes
