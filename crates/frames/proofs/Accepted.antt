@@ -1,6 +1,6 @@
 -- What sending accepts: exactly the messages of a kind and grade, lent as many coordinates as the kind has. Assumes nothing.
 use Prim.Native.Nat.{ℕ, zero, suc, _+_, _-_, _*_, _^_, _≤_, _<_}
-use mathlib.Core.Path.{_≡_, refl, sym, ap, _∙_}
+use mathlib.Core.Path.{_≡_, refl, ap, _∙_}
 use mathlib.Core.Bool.{Bool, true, false, _||_, cond, true≢false}
 use mathlib.Core.List.{List}
 use native.Mathlib.Decide.{decLt, ℕ-discrete}
@@ -17,7 +17,6 @@ use Rattle.frames.specs.Message.{Bytes, Message}
 use Rattle.frames.specs.Frame.{sentFrame}
 use Rattle.frames.specs.Sending.{anySet, spareSet, sendRefusal, Accepts, frameAfter, energySent}
 use Rattle.frames.specs.Demands.{Sendable, AcceptedExactly}
-use Rattle.frames.proofs.Limits.{bytes-hold}
 use Rattle.frames.proofs.Refusals.{passed}
 
 -- ---- the tests of sending: an answer of 0 says that each was passed

@@ -19,7 +19,7 @@ use Rattle.frames.specs.Frame.{weightBit, half, sentFrame}
 use Rattle.frames.specs.Sending.{anySet, spareSet, sendRefusal}
 use Rattle.frames.specs.Reading.{levelMessage, levelMessages, quotients, digits, allDigits, blockMessages, readBits, openMessage}
 use Rattle.frames.specs.Reading.{sameFrame, inRange, broken, openRefusal, isSent, strictRefusal}
-use Rattle.frames.specs.Exam.{printed, AllPrinted, exams, sentAs, examined, FurtherCases, SendingTests, ReadingTests}
+use Rattle.frames.specs.Exam.{printed, AllPrinted, exams, sentAs, examined, layout, FurtherCases, SendingTests, ReadingTests}
 
 -- the kinds are those printed: 3, 4, 5 and no other
 pub kinds-are : (k : ℕ) → isKind k ≡ (eqb k 3 || (eqb k 4 || eqb k 5))
@@ -47,6 +47,11 @@ pub exam-frames : map sentAs exams ≡ map examined exams
 unfolding sentFrame half leastFrame leastBlock best better cent before energy sq leader coordinate stacked blockNumbers numbers
     degrees kinds levels levelBits sumTo codeword order dimension masks ofWeight table messageBit ones
 exam-frames = refl
+
+pub layout-frames : map sentAs layout ≡ map examined layout
+unfolding sentFrame half leastFrame leastBlock best better cent before energy sq leader coordinate stacked blockNumbers numbers
+    degrees kinds levels levelBits sumTo codeword order dimension masks ofWeight table messageBit ones
+layout-frames = refl
 
 pub further-cases : FurtherCases
 unfolding openRefusal strictRefusal isSent sameFrame openMessage readBits levelMessages levelMessage blockMessages quotients allDigits digits

@@ -1,6 +1,6 @@
 -- THE LIMITS that the table of kinds sets, which proofs share: each by one test over the rows. Assumes nothing.
 use Prim.Native.Nat.{ℕ, zero, suc, _+_, _*_, _%_, _^_, _≤_, _<_}
-use mathlib.Core.Path.{_≡_, refl, sym, ap, subst}
+use mathlib.Core.Path.{_≡_, refl, ap, subst}
 use mathlib.Core.Bool.{Bool, true, false, _&&_, _||_, cond, true≢false}
 use mathlib.Core.List.{List, [], _∷_}
 use native.Mathlib.Nat.{zero-add, mul-le-mul, mul-le-mul-left}
@@ -155,6 +155,10 @@ pub record Piece (from count bits : ℕ) : Type 0 where
   pub few : count ≤ 63
   pub word : from % 8 + count ≤ 64
   pub inside : from + count ≤ bits
+
+-- as `bits_at` and `put_bits` ask it of n bytes that hold the message
+pub in-bytes : {from count bits : ℕ} → Piece from count bits → (n : ℕ) → bits ≤ 8 * n → (count ≤ 63) × (from % 8 + count ≤ 64) × (from + count ≤ 8 * n)
+in-bytes p n h = (p .few, p .word, omega (arith, p .inside))
 
 -- the pieces of levels of the degrees rs, from bit `from` on: each level begins where the one before ends
 abbrev held : ℕ → ℕ → List ℕ → Bool

@@ -1,7 +1,7 @@
 -- What document 01 prints, to be met by the definitions: its table of kinds, its exam frames, the further cases, the order of tests. Assumes nothing.
-use Prim.Native.Nat.{ℕ, _+_, _*_, _^_}
+use Prim.Native.Nat.{ℕ, _+_, _-_, _*_, _^_}
 use mathlib.Core.Path.{_≡_}
-use mathlib.Core.List.{List, [], _∷_}
+use mathlib.Core.List.{List, [], _∷_, _++_}
 use lib.IntN.{ℤ, pos, negℤ}
 use lib.ListN.{replicate}
 use Rattle.e8.specs.Energy.{energy}
@@ -88,6 +88,34 @@ sentAs e = (sentFrame (e .kind) (e .grade) (e .message), energy (sentFrame (e .k
 abbrev pub examined : Exam → List ℤ × ℕ
 examined e = (e .frame, e .energy)
 
+-- n coordinates, 0 but for the one at p, which is z
+abbrev pub oneAt : ℕ → ℕ → ℕ → List ℤ
+oneAt n p z = replicate p (pos 0) ++ (pos z ∷ replicate (n - p - 1) (pos 0))
+
+-- document 01, "Message to coset leader": where a bit stands, seen by setting it alone; frames by hand.
+-- Kind 3, grade 2: s1 (1 bit), s2 (both bits), s7, s8 (its first two bits). Kind 4, grade 1: level 1's second and last bit, s2 of either block.
+-- Kind 5, grade 1: s2 of the last block
+abbrev pub layout : List Exam
+layout =
+    record { kind = 3; grade = 2; message = 16 ∷ 0 ∷ 0 ∷ []; frame = oneAt 8 0 2; energy = 4 }
+    ∷ record { kind = 3; grade = 2; message = 32 ∷ 0 ∷ 0 ∷ []; frame = oneAt 8 1 2; energy = 4 }
+    ∷ record { kind = 3; grade = 2; message = 64 ∷ 0 ∷ 0 ∷ []; frame = oneAt 8 1 4; energy = 16 }
+    ∷ record { kind = 3; grade = 2; message = 0 ∷ 128 ∷ 0 ∷ []; frame = oneAt 8 6 2; energy = 4 }
+    ∷ record { kind = 3; grade = 2; message = 0 ∷ 0 ∷ 2 ∷ []; frame = oneAt 8 7 2; energy = 4 }
+    ∷ record { kind = 3; grade = 2; message = 0 ∷ 0 ∷ 4 ∷ []; frame = oneAt 8 7 4; energy = 16 }
+    ∷ record {
+      kind = 4;
+      grade = 1;
+      message = 64 ∷ replicate 4 0;
+      frame = ints (0 ∷ 2 ∷ 0 ∷ 2 ∷ 0 ∷ 2 ∷ 0 ∷ 2 ∷ 0 ∷ 2 ∷ 0 ∷ 2 ∷ 0 ∷ 2 ∷ 0 ∷ 2 ∷ []);
+      energy = 32;
+    }
+    ∷ record { kind = 4; grade = 1; message = 0 ∷ 0 ∷ 8 ∷ 0 ∷ 0 ∷ []; frame = replicate 14 (pos 0) ++ replicate 2 (pos 2); energy = 8 }
+    ∷ record { kind = 4; grade = 1; message = 0 ∷ 0 ∷ 16 ∷ 0 ∷ 0 ∷ []; frame = oneAt 16 1 4; energy = 16 }
+    ∷ record { kind = 4; grade = 1; message = 0 ∷ 0 ∷ 0 ∷ 16 ∷ 0 ∷ []; frame = oneAt 16 9 4; energy = 16 }
+    ∷ record { kind = 5; grade = 1; message = replicate 7 0 ++ (1 ∷ []); frame = oneAt 32 25 4; energy = 16 }
+    ∷ []
+
 -- ---- further cases
 
 -- document 01, "Exam frames", after the table
@@ -106,7 +134,7 @@ pub record FurtherCases : Type 0 where
 
 -- "Sending tests 1, 2, 3, 4, 5": each call is wrong in that test and in all later ones
 pub record SendingTests : Type 0 where
-  pub kind : sendRefusal 6 5 (0 ∷ 16 ∷ 0 ∷ []) 7 ≡ 1
+  pub kind : sendRefusal 2 5 (0 ∷ 16 ∷ 0 ∷ []) 7 ≡ 1
   pub grade : sendRefusal 3 5 (0 ∷ 16 ∷ 0 ∷ []) 7 ≡ 2
   pub bytes : sendRefusal 3 1 (0 ∷ 16 ∷ 0 ∷ []) 7 ≡ 3
   pub coordinates : sendRefusal 3 1 (0 ∷ 16 ∷ []) 7 ≡ 4
@@ -115,7 +143,7 @@ pub record SendingTests : Type 0 where
 
 -- "Reading tests 1, 2, 4, 3, then 6 over all coordinates, then 7, 8, 9": 1,048,579 is over range, and its bits of weight 1 and 2 are set
 pub record ReadingTests : Type 0 where
-  pub kind : strictRefusal 6 5 (pos 1048579 ∷ replicate 14 (pos 0)) 4 ≡ 1
+  pub kind : strictRefusal 2 5 (pos 1048579 ∷ replicate 14 (pos 0)) 4 ≡ 1
   pub grade : strictRefusal 4 5 (pos 1048579 ∷ replicate 14 (pos 0)) 4 ≡ 2
   pub coordinates : strictRefusal 4 1 (pos 1048579 ∷ replicate 14 (pos 0)) 4 ≡ 4
   pub bytes : strictRefusal 4 1 (pos 1048579 ∷ replicate 15 (pos 0)) 4 ≡ 3
