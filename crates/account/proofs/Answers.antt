@@ -1,18 +1,18 @@
--- What sending with an account answers, by its tests and by its number; and the energies that it counts. Assumes nothing.
+-- The number of sending with an account by its tests, the account by the number, and the energies that are counted. Assumes nothing.
 use Prim.Native.Nat.{ℕ, _^_, _≤_}
 use mathlib.Core.Path.{_≡_, refl, sym, _∙_}
 use mathlib.Core.Bool.{Bool, true, false, cond}
 use mathlib.Core.List.{List}
 use native.Mathlib.Omega.{arith}
 use lib.Dec.{eqb}
-use lib.IntN.{ℤ}
-use borrow.Author.Tests.{eq-eqb, ne-eqb, eqb-true, eqb-false}
+use borrow.Author.Tests.{ne-eqb, eqb-true, eqb-false}
 use Rattle.e8.specs.Energy.{energy}
 use Rattle.frames.specs.Frame.{sentFrame}
-use Rattle.frames.specs.Sending.{sendRefusal, frameAfter, energySent}
+use Rattle.frames.specs.Sending.{sendRefusal}
 use Rattle.frames.proofs.Limits.{kind-high}
 use Rattle.frames.proofs.Bounds.{sent-energy}
-use Rattle.sending.proofs.Answers.{Fits, at-most-five}
+use Rattle.frames.proofs.Accepted.{all-passed}
+use Rattle.sending.proofs.Answers.{at-most-five}
 use Rattle.account.specs.declared.Account.{Account}
 use Rattle.account.specs.Power.{Measured, full, grown}
 use Rattle.account.specs.Counted.{countedRefusal, countedAccount}
@@ -51,23 +51,24 @@ module _ (k b : ℕ) (m : List ℕ) (n : ℕ) (a : Account) where
       go s true false e q = refl
       go s false t e q = absurd (eqb-false s 0 e q)
 
--- ---- what is left, by the number
+-- ---- the account, by the number
 
-module _ (number k b : ℕ) (m : List ℕ) (f : List ℤ) (a : Account) where
-  pub refused : (number ≡ 0 → ⊥) → (f ≡ frameAfter number k b m f) × (0 ≡ energySent number k b m) × (a ≡ countedAccount number k b m a)
-  unfolding frameAfter energySent countedAccount
-  refused n = let e : eqb number 0 ≡ false = ne-eqb number 0 n in (simp e, simp e, simp e)
+module _ (number k b : ℕ) (m : List ℕ) (a : Account) where
+  pub account-refused : (number ≡ 0 → ⊥) → countedAccount number k b m a ≡ a
+  unfolding countedAccount
+  account-refused h = rw (ne-eqb number 0 h)
 
-  pub sent : number ≡ 0 → (sentFrame k b m ≡ frameAfter number k b m f) × (energy (sentFrame k b m) ≡ energySent number k b m)
-      × (grown a (energy (sentFrame k b m)) (2 ^ k) ≡ countedAccount number k b m a)
-  unfolding frameAfter energySent countedAccount
-  sent z = let e : eqb number 0 ≡ true = eq-eqb number 0 z in (simp e, simp e, simp e)
+  pub account-sent : number ≡ 0 → countedAccount number k b m a ≡ grown a (energy (sentFrame k b m)) (2 ^ k)
+  unfolding countedAccount
+  account-sent z = rw z
 
--- what is sent for a message that fits has a power
-pub measured : (k b : ℕ) (m : List ℕ) (n : ℕ) → Fits k b m n → (e : ℕ) → e ≡ energy (sentFrame k b m) → Measured e n
-measured k b m n p e q = record {
-  small = omega (arith, q, sent-energy k b m (p .kind) (p .grade));
-  exponent = k;
-  short = omega (arith, kind-high k (p .kind));
-  is = p .positions;
-}
+-- what is sent for a message that is accepted has a power
+pub measured : (k b : ℕ) (m : List ℕ) (n : ℕ) → sendRefusal k b m n ≡ 0 → (e : ℕ) → e ≡ energy (sentFrame k b m) → Measured e n
+measured k b m n z e q =
+    let p = all-passed k b m n z in
+    record {
+      small = omega (arith, q, sent-energy k b m (p .kind) (p .grade));
+      exponent = k;
+      short = omega (arith, kind-high k (p .kind));
+      is = p .coordinates;
+    }

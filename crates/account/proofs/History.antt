@@ -11,7 +11,7 @@ use lib.Ieee.Exact.{HasValue}
 use borrow.Author.Tests.{eqb-true, leb-false}
 use Rattle.e8.specs.Energy.{energy}
 use Rattle.frames.proofs.Limits.{kind-high}
-use Rattle.sending.proofs.Answers.{Fits, fits}
+use Rattle.frames.proofs.Accepted.{Passed, all-passed}
 use Rattle.account.specs.declared.Account.{Account}
 use Rattle.account.specs.Power.{begun, grown}
 use Rattle.account.specs.Counted.{countedAccount}
@@ -22,14 +22,12 @@ use Rattle.frames.proofs.Bounds.{sent-energy}
 
 module _ (a : Account) (c : Call) where
   -- an accepted call passed sending's tests, and the account had room
-  fit : answer a c ≡ 0 → Fits (c .kind) (c .grade) (c .message) (c .n)
-  fit e =
-      let z = passed (c .kind) (c .grade) (c .message) (c .n) a 0 (sym e) (λ l. refl) in
-      fits (c .kind) (c .grade) (c .message) (c .n) (λ q. omega (arith, q, z)) (λ q. omega (arith, q, z)) (λ q. omega (arith, q, z)) (λ q. omega (arith, q, z))
+  tests : answer a c ≡ 0 → Passed (c .kind) (c .grade) (c .message) (c .n)
+  tests e = all-passed (c .kind) (c .grade) (c .message) (c .n) (passed (c .kind) (c .grade) (c .message) (c .n) a 0 (sym e) (λ l. refl))
 
   counts : answer a c ≡ 0 → Countable 5 (entryOf c)
   counts e =
-      let p = fit e in
+      let p = tests e in
       let s = sent-energy (c .kind) (c .grade) (c .message) (p .kind) (p .grade) in
       record { exponent = c .kind; short = kind-high (c .kind) (p .kind); is = refl; small = omega (arith, s) }
 
