@@ -1,10 +1,12 @@
 // Lists the sheets of a coder that was written apart (tools/second-coder, which writes data/sheets.bin), and holds each to
 // the listing that stands there. The lines are asked for from the first place on, also of a long sheet, which has none. It prints
-// how many sheets have their listing, after a line for each that has not.
+// how many sheets have their listing, after a line for each that has not. Before, it prints the listings of an empty sheet and of two
+// long ones, as the sheet program does.
 use fields::fill;
 use fields::number;
 use fields::write;
 use fields::write_number;
+use libc::STDOUT_FILENO;
 
 // What is left of the listing that the file has, and whether what was put so far is the same.
 struct Progress {
@@ -177,7 +179,21 @@ fn take_all(fd: i32) -> Counts {
     different(v, c, false)
 }
 
+// Prints the listing of the sheet in a file.
+fn print(path: &[u8]) {
+    let fd = os::open_read(path);
+    if fd < 0 {
+        os::fail(path);
+        return;
+    }
+    printing::list(fd, STDOUT_FILENO);
+    libc::close(fd);
+}
+
 fn main() {
+    print(b"empty.bin");
+    print(b"long.bin");
+    print(b"longer.bin");
     let path = b"sheets.bin";
     let fd = os::open_read(path);
     if fd < 0 {

@@ -75,23 +75,6 @@ fn sends(kind: u8, grade: u8, message: &[u8], frame: &[i32], energy: u64) -> boo
     begins(&out, frame)
 }
 
-// Sending to n coordinates answers the number, and leaves them as they were.
-pub fn refuses(kind: u8, grade: u8, message: &[u8], n: usize, number: u8) -> bool {
-    let mut out = marks();
-    let as_lent = marks();
-    if 32 < n {
-        return false;
-    }
-    let r = sending::send(kind, grade, message, &mut out[0..n]);
-    if r.number != number {
-        return false;
-    }
-    if r.energy != 0 {
-        return false;
-    }
-    begins(&out, &as_lent)
-}
-
 fn read(strict: bool, kind: u8, grade: u8, frame: &[i32], message: &mut [u8]) -> reading::Reading {
     if strict {
         return reading::read_strict(kind, grade, frame, message);
@@ -100,14 +83,7 @@ fn read(strict: bool, kind: u8, grade: u8, frame: &[i32], message: &mut [u8]) ->
 }
 
 // The frame is read as the message, with the energy.
-pub fn reads(
-    strict: bool,
-    kind: u8,
-    grade: u8,
-    frame: &[i32],
-    message: &[u8],
-    energy: u64,
-) -> bool {
+fn reads(strict: bool, kind: u8, grade: u8, frame: &[i32], message: &[u8], energy: u64) -> bool {
     let n = message.len();
     let mut out = mark_bytes();
     if 32 < n {
@@ -124,7 +100,7 @@ pub fn reads(
 }
 
 // The reading answers the number; where that is a refusal, the n bytes stay as they were.
-pub fn answers(strict: bool, kind: u8, grade: u8, frame: &[i32], n: usize, number: u8) -> bool {
+fn answers(strict: bool, kind: u8, grade: u8, frame: &[i32], n: usize, number: u8) -> bool {
     let mut out = mark_bytes();
     let as_lent = mark_bytes();
     if 32 < n {
@@ -219,7 +195,7 @@ fn hold_points(
     message: &[u8],
     frame: &[i32],
     energies: Energies,
-    tally: &mut [u64; 10],
+    tally: &mut [u64; 9],
 )
     requires { ⌜ (8 ≤ length (now frame)) × (length (now frame) ≤ 32) ⌝ }
 {
@@ -242,7 +218,7 @@ fn hold_points(
 }
 
 // The frame with its first coordinate moved out of the coding set: by 1, and by 2 where there is a level 1.
-fn hold_broken(v: u64, kind: u8, grade: u8, message: &[u8], frame: &[i32], tally: &mut [u64; 10])
+fn hold_broken(v: u64, kind: u8, grade: u8, message: &[u8], frame: &[i32], tally: &mut [u64; 9])
     requires { ⌜ length (now frame) ≤ 32 ⌝ }
 {
     let n = frame.len();
@@ -272,7 +248,7 @@ pub fn hold(
     message: &[u8],
     frame: &[i32],
     energies: Energies,
-    tally: &mut [u64; 10],
+    tally: &mut [u64; 9],
 ) {
     judge(
         tally,

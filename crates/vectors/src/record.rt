@@ -15,7 +15,7 @@ fn take_frame(
     grade: u8,
     message: &[u8],
     n: usize,
-    tally: &mut [u64; 10],
+    tally: &mut [u64; 9],
 ) -> bool {
     let mut bytes = [0u8; 128];
     let mut numbers = [0u8; 24];
@@ -40,7 +40,7 @@ fn take_frame(
 }
 
 // Takes a record from its message on.
-fn take_rest(fd: i32, v: u64, kind: u8, grade: u8, m: usize, tally: &mut [u64; 10]) -> bool {
+fn take_rest(fd: i32, v: u64, kind: u8, grade: u8, m: usize, tally: &mut [u64; 9]) -> bool {
     let mut message = [0u8; 21];
     if 20 < m {
         return false;
@@ -54,7 +54,7 @@ fn take_rest(fd: i32, v: u64, kind: u8, grade: u8, m: usize, tally: &mut [u64; 1
 
 // Takes record v, and answers whether there was one. A record that is cut short, or has more than 20 message bytes or 32
 // coordinates, is a difference, and the last one taken.
-pub fn take(fd: i32, v: u64, tally: &mut [u64; 10]) -> bool {
+pub fn take(fd: i32, v: u64, tally: &mut [u64; 9]) -> bool {
     let mut head = [0u8; 3];
     let got = io::read_full(fd, &mut head);
     if got == 0 {

@@ -125,6 +125,25 @@ impl Calls {
     }
 }
 
+/// The exam frames and the further cases of document 01.
+fn document(calls: &mut Calls) {
+    let messages: [[u8; 2]; 8] = [[0, 0], [1, 0], [2, 0], [0x10, 0], [0, 4], [0x10, 4], [0, 8], [0xF0, 7]];
+    for message in messages {
+        calls.send(3, 1, &message, 8);
+        calls.read(3, 1, &send(3, 1, &message).unwrap().frame, 2);
+    }
+    for message in [[1, 0, 0, 0, 0], [0x20, 0, 0, 0, 0]] {
+        calls.send(4, 1, &message, 16);
+        calls.read(4, 1, &send(4, 1, &message).unwrap().frame, 5);
+    }
+    calls.read(4, 1, &[2; 16], 5);
+    calls.read(3, 1, &[1, 0, 0, 0, 0, 0, 0, 0], 2);
+    calls.send(3, 1, &[0x00, 0x10], 8);
+    for x in [1_048_576, 1_048_577, -1_048_576, -1_048_577, i32::MAX as i64, i32::MIN as i64] {
+        calls.read(3, 1, &[x, 0, 0, 0, 0, 0, 0, 0], 2);
+    }
+}
+
 /// Messages sent and read back, and read with points of the lattice added.
 fn good(calls: &mut Calls, kind: u8, grade: u8, random: &mut Random) {
     let format = Format::new(kind, grade).unwrap();
@@ -152,7 +171,7 @@ fn ends(calls: &mut Calls, kind: u8, grade: u8, random: &mut Random) {
         calls.read(kind, grade, &frame, m);
         calls.read(kind, grade, &vec![end; n], m);
     }
-    for by in [1, 2, 3] {
+    for by in [1, 2, 3, 1026] {
         let mut frame = send(kind, grade, &dense(&format, random)).unwrap().frame;
         frame[random.below(n as u64) as usize] += by;
         calls.read(kind, grade, &frame, m);
@@ -240,6 +259,7 @@ fn calls() -> Vec<Call> {
     let mut calls = Calls(Vec::new());
     let lent = Lent { message: Vec::new(), frame: Vec::new(), account: NONE };
     calls.0.push(Call { function: BEGIN, kind: 0, grade: 0, lent });
+    document(&mut calls);
     for kind in 3..=5 {
         for grade in 1..=4 {
             good(&mut calls, kind, grade, random);

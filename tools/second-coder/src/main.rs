@@ -25,13 +25,26 @@ fn write_files() -> std::io::Result<()> {
     println!("\nvectors.bin: {vectors} vectors, {tied} with ties, {} bytes", file.len());
     let sheets = vectors::sheet_file();
     std::fs::write(crates("sheets/data/sheets.bin"), &sheets)?;
-    println!("sheets.bin: {} sheets, {} bytes", vectors::sheets().len(), sheets.len());
+    let count = vectors::sheets().len();
+    println!("sheets.bin: {count} sheets, {} bytes", sheets.len());
+    let mut printed = String::new();
+    for (name, sheet) in vectors::files() {
+        std::fs::write(crates("sheets/data").join(name), &sheet)?;
+        println!("{name}: {} bytes", sheet.len());
+        printed += &sheet::listing(&sheet);
+    }
+    std::fs::write(crates("sheets/stdout"), format!("{printed}sheets {count}\ndifferent 0\n"))?;
     let (calls, functions, numbers) = calls::call_file();
     std::fs::write(crates("calls/data/calls.bin"), &calls)?;
     println!(
         "calls.bin: {functions:?} calls of each function, {numbers:?} answered by each number, {} bytes",
         calls.len()
     );
+    let names = ["sending", "open reading", "strict reading", "sending with an account", "beginning of an account"];
+    let mut printed: String = names.iter().zip(functions).map(|(name, count)| format!("{name} {count}\n")).collect();
+    // Every call but the beginning of an account is made of an exported function too.
+    printed += &format!("exported {}\ndifferent 0\n", functions[..4].iter().sum::<usize>());
+    std::fs::write(crates("calls/stdout"), printed)?;
     let sheet = vectors::program_sheet();
     let listing = sheet::listing(&sheet);
     std::fs::write(crates("sheet/stdin"), &sheet)?;

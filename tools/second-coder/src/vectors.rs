@@ -308,6 +308,13 @@ pub fn program_sheet() -> Vec<u8> {
     [full(LONGEST - 6, &mut random), vec![0x4C, 0x43, 3, 1, 0, 0x10]].concat()
 }
 
+/// Sheets that are printed from files of their own: nothing, and longer than a sheet may be.
+pub fn files() -> [(&'static str, Vec<u8>); 3] {
+    let mut random = Random::new(6);
+    let mut file = |name, length| (name, full(length, &mut random));
+    [file("empty.bin", 0), file("long.bin", LONGEST + 1), file("longer.bin", 40_000)]
+}
+
 /// All sheets with the places from which their records are listed and their listings, in the format of README.md.
 pub fn sheet_file() -> Vec<u8> {
     let mut file = Vec::new();

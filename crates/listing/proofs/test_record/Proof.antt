@@ -6,7 +6,7 @@ use mathlib.Core.Bool.{true}
 use lib.ListN.{length}
 use borrow.Author.Tests.{not-true, not-false}
 use Rattle.frames.specs.Kind.{isKind}
-use Rattle.frames.specs.Sending.{isGrade}
+use Rattle.frames.specs.Kind.{isGrade}
 use Rattle.frames.proofs.Rows.{grade-high}
 use Rattle.listing.specs.Record.{marked, kindAt, gradeAt}
 use Rattle.listing.proofs.Tests.{no-mark, no-kind-byte, no-kind, no-grade-byte, no-grade, cut-message, whole}

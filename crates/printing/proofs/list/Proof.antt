@@ -1,19 +1,19 @@
--- `main` is proved: every line fits its room, and each turn goes further in the sheet. Assumes nothing.
+-- `list` is proved: every line fits its room, and each turn goes further in the sheet. Assumes nothing.
 use Prim.Native.Nat.{_-_}
 use native.Mathlib.Omega.{arith}
 use mathlib.Core.Path.{_≡_, sym}
 use lib.ListN.{length}
 use lib.Seq.{length-take-le}
 use borrow.Author.Needs.{needs}
-use Rattle.sheet.proofs.main.Statement.{statement}
-use Rattle.sheet.proofs.main.Tie as tie
+use Rattle.printing.proofs.list.Statement.{statement}
+use Rattle.printing.proofs.list.Tie as tie
 
 abbrev Inv-loop : tie.InvT-loop
-Inv-loop input n out₀ p₀ out p =
+Inv-loop from to input n out₀ p₀ out p =
     length out ≡ 512
 
 abbrev μ-loop : tie.MeasureT-loop
-μ-loop input n out₀ p₀ out p = n - p
+μ-loop from to input n out₀ p₀ out p = n - p
 
 -- the room for a line keeps its length
 same-room : (c : tie.After-line Inv-loop μ-loop) → length (c .line .last .1 .1 .0) ≡ 512
@@ -99,8 +99,8 @@ loop-again c = same-room (c .before .before .before)
 returns-2 : tie.Need-returns-2 Inv-loop μ-loop
 returns-2 c = search needs
 
-pub main-spec : {M : Type 1} → statement M
-main-spec =
+pub list-spec : {M : Type 1} → statement M
+list-spec =
     tie.close
     (tie.spec
     Inv-loop
