@@ -28,6 +28,11 @@ pub passed : (t : Bool) (n next : ℕ) → unless t (suc n) next ≡ 0 → (t �
 passed true n next e = (refl, e)
 passed false n next e = absurd (omega arith)
 
+-- a test whose number is not the answer was passed, and the rest answers
+pub past : (t : Bool) (number next : ℕ) → (unless t number next ≡ number → ⊥) → (t ≡ true) × (unless t number next ≡ next)
+past true number next h = (refl, refl)
+past false number next h = absurd (h refl)
+
 -- the tests of kind and grade: both passed, or one of them answers, whatever the rest would
 pub good-row : (k b : ℕ) → unless (isKind k) 1 (unless (isGrade b) 2 0) ≡ 0 → (isKind k ≡ true) × (isGrade b ≡ true)
 good-row k b e = let t = passed (isKind k) 0 _ e in (t .0, passed (isGrade b) 1 0 (t .1) .0)

@@ -1,55 +1,60 @@
 -- The rows of bits of a message, those of the levels and those of the blocks: each grows by one piece; and quotients of a part. Assumes nothing.
 use Prim.Native.Nat.{ℕ, zero, suc, _+_, _*_, _-_, _^_, _≤_, _<_}
-use mathlib.Core.Path.{_≡_, refl, sym, ap, _∙_}
+use mathlib.Core.Path.{_≡_, refl, sym, ap, ap₂, _∙_}
 use mathlib.Core.List.{List, [], _∷_, _++_, append-assoc, append-nil}
 use native.Mathlib.Numerals.{add-one}
 use native.Mathlib.Nat.{le-trans, div-le-self}
+use native.Mathlib.Decide.{decLt}
 use native.Mathlib.Omega.{arith}
 use lib.Pow.{pow-pos}
 use lib.IntN.{ℤ, pos, negsuc, natAbs}
-use lib.ListN.{length, take, drop, getD}
+use lib.ListN.{length, take, drop, getD, length-append, List·getD-eq-default}
 use lib.Signed.{shrZ}
-use Rattle.reed_muller.specs.Level.{dimension}
+use Rattle.bits.specs.Number.{table}
+use Rattle.bits.proofs.Table.{length-table, table-at}
+use Rattle.bits.proofs.Digits.{digit, digit-small}
+use Rattle.reed_muller.specs.Level.{order, dimension}
 use Rattle.e8.specs.Energy.{Within}
 use Rattle.e8.specs.Lattice.{part}
 use Rattle.e8.specs.Rows.{reduced}
 use Rattle.frames.specs.Kind.{dimensions}
 use Rattle.frames.specs.Message.{widths}
-use Rattle.frames.specs.Frame.{levelWord}
-use Rattle.frames.specs.Reading.{levelMessage, levelMessages, quotients, allDigits, blockMessages}
+use Rattle.frames.specs.Reading.{quotients, digits, allDigits, blockMessages}
+use Rattle.reading.specs.Words.{heldMessages}
+use Rattle.reading.proofs.Writing.{Bits}
 
 -- ---- levels in a row
 
-levels-next : (m o : ℕ) (rs : List ℕ) (f : List ℤ) (i : ℕ) → i < length rs
-    → levelMessages m o (take (suc i) rs) f ≡ levelMessages m o (take i rs) f ++ levelMessage m (getD rs i 0) (levelWord (o + i) f)
-unfolding levelMessages
-levels-next m o [] f i h = absurd (omega arith)
-levels-next m o (r ∷ rs) f zero h = let e : o ≡ o + 0 = omega arith in append-nil (levelMessage m r (levelWord o f)) ∙ ap (λ (n : ℕ). levelMessage m r (levelWord n f)) e
-levels-next m o (r ∷ rs) f (suc i) h =
+-- the message bits that word i holds for a code of degree r
+abbrev pub heldLevel : ℕ → ℕ → ℕ → List ℕ → List ℕ
+heldLevel m i r words = table (dimension r m) (λ t. digit (getD words i 0) (getD (order m) t 0))
+
+held-next : (m o : ℕ) (rs words : List ℕ) (i : ℕ) → i < length rs
+    → heldMessages m o (take (suc i) rs) words ≡ heldMessages m o (take i rs) words ++ heldLevel m (o + i) (getD rs i 0) words
+unfolding heldMessages
+held-next m o [] words i h = absurd (omega arith)
+held-next m o (r ∷ rs) words zero h =
+    let e : o ≡ o + 0 = omega arith in
+    append-nil (heldLevel m o r words) ∙ ap (λ (n : ℕ). heldLevel m n r words) e
+held-next m o (r ∷ rs) words (suc i) h =
     let e : suc o + i ≡ o + suc i = omega arith in
-    ap (λ (d : List ℕ). levelMessage m r (levelWord o f) ++ d) (levels-next m (suc o) rs f i (omega arith))
-    ∙ sym (append-assoc (levelMessage m r (levelWord o f)) (levelMessages m (suc o) (take i rs) f) (levelMessage m (getD rs i 0) (levelWord (suc o + i) f)))
-    ∙ ap (λ (n : ℕ). (levelMessage m r (levelWord o f) ++ levelMessages m (suc o) (take i rs) f) ++ levelMessage m (getD rs i 0) (levelWord n f)) e
+    ap (λ (d : List ℕ). heldLevel m o r words ++ d) (held-next m (suc o) rs words i (omega arith))
+    ∙ sym (append-assoc (heldLevel m o r words) (heldMessages m (suc o) (take i rs) words) (heldLevel m (suc o + i) (getD rs i 0) words))
+    ∙ ap (λ (n : ℕ). (heldLevel m o r words ++ heldMessages m (suc o) (take i rs) words) ++ heldLevel m n (getD rs i 0) words) e
 
 -- one level more
-pub levels-more : (m : ℕ) (rs : List ℕ) (f : List ℤ) (i : ℕ) → i < length rs
-    → levelMessages m 0 (take (i + 1) rs) f ≡ levelMessages m 0 (take i rs) f ++ levelMessage m (getD rs i 0) (levelWord i f)
-levels-more m rs f i h =
+pub held-more : (m : ℕ) (rs words : List ℕ) (i : ℕ) → i < length rs
+    → heldMessages m 0 (take (i + 1) rs) words ≡ heldMessages m 0 (take i rs) words ++ heldLevel m i (getD rs i 0) words
+held-more m rs words i h =
     let e : 0 + i ≡ i = omega arith in
-    rw (add-one i) (levels-next m 0 rs f i h) ∙ ap (λ (n : ℕ). levelMessages m 0 (take i rs) f ++ levelMessage m (getD rs i 0) (levelWord n f)) e
+    rw (add-one i) (held-next m 0 rs words i h) ∙ ap (λ (n : ℕ). heldMessages m 0 (take i rs) words ++ heldLevel m n (getD rs i 0) words) e
 
-dimensions-next : (m : ℕ) (rs : List ℕ) (i : ℕ) → i < length rs → dimensions m (take (suc i) rs) ≡ dimensions m (take i rs) + dimension (getD rs i 0) m
-dimensions-next m [] i h = absurd (omega arith)
-dimensions-next m (r ∷ rs) zero h = omega arith
-dimensions-next m (r ∷ rs) (suc i) h = omega (arith, dimensions-next m rs i (omega arith))
-
-pub dimensions-more : (m : ℕ) (rs : List ℕ) (i : ℕ) → i < length rs → dimensions m (take (i + 1) rs) ≡ dimensions m (take i rs) + dimension (getD rs i 0) m
-dimensions-more m rs i h = rw (add-one i) (dimensions-next m rs i h)
-
-pub dimensions-le : (m : ℕ) (rs : List ℕ) (i : ℕ) → dimensions m (take i rs) ≤ dimensions m rs
-dimensions-le m rs zero = omega arith
-dimensions-le m [] (suc i) = omega arith
-dimensions-le m (r ∷ rs) (suc i) = omega (arith, dimensions-le m rs i)
+pub held-length : (m i : ℕ) (rs words : List ℕ) → length (heldMessages m i rs words) ≡ dimensions m rs
+unfolding heldMessages
+held-length m i [] words = refl
+held-length m i (r ∷ rs) words =
+    length-append (heldLevel m i r words) (heldMessages m (suc i) rs words)
+    ∙ ap₂ _+_ (length-table (λ t. digit (getD words i 0) (getD (order m) t 0)) (dimension r m)) (held-length m (suc i) rs words)
 
 -- ---- blocks in a row
 
@@ -57,6 +62,38 @@ dimensions-le m (r ∷ rs) (suc i) = omega (arith, dimensions-le m rs i)
 pub blocks-more : (b j : ℕ) (v : List ℤ) → blockMessages b (j + 1) v ≡ blockMessages b j v ++ allDigits (widths b) (reduced (2 ^ (b - 1)) (part j v))
 unfolding blockMessages
 blocks-more b j v = rw (add-one j)
+
+-- ---- every entry of these rows is 0 or 1
+
+bits-append : (xs ys : List ℕ) → Bits xs → Bits ys → Bits (xs ++ ys)
+bits-append [] ys a b t = b t
+bits-append (x ∷ xs) ys a b zero = a 0
+bits-append (x ∷ xs) ys a b (suc t) = bits-append xs ys (λ t. a (suc t)) b t
+
+bits-table : (n : ℕ) (f : ℕ → ℕ) → ((t : ℕ) → f t < 2) → Bits (table n f)
+bits-table n f h t = go (decLt t n)
+  where
+    go : Dec (t < n) → getD (table n f) t 0 < 2
+    go (yes l) = omega (arith, table-at f n t l, h t)
+    go (no l) = omega (arith, List·getD-eq-default (table n f) 0 {n = t} (omega (arith, length-table f n)))
+
+pub held-bits : (m i : ℕ) (rs words : List ℕ) → Bits (heldMessages m i rs words)
+unfolding heldMessages
+held-bits m i [] words = λ t. omega arith
+held-bits m i (r ∷ rs) words =
+    bits-append (heldLevel m i r words) (heldMessages m (suc i) rs words)
+    (bits-table (dimension r m) _ (λ t. digit-small (getD words i 0) (getD (order m) t 0))) (held-bits m (suc i) rs words)
+
+pub all-bits : (ws ss : List ℕ) → Bits (allDigits ws ss)
+unfolding allDigits digits
+all-bits [] ss = λ t. omega arith
+all-bits (w ∷ ws) [] = λ t. omega arith
+all-bits (w ∷ ws) (s ∷ ss) = bits-append (digits w s) (allDigits ws ss) (bits-table w _ (digit-small s)) (all-bits ws ss)
+
+pub blocks-bits : (b n : ℕ) (v : List ℤ) → Bits (blockMessages b n v)
+unfolding blockMessages
+blocks-bits b zero v = λ t. omega arith
+blocks-bits b (suc n) v = bits-append (blockMessages b n v) _ (blocks-bits b n v) (all-bits (widths b) (reduced (2 ^ (b - 1)) (part n v)))
 
 -- ---- quotients of a part
 

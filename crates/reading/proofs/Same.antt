@@ -71,7 +71,8 @@ module _ (H : ℕ) (pos-H : 0 < H) (n j : ℕ) (f : List ℤ) (long : length f �
       let after : drop 8 g ≡ drop (8 * (j + 1)) f = drop-drop 8 (8 * j) f ∙ ap (λ (m : ℕ). drop m f) d in
       ap (λ (m : ℕ). sameFrame g (leastFrame H m g)) e
       ∙ ap (λ (w : List ℤ). sameFrame w (leastBlock H (take 8 g) ++ leastFrame H (n - (j + 1)) (drop 8 g))) (sym (take-append-drop 8 g))
-      ∙ same-append (take 8 g) (leastBlock H (take 8 g)) (drop 8 g) (leastFrame H (n - (j + 1)) (drop 8 g)) (part-8 ∙ sym (block-size H pos-H (part j f) part-8))
+      ∙ same-append (take 8 g) (leastBlock H (take 8 g)) (drop 8 g) (leastFrame H (n - (j + 1)) (drop 8 g))
+      (part-8 ∙ sym (block-size H pos-H (part j f) part-8))
       ∙ ap (λ (w : List ℤ). (sameFrame (part j f) (leastBlock H (part j f)) && sameFrame w (leastFrame H (n - (j + 1)) w))) after
 
   pub not-least : sameFrame (part j f) (leastBlock H (part j f)) ≡ false → leastFrom H n j f ≡ false
@@ -88,9 +89,3 @@ unfolding leastFrame sameFrame
 least-all H n j f l h =
     let e : n - j ≡ 0 = omega arith in
     rw (e, drop-of-length-le f {i = 8 * j} (omega arith))
-
--- ---- parts of a frame
-
--- the part 8j to 8j + 8 of a frame, as the code hands it on, is block j
-pub part-is : (j : ℕ) (f : List ℤ) → take (8 * j + 8 - 8 * j) (drop (8 * j) f) ≡ part j f
-part-is j f = let e : 8 * j + 8 - 8 * j ≡ 8 = omega arith in ap (λ (m : ℕ). take m (drop (8 * j) f)) e

@@ -1,3 +1,3 @@
+pub mod Words
 pub mod Written
-pub mod Holding
 pub mod Numbers

@@ -1,4 +1,4 @@
--- The number of either reading. The contracts of the function that both are made of cite it; clients need none of it. Assumes nothing.
+-- The number of either reading. Private contracts cite it; clients need none of it. Assumes nothing.
 use Prim.Native.Nat.{ℕ}
 use mathlib.Core.Bool.{Bool, true, false}
 use mathlib.Core.List.{List}

@@ -5,9 +5,11 @@ mod refusal;
 mod strict;
 
 use message::write_message;
-use strict::refusal;
+use refusal::tests;
 ghost use mathlib.Core.Path.{_≡_};
+ghost use Prim.Native.Nat.{_%_, _^_, _≤_};
 ghost use lib.ListN.{length};
+ghost use Rattle.e8.specs.Energy.{energy as energyOf, Within};
 ghost use Rattle.frames.specs.Reading.{openRefusal, strictRefusal, messageAfter, energyRead};
 ghost use Rattle.reading.specs.Numbers.{refusalOf};
 
@@ -17,33 +19,45 @@ pub struct Reading {
     pub energy: u64,
 }
 
+// The energy of a frame, block by block.
+fn frame_energy(frame: &[i32]) -> u64
+    requires { ⌜ (length (now frame) % 8 ≡ 0) × (length (now frame) ≤ 1024) × Within (2 ^ 24) (now frame) ⌝ }
+    ensures { λ r. ⌜ r ≡ energyOf (now (frame .entry)) ⌝ }
+{
+    let n = frame.len() / 8;
+    let mut energy: u64 = 0;
+    let mut j: usize = 0;
+    while j < n {
+        let s = 8 * j;
+        let e = s + 8;
+        energy += coordinates::energy(&frame[s..e]);
+        j += 1;
+    }
+    energy
+}
+
 // A reading; a strict one, where `strict` is set, takes the sent frame alone. A refusal writes nothing.
 fn read(strict: bool, kind: u8, grade: u8, frame: &[i32], message: &mut [u8]) -> Reading
     ensures number { λ r. ⌜ r .number ≡ refusalOf strict kind grade (now (frame .entry)) (length (now (message .entry))) ⌝ }
-    ensures message { λ r. ⌜ now (message .exit) ≡ messageAfter (refusalOf strict kind grade (now (frame .entry)) (length (now (message .entry)))) kind grade (now (frame .entry)) (now (message .entry)) ⌝ }
-    ensures energy { λ r. ⌜ r .energy ≡ energyRead (refusalOf strict kind grade (now (frame .entry)) (length (now (message .entry)))) (now (frame .entry)) ⌝ }
+    ensures message { λ r. ⌜ now (message .exit) ≡ messageAfter (r .number) kind grade (now (frame .entry)) (now (message .entry)) ⌝ }
+    ensures energy { λ r. ⌜ r .energy ≡ energyRead (r .number) (now (frame .entry)) ⌝ }
 {
-    let mut words = [0u64; 2];
-    let number = refusal(strict, kind, grade, frame, message.len(), &mut words);
+    let t = tests(strict, kind, grade, frame, message.len());
+    let number = t.number;
     if number != 0 {
-        return Reading {
-            number: number,
-            energy: 0,
-        };
+        return Reading { number, energy: 0 };
     }
-    write_message(kind, grade, frame, &words, message);
-    let energy = coordinates::energy(frame);
-    Reading {
-        number: 0,
-        energy: energy,
-    }
+    let words = t.words;
+    write_message(kind, grade, frame, words, message);
+    let energy = frame_energy(frame);
+    Reading { number, energy }
 }
 
 // The open reading: the message of any frame of the coding set.
 pub fn read_open(kind: u8, grade: u8, frame: &[i32], message: &mut [u8]) -> Reading
     ensures number { λ r. ⌜ r .number ≡ openRefusal kind grade (now (frame .entry)) (length (now (message .entry))) ⌝ }
-    ensures message { λ r. ⌜ now (message .exit) ≡ messageAfter (openRefusal kind grade (now (frame .entry)) (length (now (message .entry)))) kind grade (now (frame .entry)) (now (message .entry)) ⌝ }
-    ensures energy { λ r. ⌜ r .energy ≡ energyRead (openRefusal kind grade (now (frame .entry)) (length (now (message .entry)))) (now (frame .entry)) ⌝ }
+    ensures message { λ r. ⌜ now (message .exit) ≡ messageAfter (r .number) kind grade (now (frame .entry)) (now (message .entry)) ⌝ }
+    ensures energy { λ r. ⌜ r .energy ≡ energyRead (r .number) (now (frame .entry)) ⌝ }
 {
     read(false, kind, grade, frame, message)
 }
@@ -51,8 +65,8 @@ pub fn read_open(kind: u8, grade: u8, frame: &[i32], message: &mut [u8]) -> Read
 // The strict reading: the message of the sent frame alone.
 pub fn read_strict(kind: u8, grade: u8, frame: &[i32], message: &mut [u8]) -> Reading
     ensures number { λ r. ⌜ r .number ≡ strictRefusal kind grade (now (frame .entry)) (length (now (message .entry))) ⌝ }
-    ensures message { λ r. ⌜ now (message .exit) ≡ messageAfter (strictRefusal kind grade (now (frame .entry)) (length (now (message .entry)))) kind grade (now (frame .entry)) (now (message .entry)) ⌝ }
-    ensures energy { λ r. ⌜ r .energy ≡ energyRead (strictRefusal kind grade (now (frame .entry)) (length (now (message .entry)))) (now (frame .entry)) ⌝ }
+    ensures message { λ r. ⌜ now (message .exit) ≡ messageAfter (r .number) kind grade (now (frame .entry)) (now (message .entry)) ⌝ }
+    ensures energy { λ r. ⌜ r .energy ≡ energyRead (r .number) (now (frame .entry)) ⌝ }
 {
     read(true, kind, grade, frame, message)
 }

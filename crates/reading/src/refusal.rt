@@ -1,52 +1,95 @@
 // The tests of the readings, in document 01's order. A refusal is the number of the first one that is not passed; 0 is success.
 use super::level::level_words;
+use super::strict::is_least;
 ghost use mathlib.Core.Path.{_≡_};
 ghost use mathlib.Core.Bool.{true};
-ghost use mathlib.Core.List.{List};
-ghost use Prim.Native.Nat.{_≤_};
-ghost use lib.IntN.{ℤ};
-ghost use lib.ListN.{length};
-ghost use Rattle.frames.specs.Kind.{isKind, degrees, levels};
-ghost use Rattle.frames.specs.Reading.{broken, openRefusal};
-ghost use Rattle.reading.specs.Holding.{HoldsLevels};
+ghost use Rattle.frames.specs.Kind.{isKind, degrees};
+ghost use Rattle.frames.specs.Reading.{openRefusal};
+ghost use Rattle.reading.specs.Words.{noWords, wordsAfter, brokenIn};
+ghost use Rattle.reading.specs.Numbers.{refusalOf};
 
-// The number of the first level that is not a codeword, 0 where each one is: of any frame whose levels are held.
-pub fn broken_level(kind: u8, words: &[u64]) -> u8
-    requires { ⌜ (isKind kind ≡ true) × (levels kind ≤ length (now words)) ⌝ }
-    ensures { λ r. ⌜ ((f : List ℤ) → HoldsLevels kind f (now (words .entry)) → r ≡ broken kind 0 (degrees kind) f) ⌝ }
+// What the tests give: the number of the first one that is not passed, and where all are the frame's levels, taken backwards.
+pub struct Tested {
+    pub number: u8,
+    pub words: [u64; 3],
+}
+
+// A test that is not passed: its number, and no levels.
+fn refused(number: u8) -> Tested
+    ensures number { λ t. ⌜ t .number ≡ number ⌝ }
+    ensures words { λ t. ⌜ t .words ≡ noWords ⌝ }
 {
+    Tested {
+        number: number,
+        words: [0u64; 3],
+    }
+}
+
+// The number of the first level that is not a codeword, 0 where each one is; the words hold the levels, taken backwards.
+fn broken_level(kind: u8, words: [u64; 3]) -> u8
+    requires { ⌜ isKind kind ≡ true ⌝ }
+    ensures { λ r. ⌜ r ≡ brokenIn kind 0 (degrees kind) words ⌝ }
+{
+    let m = kind as usize;
     let count = kind_table::levels(kind);
     let mut i: usize = 0;
     while i < count {
         let degree = kind_table::degree(kind, i);
         let bits = words[i];
-        if !reed_muller::clear_above(bits, kind as usize, degree) {
-            return 7 + (i as u8);
+        if !reed_muller::clear_above(bits, m, degree) {
+            return kind_table::broken(i);
         }
         i += 1;
     }
     0
 }
 
-// The tests of the open reading; n message bytes are lent. Past them, the words hold the frame's levels.
-pub fn open_refusal(kind: u8, grade: u8, frame: &[i32], n: usize, words: &mut [u64]) -> u8
-    requires { ⌜ 2 ≤ length (now words) ⌝ }
-    ensures number { λ r. ⌜ r ≡ openRefusal kind grade (now (frame .entry)) n ⌝ }
-    ensures words { λ r. ⌜ (r ≡ 0 → HoldsLevels kind (now (frame .entry)) (now (words .exit))) ⌝ }
+// The tests of the open reading; n message bytes are lent.
+fn open_tests(kind: u8, grade: u8, frame: &[i32], n: usize) -> Tested
+    ensures number { λ t. ⌜ t .number ≡ openRefusal kind grade (now (frame .entry)) n ⌝ }
+    ensures words { λ t. ⌜ t .words ≡ wordsAfter (t .number) kind (now (frame .entry)) ⌝ }
 {
     let no = kind_table::refusal(kind, grade);
     if no != 0 {
-        return no;
+        return refused(no);
     }
     if frame.len() != kind_table::positions(kind) {
-        return 4;
+        return refused(4);
     }
     if n != kind_table::message_bytes(kind, grade as usize) {
-        return 3;
+        return refused(3);
     }
     if !coordinates::within(frame, 1048576) {
-        return 6;
+        return refused(6);
     }
-    level_words(kind, frame, words);
-    broken_level(kind, words)
+    let words = level_words(kind, frame);
+    let broken = broken_level(kind, words);
+    if broken != 0 {
+        return refused(broken);
+    }
+    Tested {
+        number: broken,
+        words: words,
+    }
+}
+
+// The tests of a reading, of the strict one where `strict` is set; n message bytes are lent.
+pub fn tests(strict: bool, kind: u8, grade: u8, frame: &[i32], n: usize) -> Tested
+    ensures number { λ t. ⌜ t .number ≡ refusalOf strict kind grade (now (frame .entry)) n ⌝ }
+    ensures words { λ t. ⌜ t .words ≡ wordsAfter (t .number) kind (now (frame .entry)) ⌝ }
+{
+    let t = open_tests(kind, grade, frame, n);
+    let number = t.number;
+    if number != 0 {
+        return refused(number);
+    }
+    if !strict {
+        return t;
+    }
+    let k = kind_table::levels(kind) + (grade as usize) - 1;
+    if is_least(k as u32, frame) {
+        t
+    } else {
+        refused(9)
+    }
 }

@@ -1,13 +1,10 @@
-// The tests of either reading. The further one of the strict reading: a frame is the one that is sent where each block is the least member of its class.
-use super::refusal::open_refusal;
+// The further test of the strict reading: a frame is the one that is sent where each block is the least member of its class.
 ghost use mathlib.Core.Path.{_≡_};
 ghost use Prim.Native.Nat.{_*_, _/_, _^_, _≤_};
 ghost use lib.ListN.{length};
 ghost use Rattle.e8.specs.Energy.{Within};
 ghost use Rattle.e8.specs.Least.{leastFrame};
 ghost use Rattle.frames.specs.Reading.{sameFrame};
-ghost use Rattle.reading.specs.Holding.{HoldsLevels};
-ghost use Rattle.reading.specs.Numbers.{refusalOf};
 
 // Whether two blocks are the same.
 pub fn same_block(x: [i32; 8], y: [i32; 8]) -> bool
@@ -42,21 +39,4 @@ pub fn is_least(k: u32, frame: &[i32]) -> bool
         j += 1;
     }
     true
-}
-
-// The tests of a reading, of the strict one where `strict` is set; n message bytes are lent. Past them, the words hold the frame's levels.
-pub fn refusal(strict: bool, kind: u8, grade: u8, frame: &[i32], n: usize, words: &mut [u64]) -> u8
-    requires { ⌜ 2 ≤ length (now words) ⌝ }
-    ensures number { λ r. ⌜ r ≡ refusalOf strict kind grade (now (frame .entry)) n ⌝ }
-    ensures words { λ r. ⌜ (r ≡ 0 → HoldsLevels kind (now (frame .entry)) (now (words .exit))) ⌝ }
-{
-    let number = open_refusal(kind, grade, frame, n, words);
-    if number != 0 {
-        return number;
-    }
-    if !strict {
-        return 0;
-    }
-    let k = kind_table::levels(kind) + (grade as usize) - 1;
-    if is_least(k as u32, frame) { 0 } else { 9 }
 }

@@ -1,20 +1,22 @@
 -- `eight`: the number has the bits of the coordinates from p on. Assumes nothing.
 use Prim.Native.Nat.{ℕ, _+_, _*_, _-_, _^_, _≤_, _<_}
-use mathlib.Core.Path.{_≡_, refl, sym, ap, subst, _∙_}
+use mathlib.Core.Path.{_≡_, refl, sym, ap, _∙_}
 use native.Mathlib.Omega.{arith}
 use lib.IntN.{pos}
 use lib.ListN.{getD}
-use lib.Pow.{pow-pos, pow-mono}
+use lib.Pow.{pow-mono}
 use borrow.Author.Needs.{needs}
 use Rattle.integers.proofs.Zed.{tz}
-use Rattle.bits.proofs.Digits.{digit, digits-more, digits-fit}
+use Rattle.bits.specs.Number.{sumTo, number}
+use Rattle.bits.proofs.Message.{number-lt, number-ext}
 use Rattle.frames.specs.Frame.{weightBit, levelWord}
+use Rattle.reading.proofs.Joined.{number-from, number-one}
 use Rattle.reading.proofs.Words.{weight-bit-small}
 use Rattle.reading.proofs.level.eight.Statement.{statement}
 use Rattle.reading.proofs.level.eight.Tie as tie
 
 abbrev Inv-loop : tie.InvT-loop
-Inv-loop part i word₀ p₀ word p = (p ≤ 8) × (word < 2 ^ (8 - p)) × ((q : ℕ) → p + q < 8 → digit word q ≡ levelWord i part (p + q))
+Inv-loop part i word₀ p₀ word p = (p ≤ 8) × (word ≡ number (8 - p) (λ q. levelWord i part (p + q)))
 
 abbrev μ-loop : tie.MeasureT-loop
 μ-loop part i word₀ p₀ word p = p
@@ -23,7 +25,26 @@ abbrev μ-loop : tie.MeasureT-loop
 module _ (c : tie.In-loop Inv-loop μ-loop) where
   -- the number has room for one bit more
   half : c .before .loop .word < 2 ^ 8
-  half = let l = c .before .loop in omega (arith, l .inv .1, pow-mono {i = 8 - l .p} {j = 8} (omega arith))
+  half =
+      let l = c .before .loop in
+      let a = c .before .before .args in
+      omega (
+        arith,
+        l .inv .1,
+        number-lt (λ q. levelWord (a .i) (a .part .now) (l .p + q)) (8 - l .p) (λ q h. weight-bit-small (a .i) _),
+        pow-mono {i = 8 - l .p} {j = 8} (omega arith),
+      )
+
+-- one bit more, below those from p on
+module _ (f : ℕ → ℕ) (p word bit : ℕ) where
+  more : 0 < p → p ≤ 8 → bit ≡ f (p - 1) → word ≡ number (8 - p) (λ q. f (p + q)) → 2 * word + bit ≡ number (8 - (p - 1)) (λ q. f (p - 1 + q))
+  more h l b e =
+      let u : 1 + (8 - p) ≡ 8 - (p - 1) = omega arith in
+      let d : p ≡ 1 + (p - 1) = omega arith in
+      let z : p - 1 ≡ p - 1 + 0 = omega arith in
+      ap (λ (x : ℕ). 2 * word + x) (b ∙ ap f z ∙ sym (number-one (λ q. f (p - 1 + q))))
+      ∙ number-from f 1 (8 - p) (p - 1) word (e ∙ ap (λ (x : ℕ). number (8 - p) (λ q. f (x + q))) d)
+      ∙ ap (λ (n : ℕ). number n (λ q. f (p - 1 + q))) u
 
 -- the bit read
 module _ (c : tie.After-weight-bit Inv-loop μ-loop) where
@@ -43,7 +64,8 @@ module _ (c : tie.After-weight-bit Inv-loop μ-loop) where
   small = weight-bit-small (s .args .i) (getD (s .args .part .now) at (pos 0))
 
 loop-holds : tie.Need-loop-holds Inv-loop μ-loop
-loop-holds c = (omega arith, pow-pos 0, λ q l. absurd (omega (arith, l)))
+unfolding sumTo
+loop-holds c = (omega arith, refl)
 
 sub-p : tie.Need-sub-p Inv-loop μ-loop
 sub-p c = search needs
@@ -72,22 +94,15 @@ loop-less c = omega arith
 loop-again : tie.Need-loop-again Inv-loop μ-loop
 loop-again c =
     let l = c .before .before .before .loop in
-    let more : 2 * l .word + f c (l .p - 1) ≡ 2 * l .word + c .weight-bit .result = ap (λ (x : ℕ). 2 * l .word + x) (sym (is c)) in (
-      omega arith,
-      subst (λ (w : ℕ). w < 2 ^ (8 - (l .p - 1))) more (digits-fit (f c) 8 (l .p) (l .word) (omega arith) (small c) (l .inv .0) (l .inv .1)),
-      subst (λ (w : ℕ). (q : ℕ) → l .p - 1 + q < 8 → digit w q ≡ f c (l .p - 1 + q)) more (digits-more (f c) 8 (l .p) (l .word) (omega arith) (small c) (l .inv .2)),
-    )
+    (omega arith, more (f c) (l .p) (l .word) (c .weight-bit .result) (omega arith) (l .inv .0) (is c) (l .inv .1))
 
 returns : tie.Need-returns Inv-loop μ-loop
 returns c =
     let l = c .before .loop in
-    let args = c .before .before .args in
-    let e : l .p ≡ 0 = omega arith in (
-      subst (λ (p : ℕ). l .word < 2 ^ (8 - p)) e (l .inv .1),
-      λ q h.
-          let z : l .p + q ≡ q = omega arith in
-          l .inv .2 q (omega (arith, h)) ∙ ap (levelWord (args .i) (args .part .now)) z,
-    )
+    let e : l .p ≡ 0 = omega arith in
+    let a = c .before .before .args in
+    l .inv .1 ∙ ap (λ (p : ℕ). number (8 - p) (λ q. levelWord (a .i) (a .part .now) (p + q))) e
+    ∙ number-ext 8 (λ q h. let z : 0 + q ≡ q = omega arith in ap (levelWord (a .i) (a .part .now)) z)
 
 pub eight-spec : {M : Type 1} → statement M
 eight-spec =

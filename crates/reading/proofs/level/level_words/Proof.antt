@@ -1,30 +1,39 @@
--- `level_words`: the levels below i are held. Assumes nothing.
-use Prim.Native.Nat.{ℕ, _-_, _*_, _/_, _≤_, _<_}
-use mathlib.Core.Path.{_≡_, refl, sym, ap, _∙_}
+-- `level_words`: the levels below i are held, and 0 stands for the others. Assumes nothing.
+use Prim.Native.Nat.{ℕ, _-_, _*_, _/_, _^_, _≤_, _<_}
+use mathlib.Core.Path.{_≡_, sym, ap, ap₂, _∙_}
 use mathlib.Core.List.{List}
 use native.Mathlib.Omega.{arith}
 use lib.IntN.{ℤ}
-use lib.ListN.{length, length-set}
+use lib.ListN.{length, set}
 use borrow.Author.Needs.{needs}
+use Rattle.bits.specs.Number.{table, number}
+use Rattle.bits.proofs.Table.{filled, filled-none, filled-more}
+use Rattle.reed_muller.specs.Level.{backwards}
 use Rattle.frames.specs.Kind.{levels}
-use Rattle.frames.proofs.Rows.{shape}
-use Rattle.frames.proofs.Bounds.{few-levels}
-use Rattle.kind_table.proofs.Each.{size}
-use Rattle.reading.specs.Holding.{Backwards}
-use Rattle.reading.proofs.Words.{backwards-more, word-backwards}
+use Rattle.frames.specs.Frame.{levelWord}
+use Rattle.frames.proofs.Limits.{few-levels, few-positions, kind-high, whole-blocks}
+use Rattle.reading.specs.Words.{backwardWords}
+use Rattle.reading.proofs.Words.{word-backwards}
 use Rattle.reading.proofs.level.level_words.Statement.{statement}
 use Rattle.reading.proofs.level.level_words.Tie as tie
 
+-- level i, backwards
+abbrev back : ℕ → List ℤ → ℕ → ℕ
+back k f i = number (2 ^ k) (backwards k (levelWord i f))
+
 abbrev Inv-loop : tie.InvT-loop
-Inv-loop kind frame words₀ count i₀ words i = (i ≤ count) × (length words ≡ length words₀) × Backwards kind frame words i
+Inv-loop kind frame m count words₀ i₀ words i = (i ≤ count) × (words ≡ filled 3 (back kind frame) i)
 
 abbrev μ-loop : tie.MeasureT-loop
-μ-loop kind frame words₀ count i₀ words i = count - i
+μ-loop kind frame m count words₀ i₀ words i = count - i
 
 -- a turn of the loop
 module _ (c : tie.In-loop Inv-loop μ-loop) where
+  abbrev called : tie.After-levels Inv-loop μ-loop
+  called = c .before .before
+
   abbrev s : tie.Start Inv-loop μ-loop
-  s = c .before .before .before .before
+  s = called .before
 
   abbrev k : ℕ
   k = s .args .kind
@@ -36,35 +45,33 @@ module _ (c : tie.In-loop Inv-loop μ-loop) where
   i = c .before .loop .i
 
   inside : i < levels k
-  inside = omega (arith, c .before .before .levels .ensures)
-
-  room : i < length (c .before .loop .words)
-  room = omega (arith, inside, c .before .loop .inv .1, s .pre .2)
+  inside = omega (arith, called .levels .ensures)
 
   whole : 8 * (length f / 8) ≡ length f
-  whole = ap (λ (n : ℕ). 8 * (n / 8)) (s .pre .1) ∙ shape k (s .pre .0) .whole ∙ sym (s .pre .1)
+  whole = ap (λ (n : ℕ). 8 * (n / 8)) (s .pre .1) ∙ whole-blocks k (s .pre .0) ∙ sym (s .pre .1)
 
 levels-requires : tie.Need-levels-requires Inv-loop μ-loop
 levels-requires c κs = search needs
 
 loop-holds : tie.Need-loop-holds Inv-loop μ-loop
-loop-holds c = (search needs, refl, λ t l S h. absurd (omega (arith, l)))
+unfolding table
+loop-holds c = (omega arith, sym (filled-none 3 (back (c .before .args .kind) (c .before .args .frame .now))))
 
 level-word-requires : tie.Need-level-word-requires Inv-loop μ-loop
 level-word-requires c κs = (
   whole c,
-  omega (arith, s c .pre .1, size (k c) (s c .pre .0) .positions),
+  omega (arith, s c .pre .1, few-positions (k c) (s c .pre .0)),
   omega (arith, inside c, few-levels (k c) (s c .pre .0)),
 )
 
 transformed-requires : tie.Need-transformed-requires Inv-loop μ-loop
-transformed-requires c κs = search needs
+transformed-requires c κs = let t = c .before in omega (arith, kind-high (k t) (s t .pre .0))
 
 mul-words : tie.Need-mul-words Inv-loop μ-loop
-mul-words c = search needs
+mul-words c = let t = c .before .before in record { fits = omega (arith, inside t, few-levels (k t) (s t .pre .0)) }
 
-slice-write-words : tie.Need-slice-write-words Inv-loop μ-loop
-slice-write-words c = room (c .before .before)
+array-write-words : tie.Need-array-write-words Inv-loop μ-loop
+array-write-words c = let t = c .before .before in omega (arith, inside t, few-levels (k t) (s t .pre .0))
 
 add-i : tie.Need-add-i Inv-loop μ-loop
 add-i c = search needs
@@ -78,23 +85,19 @@ loop-again c =
     let t = w .before in
     let l = t .before .loop in (
       omega arith,
-      length-set (l .words) (i t) (c .transformed .result) ∙ l .inv .1,
-      backwards-more (k t) (f t) (l .words) (i t) (c .transformed .result) (room t) (l .inv .2) (λ S h.
-          c .transformed .ensures (k t) S (omega (arith, size (k t) (s t .pre .0) .high)) h
-          ∙ word-backwards (k t) (length (f t)) (i t) (f t) (w .level-word .result) (s t .pre .1) (w .level-word .ensures) S),
+      ap₂ (λ (ws : List ℕ) (x : ℕ). set ws (i t) x) (l .inv .1)
+          (c .transformed .ensures ∙ word-backwards (k t) (length (f t)) (i t) (f t) (w .level-word .result) (s t .pre .1) (w .level-word .ensures))
+          ∙ filled-more 3 (back (k t) (f t)) (i t) (omega (arith, inside t, few-levels (k t) (s t .pre .0))),
     )
 
-same-length : tie.Need-same-length Inv-loop μ-loop
-same-length c = c .before .loop .inv .1
-
 returns : tie.Need-returns Inv-loop μ-loop
+unfolding backwardWords
 returns c =
     let l = c .before .loop in
-    let e = c .before .before .levels .ensures in
-    record {
-      room = omega (arith, l .inv .1, c .before .before .before .before .pre .2);
-      bits = λ i h. l .inv .2 i (omega (arith, e, h));
-    }
+    let called = c .before .before in
+    let a = called .before .args in
+    let e : l .i ≡ levels (a .kind) = omega (arith, called .levels .ensures) in
+    l .inv .1 ∙ ap (filled 3 (back (a .kind) (a .frame .now))) e
 
 pub level-words-spec : {M : Type 1} → statement M
 level-words-spec =
@@ -107,9 +110,8 @@ level-words-spec =
     level-word-requires
     transformed-requires
     mul-words
-    slice-write-words
+    array-write-words
     add-i
     loop-less
     loop-again
-    same-length
     returns)

@@ -46,7 +46,9 @@ shr-q : tie.Need-shr-q
 shr-q c = search needs
 
 mul-result : tie.Need-mul-result
-mul-result c = sfits-to (twice (c .args .z) (2 ^ c .args .i) (c .fits .z)) (fits-twice (shrZ (c .args .z) (2 ^ c .args .i)) (fits-quotient (2 ^ c .args .i) (c .fits .z)))
+mul-result c =
+    sfits-to (twice (c .args .z) (2 ^ c .args .i) (c .fits .z))
+    (fits-twice (shrZ (c .args .z) (2 ^ c .args .i)) (fits-quotient (2 ^ c .args .i) (c .fits .z)))
 
 sub-result : tie.Need-sub-result
 sub-result c = sfits-to (rest (c .args .z) (2 ^ c .args .i) (c .fits .z)) (fits-bit (shrZ (c .args .z) (2 ^ c .args .i)))

@@ -1,10 +1,8 @@
 -- `packed`: the numbers from i on are packed. Assumes nothing.
 use Prim.Native.Nat.{ℕ, suc, _+_, _*_, _-_, _%_, _^_, _≤_, _<_}
 use mathlib.Core.Path.{_≡_, refl, sym, ap, ap₂, subst, _∙_}
-use mathlib.Core.List.{List, _++_}
-use native.Mathlib.Nat.{mod-eq-of-lt}
+use mathlib.Core.List.{List, _++_, map}
 use native.Mathlib.Omega.{arith}
-use lib.Bits.{bitXor}
 use lib.Dec.{T}
 use lib.IntN.{ℤ, pos, natAbs}
 use lib.ListN.{length, getD, drop}
@@ -15,26 +13,35 @@ use mir.Val.{Fits, toZ, ofZ}
 use mir.Facts.{fits-natAbs}
 use borrow.Author.Needs.{needs}
 use Rattle.integers.proofs.Zed.{tz}
-use Rattle.bits.proofs.Digits.{digit}
-use Rattle.e8.specs.Rows.{ints}
-use Rattle.e8.proofs.Rows.{ints-length}
+use Rattle.bits.specs.Number.{sumTo, number}
+use Rattle.bits.proofs.Message.{number-lt}
+use Rattle.bits.proofs.Digits.{one-shifted}
 use Rattle.frames.specs.Message.{widths}
 use Rattle.frames.specs.Reading.{digits, allDigits}
 use Rattle.frames.proofs.Numbers.{total, total-widths}
-use Rattle.frames.proofs.Frame.{ints-at}
-use Rattle.reading.proofs.Packed.{pack-more, all-from, total-from, total-drop}
+use Rattle.reading.proofs.Joined.{pack-more, all-from, total-from, total-drop, moved-up, sizes-at, sizes-length}
+use Rattle.reading.proofs.Rows.{all-bits}
 use Rattle.reading.proofs.message.packed.Statement.{statement}
 use Rattle.reading.proofs.message.packed.Tie as tie
 
+-- the bits of the numbers from i on, and these bits as a number
+abbrev rowFrom : ℕ → List ℤ → ℕ → List ℕ
+rowFrom b s i = allDigits (drop i (widths b)) (drop i (map natAbs s))
+
+abbrev packedFrom : ℕ → List ℤ → ℕ → ℕ
+packedFrom b s i = number (total (drop i (widths b))) (λ t. getD (rowFrom b s i) t 0)
+
 abbrev Inv-loop : tie.InvT-loop
-Inv-loop grade s bits₀ i₀ bits i =
-    (i ≤ 8) × ((ss : List ℕ) → s ≡ ints ss → (t : ℕ) → t < total (drop i (widths grade)) → digit bits t ≡ getD (allDigits (drop i (widths grade)) (drop i ss)) t 0)
+Inv-loop grade s bits₀ i₀ bits i = (i ≤ 8) × (bits ≡ packedFrom grade s i)
 
 abbrev μ-loop : tie.MeasureT-loop
 μ-loop grade s bits₀ i₀ bits i = i
 
 eight : (c : tie.Start Inv-loop μ-loop) → length (c .args .t1) ≡ 8
 eight c = search needs
+
+packed-lt : (b : ℕ) (s : List ℤ) (i : ℕ) → packedFrom b s i < 2 ^ total (drop i (widths b))
+packed-lt b s i = number-lt (λ t. getD (rowFrom b s i) t 0) (total (drop i (widths b))) (λ t l. all-bits (drop i (widths b)) (drop i (map natAbs s)) t)
 
 -- number i as the code reads it
 abbrev back : ℤ → ℤ
@@ -54,44 +61,54 @@ module _ (c : tie.After-z Inv-loop μ-loop) where
   abbrev b : ℕ
   b = start .args .grade
 
+  abbrev s : List ℤ
+  s = start .args .t1
+
   abbrev i : ℕ
   i = l .loop .i - 1
 
   abbrev z : ℤ
-  z = getD (start .args .t1) i (pos 0)
+  z = getD s i (pos 0)
 
   abbrev w : ℕ
   w = turn .width .result
+
+  -- the bits of the numbers after number i
+  abbrev n : ℕ
+  n = total (drop (l .loop .i) (widths b))
+
+  up : suc i ≡ l .loop .i
+  up = omega arith
 
   read : back z ≡ z
   read = tz refl (record { sfits = c .z .given })
 
   -- the numbers from i on have their place
-  from-i : total (drop i (widths b)) ≡ w + total (drop (l .loop .i) (widths b))
-  from-i =
-      let e : suc i ≡ l .loop .i = omega arith in
-      total-from (widths b) i (omega arith) ∙ ap₂ _+_ (sym (turn .width .ensures)) (ap (λ (n : ℕ). total (drop n (widths b))) e)
+  from-i : w + n ≡ total (drop i (widths b))
+  from-i = sym (total-from (widths b) i (omega arith) ∙ ap₂ _+_ (sym (turn .width .ensures)) (ap (λ (m : ℕ). total (drop m (widths b))) up))
 
-  below : w + total (drop (l .loop .i) (widths b)) ≤ 32
+  below : w + n ≤ 32
   below = omega (arith, from-i, total-drop (widths b) i, total-widths b (start .pre .0), start .pre .1)
 
   power : 1 * 2 ^ w % 2 ^ 64 ≡ 2 ^ w
-  power = let e : 1 * 2 ^ w ≡ 2 ^ w = omega arith in ap (λ (x : ℕ). x % 2 ^ 64) e ∙ mod-eq-of-lt (omega (arith, pow-mono {i = w} {j = 32} (omega (arith, below))))
+  power = one-shifted w 64 (omega (arith, below))
 
-  more : (ss : List ℕ) → start .args .t1 ≡ ints ss → (t : ℕ) → t < total (drop i (widths b))
-      → digit (bitXor (l .loop .bits * 2 ^ w % 2 ^ 64) (natAbs (back z) % (1 * 2 ^ w % 2 ^ 64))) t ≡ getD (allDigits (drop i (widths b)) (drop i ss)) t 0
-  more ss e t h =
-      let up : suc i ≡ l .loop .i = omega arith in
-      let long : length ss ≡ 8 = sym (ints-length ss) ∙ sym (ap length e) ∙ eight start in
-      let value : natAbs (back z) ≡ getD ss i 0 = ap natAbs (read ∙ ap (λ (x : List ℤ). getD x i (pos 0)) e ∙ ints-at ss i) in
-      let row : List ℕ = allDigits (drop (l .loop .i) (widths b)) (drop (l .loop .i) ss) in
-      ap₂ (λ (s m : ℕ). digit (bitXor (l .loop .bits * 2 ^ w % 2 ^ 64) (s % m)) t) value power
-      ∙ pack-more 64 w (total (drop (l .loop .i) (widths b))) (l .loop .bits) (getD ss i 0) row (omega (arith, below)) (l .loop .inv .1 ss e) t (omega (arith, from-i))
-      ∙ sym (ap (λ (x : List ℕ). getD x t 0) (all-from (widths b) ss i (omega arith) (omega (arith, long))
-      ∙ ap₂ (λ (v : ℕ) (x : List ℕ). digits v (getD ss i 0) ++ x) (sym (turn .width .ensures)) (ap (λ (n : ℕ). allDigits (drop n (widths b)) (drop n ss)) up)))
+  row-i : digits w (getD (map natAbs s) i 0) ++ rowFrom b s (l .loop .i) ≡ rowFrom b s i
+  row-i = sym (all-from (widths b) (map natAbs s) i (omega arith) (omega (arith, sizes-length s, eight start))
+      ∙ ap₂ (λ (v : ℕ) (x : List ℕ). digits v (getD (map natAbs s) i 0) ++ x) (sym (turn .width .ensures)) (ap (rowFrom b s) up))
+
+  -- number i below those after it
+  more : l .loop .bits * 2 ^ w % 2 ^ 64 + natAbs (back z) % (1 * 2 ^ w % 2 ^ 64) ≡ packedFrom b s i
+  more =
+      ap₂ _+_ (moved-up (l .loop .bits) w n 64 (omega (arith, l .loop .inv .1, packed-lt b s (l .loop .i))) (omega (arith, below)))
+      (ap₂ (λ (x m : ℕ). x % m) (ap natAbs read ∙ sizes-at s i) power)
+      ∙ ap (λ (x : ℕ). 2 ^ w * x + getD (map natAbs s) i 0 % 2 ^ w) (l .loop .inv .1)
+      ∙ pack-more w n (getD (map natAbs s) i 0) (rowFrom b s (l .loop .i))
+      ∙ ap₂ (λ (m : ℕ) (row : List ℕ). number m (λ t. getD row t 0)) from-i row-i
 
 loop-holds : tie.Need-loop-holds Inv-loop μ-loop
-loop-holds c = (omega arith, λ ss e t h. absurd (omega (arith, h)))
+unfolding sumTo
+loop-holds c = (omega arith, refl)
 
 sub-i : tie.Need-sub-i Inv-loop μ-loop
 sub-i c = search needs
@@ -109,13 +126,21 @@ shl-bits : tie.Need-shl-bits Inv-loop μ-loop
 shl-bits c = omega (arith, below c)
 
 cast-bits : tie.Need-cast-bits Inv-loop μ-loop
-cast-bits c = subst (λ (y : ℤ). T (nonNeg y) × Fits w64 (natAbs y)) (sym (read c)) (start c .pre .2 (i c), fits-natAbs {w = w32} {z = z c} tt (record { sfits = c .z .given }))
+cast-bits c =
+    subst (λ (y : ℤ). T (nonNeg y) × Fits w64 (natAbs y)) (sym (read c))
+    (start c .pre .2 (i c), fits-natAbs {w = w32} {z = z c} tt (record { sfits = c .z .given }))
 
 shl-bits-2 : tie.Need-shl-bits-2 Inv-loop μ-loop
 shl-bits-2 c = omega (arith, below c)
 
 rem-bits : tie.Need-rem-bits Inv-loop μ-loop
 rem-bits c = omega (arith, power c, pow-pos (w c))
+
+add-bits : tie.Need-add-bits Inv-loop μ-loop
+add-bits c =
+    let few = pow-mono {j = 32} (subst (λ (m : ℕ). m ≤ 32) (from-i c) (below c)) in
+    let small : packedFrom (b c) (s c) (i c) < 2 ^ 32 = omega (arith, packed-lt (b c) (s c) (i c), few) in
+    record { fits = omega (arith, more c, small) }
 
 loop-less : tie.Need-loop-less Inv-loop μ-loop
 loop-less c = search needs
@@ -126,10 +151,10 @@ loop-again c = (omega arith, more c)
 returns : tie.Need-returns Inv-loop μ-loop
 returns c =
     let l = c .before .loop in
+    let a = c .before .before .args in
     let e : l .i ≡ 0 = omega arith in
-    let b : ℕ = c .before .before .args .grade in
-    λ ss h t k. l .inv .1 ss h t (omega (arith, ap (λ (n : ℕ). total (drop n (widths b))) e, total-widths b (c .before .before .pre .0)))
-    ∙ ap (λ (n : ℕ). getD (allDigits (drop n (widths b)) (drop n ss)) t 0) e
+    l .inv .1 ∙ ap (packedFrom (a .grade) (a .t1)) e
+    ∙ ap (λ (m : ℕ). number m (λ t. getD (allDigits (widths (a .grade)) (map natAbs (a .t1))) t 0)) (total-widths (a .grade) (c .before .before .pre .0))
 
 pub packed-spec : {M : Type 1} → statement M
 packed-spec =
@@ -146,6 +171,7 @@ packed-spec =
     cast-bits
     shl-bits-2
     rem-bits
+    add-bits
     loop-less
     loop-again
     returns)

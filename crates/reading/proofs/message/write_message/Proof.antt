@@ -1,12 +1,18 @@
 -- `write_message`: the last byte cleared, then the levels, then the blocks. Assumes nothing.
 use Prim.Native.Nat.{ℕ, _-_, _^_, _≤_}
-use mathlib.Core.Path.{_∙_}
+use mathlib.Core.Path.{_≡_, ap, _∙_}
 use mathlib.Core.List.{List}
 use native.Mathlib.Omega.{arith}
-use lib.ListN.{length, length-set}
+use lib.ListN.{length, set, length-set}
 use Rattle.e8.proofs.Within.{within-to}
-use Rattle.frames.proofs.Rows.{bytes-hold, levels-hold, grade-low, grade-high}
+use Rattle.frames.specs.Kind.{degrees, levels, blocks, levelBits}
+use Rattle.frames.specs.Reading.{quotients, blockMessages}
+use Rattle.frames.proofs.Rows.{grade-low, grade-high}
+use Rattle.frames.proofs.Limits.{bytes-hold, levels-hold}
 use Rattle.frames.proofs.Refusals.{range-within}
+use Rattle.reading.specs.Words.{heldMessages}
+use Rattle.reading.specs.Written.{written}
+use Rattle.reading.proofs.Writing.{written-length}
 use Rattle.reading.proofs.Pieces.{some-byte, message-written}
 use Rattle.reading.proofs.message.write_message.Statement.{statement}
 use Rattle.reading.proofs.message.write_message.Tie as tie
@@ -19,47 +25,65 @@ module _ (c : tie.Start) where
   low = grade-low (c .args .grade) (c .pre .1)
 
   some : 1 ≤ length out
-  some = omega (arith, c .pre .5, some-byte (c .args .kind) (c .args .grade) (c .pre .0) low (c .args .frame .now) (c .pre .2))
+  some = omega (arith, c .pre .4, some-byte (c .args .kind) (c .args .grade) (c .pre .0) low)
+
+  -- the bits of the levels, and the bytes with the last one cleared
+  abbrev levelRow : List ℕ
+  levelRow = heldMessages (c .args .kind) 0 (degrees (c .args .kind)) (c .args .words)
+
+  abbrev clear : List ℕ
+  clear = set out (length out - 1) 0
+
+  after-levels : length (written 0 levelRow clear) ≡ length out
+  after-levels = written-length 0 levelRow clear ∙ length-set out (length out - 1) 0
 
 sub-last : tie.Need-sub-last
-sub-last c = some (c .before .before)
+sub-last c = some (c .before)
 
 slice-write-out : tie.Need-slice-write-out
-slice-write-out c = let s = c .before .before in omega (arith, some s)
+slice-write-out c = omega (arith, some (c .before))
 
 write-levels-requires : tie.Need-write-levels-requires
 write-levels-requires c κs =
-    let s = c .before .before .before in
-    (s .pre .0, s .pre .4 .room, simp length-set (omega (arith, s .pre .5, levels-hold (s .args .kind) (s .args .grade))))
+    let s = c .before .before in
+    (s .pre .0, simp length-set (omega (arith, s .pre .4, levels-hold (s .args .kind) (s .args .grade))))
 
 write-blocks-requires : tie.Need-write-blocks-requires
 write-blocks-requires c κs =
     let w = c .before .before .before in
-    let s = w .before .before .before .before in
+    let s = w .before .before .before in
     let f = s .args .frame .now in (
       s .pre .0,
       low s,
       grade-high (s .args .grade) (s .pre .1),
       s .pre .2,
       within-to 1048576 (2 ^ 24) f (omega arith) (range-within f (s .pre .3)),
-      omega (arith, simp length-set at (w .write-levels .ensures f (s .pre .4) .long), s .pre .5, bytes-hold (s .args .kind) (s .args .grade)),
+      omega (arith, ap length (w .write-levels .ensures), after-levels s, s .pre .4, bytes-hold (s .args .kind) (s .args .grade)),
     )
+
+module _ (c : tie.After-slice-known3) where
+  abbrev v : tie.After-write-blocks
+  v = c .before .before
+
+  abbrev w : tie.After-write-levels
+  w = v .before .before .before .before
+
+  abbrev s : tie.Start
+  s = w .before .before .before
+
+  abbrev blockBits : List ℕ
+  blockBits = blockMessages (s .args .grade) (blocks (s .args .kind)) (quotients (levels (s .args .kind)) (s .args .frame .now))
 
 same-length : tie.Need-same-length
 same-length c =
-    let v = c .before .before in
-    let w = v .before .before .before .before in
-    let s = w .before .before .before .before in
-    v .write-blocks .ensures .long ∙ simp length-set at (w .write-levels .ensures (s .args .frame .now) (s .pre .4) .long)
+    ap length (v c .write-blocks .ensures) ∙ written-length (levelBits (s c .args .kind)) (blockBits c) _
+    ∙ ap length (w c .write-levels .ensures) ∙ after-levels (s c)
 
 returns : tie.Need-returns
 returns c =
-    let v = c .before .before in
-    let w = v .before .before .before .before in
-    let s = w .before .before .before .before in
-    let f = s .args .frame .now in
-    message-written (s .args .kind) (s .args .grade) (s .pre .0) (low s) f (s .pre .2) (out s) (w .write-levels .last .1 .1 .0) (v .write-blocks .last .1 .1 .1 .0) (s .pre .5)
-    (λ j. c .slice-known3 .given j .fits) (w .write-levels .ensures f (s .pre .4)) (v .write-blocks .ensures)
+    let a = s c .args in
+    v c .write-blocks .ensures ∙ ap (written (levelBits (a .kind)) (blockBits c)) (w c .write-levels .ensures)
+    ∙ message-written (a .kind) (a .grade) (s c .pre .0) (low (s c)) (a .frame .now) (s c .pre .2) (a .words) (out (s c)) (s c .pre .4)
 
 pub write-message-spec : {M : Type 1} → statement M
 write-message-spec =

@@ -1,33 +1,31 @@
--- `refusal`: past the tests of the open reading, a strict reading takes the least member of a class or refuses by 9. Assumes nothing.
+-- `tests`: past the tests of the open reading, a strict reading takes the least member of a class or refuses by 9. Assumes nothing.
 use Prim.Native.Nat.{ℕ, _+_, _*_, _-_, _/_, _^_, _≤_}
-use mathlib.Core.Path.{_≡_, refl, sym, ap, ap₂, _∙_}
+use mathlib.Core.Path.{_≡_, sym, ap, ap₂, _∙_}
 use mathlib.Core.Bool.{Bool, true, false}
 use mathlib.Core.List.{List}
 use native.Mathlib.Omega.{arith}
 use lib.IntN.{ℤ}
 use lib.ListN.{length}
+use borrow.Author.Needs.{needs}
+use borrow.Author.Tests.{not-true, not-false}
 use Rattle.e8.specs.Least.{leastFrame}
 use Rattle.e8.proofs.Within.{within-to}
 use Rattle.frames.specs.Kind.{levels, blocks}
 use Rattle.frames.specs.Frame.{half}
 use Rattle.frames.specs.Sending.{unless}
 use Rattle.frames.specs.Reading.{sameFrame, openRefusal}
-use Rattle.frames.proofs.Rows.{shape, grade-low, grade-high}
+use Rattle.frames.proofs.Rows.{grade-low, grade-high}
+use Rattle.frames.proofs.Limits.{few-levels, whole-blocks}
 use Rattle.frames.proofs.Refusals.{range-within, Accepted, accepted}
-use Rattle.frames.proofs.Bounds.{few-levels}
-use Rattle.frames.proofs.Reading.{strict-by-least, strict-as-open}
-use borrow.Author.Needs.{needs}
-use borrow.Author.Tests.{not-true, not-false}
+use Rattle.frames.proofs.Reading.{strict-by-least}
 use Rattle.reading.specs.Numbers.{refusalOf}
-use Rattle.reading.proofs.strict.refusal.Statement.{statement}
-use Rattle.reading.proofs.strict.refusal.Tie as tie
+use Rattle.reading.proofs.Answers.{as-open}
+use Rattle.reading.proofs.Words.{words-none}
+use Rattle.reading.proofs.refusal.tests.Statement.{statement}
+use Rattle.reading.proofs.refusal.tests.Tie as tie
 
--- the number of either reading, by that of the open one
+-- the number of either reading, past the tests of the open one
 module _ (k b : ℕ) (f : List ℤ) (n : ℕ) where
-  refused : (t : Bool) → (openRefusal k b f n ≡ 0 → ⊥) → openRefusal k b f n ≡ refusalOf t k b f n
-  refused true h = sym (strict-as-open k b f n h)
-  refused false h = refl
-
   open-one : (t : Bool) → t ≡ false → openRefusal k b f n ≡ refusalOf t k b f n
   open-one t e = ap (λ (x : Bool). refusalOf x k b f n) (sym e)
 
@@ -36,14 +34,14 @@ module _ (k b : ℕ) (f : List ℤ) (n : ℕ) where
 
 -- no refusal by the open reading
 module _ (c : tie.Else1) where
-  abbrev called : tie.After-open-refusal
-  called = c .before .before .before
+  abbrev called : tie.After-open-tests
+  called = c .before
 
   abbrev start : tie.Start
-  start = called .before .before .before
+  start = called .before
 
   none : openRefusal (start .args .kind) (start .args .grade) (start .args .frame .now) (start .args .n) ≡ 0
-  none = sym (called .open-refusal .ensures .0) ∙ c .if1 .left
+  none = sym (called .open-tests .ensures .0) ∙ c .if1 .left
 
   a : Accepted (start .args .kind) (start .args .grade) (start .args .frame .now) (start .args .n)
   a = accepted (start .args .kind) (start .args .grade) (start .args .frame .now) (start .args .n) none
@@ -52,7 +50,7 @@ module _ (c : tie.Else1) where
   small = omega (arith, few-levels (start .args .kind) (a .kind), grade-high (start .args .grade) (a .grade))
 
   whole : 8 * (length (start .args .frame .now) / 8) ≡ length (start .args .frame .now)
-  whole = ap (λ (n : ℕ). 8 * (n / 8)) (a .coordinates) ∙ shape (start .args .kind) (a .kind) .whole ∙ sym (a .coordinates)
+  whole = ap (λ (n : ℕ). 8 * (n / 8)) (a .coordinates) ∙ whole-blocks (start .args .kind) (a .kind) ∙ sym (a .coordinates)
 
 tested : (c : tie.After-is-least) → let s = start (c .before .before .before) .args in
     c .is-least .result ≡ sameFrame (s .frame .now) (leastFrame (half (s .kind) (s .grade)) (blocks (s .kind)) (s .frame .now))
@@ -64,34 +62,37 @@ tested c =
     ∙ ap₂ (λ (l n : ℕ). sameFrame (s .frame .now) (leastFrame (2 ^ (l + s .grade - 1)) (n / 8) (s .frame .now))) (c .before .levels .ensures) (a d .coordinates)
 
 -- a strict reading's number
-number : (c : tie.After-is-least) → let s = start (c .before .before .before) .args in refusalOf (s .strict) (s .kind) (s .grade) (s .frame .now) (s .n) ≡ unless (c .is-least .result) 9 0
+number : (c : tie.After-is-least) → let s = start (c .before .before .before) .args in
+    refusalOf (s .strict) (s .kind) (s .grade) (s .frame .now) (s .n) ≡ unless (c .is-least .result) 9 0
 number c =
     let e = c .before .before in
     let d = e .before in
     let s = start d .args in
-    strict-one (s .kind) (s .grade) (s .frame .now) (s .n) (s .strict) (not-false (s .strict) (e .if2 .left)) (none d) ∙ ap (λ (t : Bool). unless t 9 0) (sym (tested c))
+    strict-one (s .kind) (s .grade) (s .frame .now) (s .n) (s .strict) (not-false (s .strict) (e .if2 .left)) (none d)
+    ∙ ap (λ (t : Bool). unless t 9 0) (sym (tested c))
 
-open-refusal-requires : tie.Need-open-refusal-requires
-open-refusal-requires c κs = search needs
+open-tests-requires : tie.Need-open-tests-requires
+open-tests-requires c κs = search needs
 
-same-length : tie.Need-same-length
-same-length c = search needs
+refused-requires : tie.Need-refused-requires
+refused-requires c κs = search needs
 
 returns : tie.Need-returns
 returns c =
-    let d = c .before .before .before in
-    let s = d .before .before .before .args in
-    let e = d .open-refusal .ensures .0 in
-    (e ∙ refused (s .kind) (s .grade) (s .frame .now) (s .n) (s .strict) (λ z. c .if1 .taken (e ∙ z)), λ z. absurd (c .if1 .taken z))
-
-same-length-2 : tie.Need-same-length-2
-same-length-2 c = search needs
+    let t = c .before in
+    let o = t .before .open-tests in
+    let s = t .before .before .args in
+    let e = c .refused .ensures in (
+      e .0 ∙ o .ensures .0 ∙ as-open (s .kind) (s .grade) (s .frame .now) (s .n) (s .strict) (λ z. t .if1 .taken (o .ensures .0 ∙ z)),
+      e .1 ∙ words-none (c .refused .result .number) (s .kind) (s .frame .now) (λ z. t .if1 .taken (sym (e .0) ∙ z)),
+    )
 
 returns-2 : tie.Need-returns-2
 returns-2 c =
     let d = c .before in
     let s = start d .args in
-    (sym (none d) ∙ open-one (s .kind) (s .grade) (s .frame .now) (s .n) (s .strict) (not-true (s .strict) (c .if2 .taken)), λ z. called d .open-refusal .ensures .1 (d .if1 .left))
+    let o = called d .open-tests .ensures in
+    (o .0 ∙ open-one (s .kind) (s .grade) (s .frame .now) (s .n) (s .strict) (not-true (s .strict) (c .if2 .taken)), o .1)
 
 levels-requires : tie.Need-levels-requires
 levels-requires c κs = a (c .before) .kind
@@ -111,35 +112,37 @@ is-least-requires c κs =
     let f = start d .args .frame .now in
     (omega (arith, c .levels .ensures, small d), whole d, within-to 1048576 (2 ^ 24) f (omega arith) (range-within f (a d .range)))
 
-same-length-3 : tie.Need-same-length-3
-same-length-3 c = search needs
-
 returns-3 : tie.Need-returns-3
 returns-3 c =
     let d = c .before .before .before .before in
-    (sym (number (c .before) ∙ ap (λ (t : Bool). unless t 9 0) (c .if3 .taken)), λ z. called d .open-refusal .ensures .1 (d .if1 .left))
+    let o = called d .open-tests .ensures in
+    (o .0 ∙ none d ∙ sym (number (c .before) ∙ ap (λ (t : Bool). unless t 9 0) (c .if3 .taken)), o .1)
 
-same-length-4 : tie.Need-same-length-4
-same-length-4 c = search needs
+refused-requires-2 : tie.Need-refused-requires-2
+refused-requires-2 c κs = search needs
 
 returns-4 : tie.Need-returns-4
-returns-4 c = (sym (number (c .before) ∙ ap (λ (t : Bool). unless t 9 0) (c .if3 .left)), λ z. absurd (omega (arith, z)))
+returns-4 c =
+    let t = c .before in
+    let s = start (t .before .before .before .before) .args in
+    let e = c .refused2 .ensures in (
+      e .0 ∙ sym (number (t .before) ∙ ap (λ (t : Bool). unless t 9 0) (t .if3 .left)),
+      e .1 ∙ words-none (c .refused2 .result .number) (s .kind) (s .frame .now) (λ z. omega (arith, e .0, z)),
+    )
 
-pub refusal-spec : {M : Type 1} → statement M
-refusal-spec =
+pub tests-spec : {M : Type 1} → statement M
+tests-spec =
     tie.close
     (tie.spec
-    open-refusal-requires
-    same-length
+    open-tests-requires
+    refused-requires
     returns
-    same-length-2
     returns-2
     levels-requires
     add-k
     sub-k
     cast-is-least
     is-least-requires
-    same-length-3
+    refused-requires-2
     returns-3
-    same-length-4
     returns-4)
