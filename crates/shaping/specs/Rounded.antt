@@ -15,7 +15,7 @@ use Rattle.e8.specs.Least.{cent}
 abbrev pub across : ℤ → ℤ → ℤ
 across m c = cond (ltZ c (pos 0)) (c +ℤ m) (c -ℤ m)
 
--- cost e with first coordinate c comes before cost f with first coordinate d, where c and d differ
+-- the whole part, of cost e and first coordinate c, comes before the half part, of cost f and first coordinate d, where c and d differ
 abbrev pub wholeFirst : ℤ → ℤ → ℤ → ℤ → Bool
 wholeFirst e c f d = cond (ltZ c d) (leZ e f) (ltZ e f)
 
