@@ -25,7 +25,10 @@ pub differ-sym : (H n : ℕ) (xs ys : List ℤ) → Differ H n xs ys → Differ 
 differ-sym H n xs ys d = record { long = sym (d .long); blocks = λ i h. block-sym H (part i xs) (part i ys) (d .blocks i h) }
 
 pub differ-trans : (H n : ℕ) (xs ys zs : List ℤ) → Differ H n xs ys → Differ H n ys zs → Differ H n xs zs
-differ-trans H n xs ys zs d e = record { long = e .long ∙ d .long; blocks = λ i h. block-trans H (part i xs) (part i ys) (part i zs) (d .blocks i h) (e .blocks i h) }
+differ-trans H n xs ys zs d e = record {
+  long = e .long ∙ d .long;
+  blocks = λ i h. block-trans H (part i xs) (part i ys) (part i zs) (d .blocks i h) (e .blocks i h);
+}
 
 -- ---- one block and the rest
 
@@ -68,7 +71,10 @@ module _ (H : ℕ) (pos-H : 0 < H) where
   pub frame-size : (n : ℕ) (x : List ℤ) → length x ≡ 8 * n → length (leastFrame H n x) ≡ 8 * n
   unfolding leastFrame
   frame-size zero x l = omega arith
-  frame-size (suc n) x l = simp length-append (omega (arith, block-size (take 8 x) (simp length-take (omega arith)), frame-size n (drop 8 x) (simp length-drop (omega arith))))
+  frame-size (suc n) x l =
+      let a = block-size (take 8 x) (simp length-take (omega arith)) in
+      let b = frame-size n (drop 8 x) (simp length-drop (omega arith)) in
+      simp length-append (omega (arith, a, b))
 
   frame-in : (n : ℕ) (x : List ℤ) → length x ≡ 8 * n → Differ H n x (leastFrame H n x)
   unfolding leastFrame
@@ -112,7 +118,8 @@ module _ (H : ℕ) (pos-H : 0 < H) where
   frame-range : (n : ℕ) (x : List ℤ) → All (Range (2 * H)) (leastFrame H n x)
   unfolding leastFrame
   frame-range zero x = tt
-  frame-range (suc n) x = all-append (Range (2 * H)) (leastBlock H (take 8 x)) (leastFrame H n (drop 8 x)) (block-range H pos-H (take 8 x)) (frame-range n (drop 8 x))
+  frame-range (suc n) x =
+      all-append (Range (2 * H)) (leastBlock H (take 8 x)) (leastFrame H n (drop 8 x)) (block-range H pos-H (take 8 x)) (frame-range n (drop 8 x))
 
   pub leastFrame-within : (n : ℕ) (x : List ℤ) → Within (2 * H) (leastFrame H n x)
   leastFrame-within n x = range-within (2 * H) (leastFrame H n x) (frame-range n x)

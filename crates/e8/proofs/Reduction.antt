@@ -114,7 +114,8 @@ module _ (h : ℕ) (p : 0 < h) where
     mine : (y : ℤ) → y -ℤ shrZ y (h * 2) *ℤ (pos h *ℤ pos 2) ≡ m y
     mine y = own y 2 (omega arith)
 
-    later-rows : reducedBy 1 (drop 1 (rows h)) (s ∷ y₂ ∷ y₃ ∷ y₄ ∷ y₅ ∷ y₆ ∷ y₇ ∷ y₈ ∷ []) ≡ s ∷ ints (remainders h (pos 0) (y₂ ∷ y₃ ∷ y₄ ∷ y₅ ∷ y₆ ∷ y₇ ∷ y₈ ∷ []))
+    later-rows : reducedBy 1 (drop 1 (rows h)) (s ∷ y₂ ∷ y₃ ∷ y₄ ∷ y₅ ∷ y₆ ∷ y₇ ∷ y₈ ∷ [])
+        ≡ s ∷ ints (remainders h (pos 0) (y₂ ∷ y₃ ∷ y₄ ∷ y₅ ∷ y₆ ∷ y₇ ∷ y₈ ∷ []))
     unfolding reducedBy
     later-rows =
         let r : ℤ = shrZ z₇ (h * 4) in

@@ -19,6 +19,7 @@ use native.Mathlib.Omega.{arith}
 use borrow.Author.Tests.{lt-ltb, le-ltb, ltb-true, ltb-false}
 use lib.Dec.{ltb}
 use lib.ListN.{length, drop, getD, set}
+use lib.Seq.{drop-cons}
 use lib.IntN.{ℤ, pos, negsuc, _+ℤ_, _-ℤ_, natAbs}
 use lib.Signed.{ltZ}
 use Rattle.integers.specs.Integer.{modZ}
@@ -233,10 +234,6 @@ mended H (x ∷ xs) rs sum top h l p = go (p .odd) (p .parity) (p .begun)
 
 -- ---- the better of the two parts
 
-head-on : (l : List ℤ) → 0 < length l → l ≡ getD l 0 (pos 0) ∷ drop 1 l
-head-on [] h = absurd (omega arith)
-head-on (z ∷ l) h = refl
-
 -- their first coordinates differ
 firsts-differ : (H : ℕ) (x : List ℤ) → 0 < H → 0 < length x
     → getD (best (2 * H) false x) 0 (pos 0) ≡ getD (best (2 * H) false (lowered (pos H) x)) 0 (pos 0) → ⊥
@@ -261,8 +258,8 @@ least-is H x e f h l he hf =
     let b : List ℤ = byHalves H x in
     let c : ℤ = getD a 0 (pos 0) in
     let d : ℤ = getD b 0 (pos 0) in
-    let ea : a ≡ c ∷ drop 1 a = head-on a (omega (arith, best-length (2 * H) false x)) in
-    let eb : b ≡ d ∷ drop 1 b = head-on b (omega (arith, best-length (2 * H) false (lowered (pos H) x), lowered-length (pos H) x)) in
+    let ea : a ≡ c ∷ drop 1 a = drop-cons a 0 (pos 0) (omega (arith, best-length (2 * H) false x)) in
+    let eb : b ≡ d ∷ drop 1 b = drop-cons b 0 (pos 0) (omega (arith, best-length (2 * H) false (lowered (pos H) x), lowered-length (pos H) x)) in
     ap₂ (cond (wholeFirst (pos e) c (pos f) d)) ea eb
     ∙ sym (better-heads c d (drop 1 a) (drop 1 b) e f (firsts-differ H x h l) (he ∙ ap energy ea) (hf ∙ ap energy eb))
     ∙ ap₂ better (sym ea) (sym eb)
