@@ -43,7 +43,8 @@ returns-2 : tie.Need-returns-2
 returns-2 c =
     let t = c .before in
     let s = t .before .before .before .before .before .args in
-    let n = no-room (s .kind) (s .grade) (s .message .now) (s .frame .now) (s .account) (no-refusal (t .before .before)) (sym (t .before .is-full .ensures) ∙ t .if2 .taken) in
+    let n = no-room (s .kind) (s .grade) (s .message .now) (s .frame .now) (s .account) (no-refusal (t .before .before))
+    (sym (t .before .is-full .ensures) ∙ t .if2 .taken) in
     let e = c .refused2 .ensures in
     (e .0 ∙ n .number-is, (n .frame-is, (e .1 ∙ n .energy-is, (e .2 ∙ n .account-is, (λ z. absurd (omega (arith, e .0)))))))
 
@@ -53,8 +54,11 @@ send-requires c κs = search needs
 grow-requires : tie.Need-grow-requires
 grow-requires c κs =
     let d = c .before .before .before in
-    let s = d .before .before .before .before .before .args in
-    (leb-false _ _ (has-room d), measured (s .kind) (s .grade) (s .message .now) (length (s .frame .now)) (no-refusal (d .before .before)) (c .before .send .result .energy) (c .before .send .ensures .1 .1 .0))
+    let s = d .before .before .before .before .before .args in (
+      leb-false _ _ (has-room d),
+      measured (s .kind) (s .grade) (s .message .now) (length (s .frame .now)) (no-refusal (d .before .before))
+          (c .before .send .result .energy) (c .before .send .ensures .1 .1 .0),
+    )
 
 same-length : tie.Need-same-length
 same-length c = search needs
@@ -67,7 +71,8 @@ returns-3 c =
     let f = c .before .before .send .ensures in
     let e = c .before .before .send .result .energy in
     let l = accepted (s .kind) (s .grade) (s .message .now) (length (s .frame .now)) z .positions in
-    let n = counted (s .kind) (s .grade) (s .message .now) (s .frame .now) (s .account) z (has-room d) e (c .before .before .send .last .1 .1 .1 .0) (c .grow .result)
+    let n = counted (s .kind) (s .grade) (s .message .now) (s .frame .now) (s .account) z (has-room d) e (c .before .before .send .last .1 .1 .1 .0)
+    (c .grow .result)
     (f .1 .1 .0) (f .1 .0) (c .grow .ensures ∙ ap (grown (s .account) e) l) in
     (n .number-is, (n .frame-is, (n .energy-is, (n .account-is, (λ w. f .1 .1 .1 (f .0 ∙ z))))))
 
