@@ -8,10 +8,10 @@ use lib.ListN.{length}
 use lib.Ieee.{Float}
 use Rattle.e8.specs.Energy.{energy}
 use Rattle.frames.specs.Frame.{sentFrame}
-use Rattle.frames.specs.Sending.{sendRefusal}
-use Rattle.frames.specs.Reading.{openMessage, openRefusal, strictRefusal}
+use Rattle.frames.specs.Sending.{sendRefusal, frameAfter}
+use Rattle.frames.specs.Reading.{openRefusal, strictRefusal, messageAfter}
 use Rattle.account.specs.declared.Account.{Account}
-use Rattle.account.specs.Counted.{countedRefusal, countedFrame, countedAccount}
+use Rattle.account.specs.Counted.{countedRefusal, countedAccount}
 
 -- the energy, or minus the refusal number
 unfoldable pub answerOf : ℕ → ℕ → ℤ
@@ -23,8 +23,8 @@ unfolding answerOf
 sendAnswer k b bytes n = answerOf (sendRefusal k b bytes n) (energy (sentFrame k b bytes))
 
 -- the lent frame f afterwards: the sent frame, or as it was where sending is refused
-unfoldable pub sendFrame : ℕ → ℕ → List ℕ → List ℤ → List ℤ
-sendFrame k b bytes f = cond (eqb (sendRefusal k b bytes (length f)) 0) (sentFrame k b bytes) f
+abbrev pub sendFrame : ℕ → ℕ → List ℕ → List ℤ → List ℤ
+sendFrame k b bytes f = frameAfter (sendRefusal k b bytes (length f)) k b bytes f
 
 -- the open reading of a frame f: its energy, or minus the refusal number; n message bytes are lent
 unfoldable pub openAnswer : ℕ → ℕ → List ℤ → ℕ → ℤ
@@ -32,16 +32,16 @@ unfolding answerOf
 openAnswer k b f n = answerOf (openRefusal k b f n) (energy f)
 
 -- the lent bytes afterwards: the message, or as they were where the reading is refused
-unfoldable pub openBytes : ℕ → ℕ → List ℤ → List ℕ → List ℕ
-openBytes k b f bytes = cond (eqb (openRefusal k b f (length bytes)) 0) (openMessage k b f) bytes
+abbrev pub openBytes : ℕ → ℕ → List ℤ → List ℕ → List ℕ
+openBytes k b f bytes = messageAfter (openRefusal k b f (length bytes)) k b f bytes
 
 -- the strict reading likewise
 unfoldable pub strictAnswer : ℕ → ℕ → List ℤ → ℕ → ℤ
 unfolding answerOf
 strictAnswer k b f n = answerOf (strictRefusal k b f n) (energy f)
 
-unfoldable pub strictBytes : ℕ → ℕ → List ℤ → List ℕ → List ℕ
-strictBytes k b f bytes = cond (eqb (strictRefusal k b f (length bytes)) 0) (openMessage k b f) bytes
+abbrev pub strictBytes : ℕ → ℕ → List ℤ → List ℕ → List ℕ
+strictBytes k b f bytes = messageAfter (strictRefusal k b f (length bytes)) k b f bytes
 
 -- ---- sending with an account, into a lent frame f
 
@@ -49,18 +49,22 @@ strictBytes k b f bytes = cond (eqb (strictRefusal k b f (length bytes)) 0) (ope
 abbrev pub accountOf : ℕ → Float → Account
 accountOf count sum = record { count = count; sum = sum }
 
+-- the number that is answered
+abbrev pub countedNumber : ℕ → ℕ → List ℕ → List ℤ → ℕ → Float → ℕ
+countedNumber k b bytes f count sum = countedRefusal k b bytes (length f) (accountOf count sum)
+
 -- the energy of the sent frame, or minus the refusal number
 unfoldable pub countedAnswer : ℕ → ℕ → List ℕ → List ℤ → ℕ → Float → ℤ
 unfolding answerOf
-countedAnswer k b bytes f count sum = answerOf (countedRefusal k b bytes (length f) (accountOf count sum)) (energy (sentFrame k b bytes))
+countedAnswer k b bytes f count sum = answerOf (countedNumber k b bytes f count sum) (energy (sentFrame k b bytes))
 
 -- the lent frame afterwards
 abbrev pub frameOf : ℕ → ℕ → List ℕ → List ℤ → ℕ → Float → List ℤ
-frameOf k b bytes f count sum = countedFrame k b bytes f (accountOf count sum)
+frameOf k b bytes f count sum = frameAfter (countedNumber k b bytes f count sum) k b bytes f
 
 -- the two lent numbers afterwards: those of the account grown by the sent frame, or as they were where sending is refused
 abbrev pub countOf : ℕ → ℕ → List ℕ → List ℤ → ℕ → Float → ℕ
-countOf k b bytes f count sum = countedAccount k b bytes (length f) (accountOf count sum) .count
+countOf k b bytes f count sum = countedAccount (countedNumber k b bytes f count sum) k b bytes (accountOf count sum) .count
 
 abbrev pub sumOf : ℕ → ℕ → List ℕ → List ℤ → ℕ → Float → Float
-sumOf k b bytes f count sum = countedAccount k b bytes (length f) (accountOf count sum) .sum
+sumOf k b bytes f count sum = countedAccount (countedNumber k b bytes f count sum) k b bytes (accountOf count sum) .sum

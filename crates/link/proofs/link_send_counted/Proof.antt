@@ -1,12 +1,15 @@
 -- `link_send_counted` meets its contract: what sending with an account ensures, in one number and the two lent ones. Assumes nothing.
-use mathlib.Core.Path.{ap, _∙_}
+use Prim.Native.Nat.{ℕ}
+use mathlib.Core.Path.{sym, ap, ap₂, _∙_}
 use native.Mathlib.Omega.{arith}
-use lib.ListN.{length}
 use mir.Facts.{toZ-ofZ}
 use borrow.Author.Needs.{needs}
 use Rattle.account.specs.declared.Account.{Account}
-use Rattle.link.specs.Answer.{accountOf}
-use Rattle.link.proofs.Bounds.{counted-fits, counted-refused, counted-sent}
+use Rattle.frames.specs.Sending.{frameAfter}
+use Rattle.frames.proofs.Accepted.{refused-leaves}
+use Rattle.account.specs.Counted.{countedAccount}
+use Rattle.link.specs.Answer.{answerOf, accountOf}
+use Rattle.link.proofs.Bounds.{counted-fits, counted-answer, as-they-were}
 use Rattle.link.proofs.link_send_counted.Statement.{statement}
 use Rattle.link.proofs.link_send_counted.Tie as tie
 
@@ -25,16 +28,20 @@ returns c =
     let w = t .before .before .before in
     let s = w .before .before .before .before .args in
     let e = w .send-counted .ensures in
-    let r = w .send-counted .result in
-    let n = counted-refused (s .kind) (s .grade) (s .message .now) (s .frame .now) (s .count .now) (s .sum .now) (r .number) (e .0) (t .if1 .taken) in
-    (toZ-ofZ (record { sfits = c .answer .ok }) ∙ c .answer .ensures ∙ n .0, (e .1 .0, (n .1, n .2)))
+    let r = w .send-counted .result .number in
+    let n = as-they-were (s .kind) (s .grade) (s .message .now) (s .frame .now) (s .count .now) (s .sum .now) r (e .0) (t .if1 .taken) in
+    let l = counted-answer (s .kind) (s .grade) (s .message .now) (s .frame .now) (s .count .now) (s .sum .now) r (e .0) in
+    let z = refused-leaves r (s .kind) (s .grade) (s .message .now) (s .frame .now) (t .if1 .taken) in (
+      toZ-ofZ (record { sfits = c .answer .ok }) ∙ c .answer .ensures ∙ ap (answerOf r) (sym (z .1)) ∙ l,
+      (e .1 .0 ∙ ap (λ (n : ℕ). frameAfter n (s .kind) (s .grade) (s .message .now) (s .frame .now)) (e .0), (n .0, n .1)),
+    )
 
 answer-requires-2 : tie.Need-answer-requires-2
 answer-requires-2 c κs =
     let w = c .before .before .before .before in
     let s = w .before .before .before .before .args in
-    let a = accountOf (s .count .now) (s .sum .now) in
-    omega (arith, w .send-counted .ensures .1 .1 .0, counted-fits (s .kind) (s .grade) (s .message .now) (length (s .frame .now)) a)
+    let e = w .send-counted .ensures in
+    omega (arith, e .1 .1 .0, counted-fits (s .kind) (s .grade) (s .message .now) (s .frame .now) (s .count .now) (s .sum .now) (w .send-counted .result .number) (e .0))
 
 same-length-2 : tie.Need-same-length-2
 same-length-2 c = search needs
@@ -45,11 +52,15 @@ returns-2 c =
     let w = t .before .before .before in
     let s = w .before .before .before .before .args in
     let e = w .send-counted .ensures in
-    let r = w .send-counted .result in
-    let z = t .if1 .left in
-    let n = counted-sent (s .kind) (s .grade) (s .message .now) (s .frame .now) (s .count .now) (s .sum .now) (r .number) (r .energy) (e .0) z (e .1 .1 .0) in
-    let a = e .1 .1 .1 .0 in
-    (toZ-ofZ (record { sfits = c .answer2 .ok }) ∙ c .answer2 .ensures ∙ n, (e .1 .0, (ap (λ (x : Account). x .count) a, ap (λ (x : Account). x .sum) a)))
+    let r = w .send-counted .result .number in
+    let l = counted-answer (s .kind) (s .grade) (s .message .now) (s .frame .now) (s .count .now) (s .sum .now) r (e .0) in
+    let a = e .1 .1 .1 .0 ∙ ap (λ (n : ℕ). countedAccount n (s .kind) (s .grade) (s .message .now) (accountOf (s .count .now) (s .sum .now))) (e .0) in (
+      toZ-ofZ (record { sfits = c .answer2 .ok }) ∙ c .answer2 .ensures ∙ ap₂ answerOf (sym (t .if1 .left)) (e .1 .1 .0) ∙ l,
+      (
+        e .1 .0 ∙ ap (λ (n : ℕ). frameAfter n (s .kind) (s .grade) (s .message .now) (s .frame .now)) (e .0),
+        (ap (λ (x : Account). x .count) a, ap (λ (x : Account). x .sum) a),
+      ),
+    )
 
 pub link-send-counted-spec : {M : Type 1} → statement M
 link-send-counted-spec =
