@@ -43,7 +43,8 @@ int64_t link_read_open(uint8_t kind, uint8_t grade, const int32_t *frame, size_t
 int64_t link_read_strict(uint8_t kind, uint8_t grade, const int32_t *frame, size_t frame_len, uint8_t *message, size_t message_len);
 
 /* Sends with an account, which begins at 0 and 0.0: the count of frames and the sum of their powers are changed only on success. */
-int64_t link_send_counted(uint8_t kind, uint8_t grade, const uint8_t *message, size_t message_len, int32_t *frame, size_t frame_len, uint32_t *count, double *sum);
+int64_t link_send_counted(uint8_t kind, uint8_t grade, const uint8_t *message, size_t message_len, int32_t *frame, size_t frame_len,
+                          uint32_t *count, double *sum);
 
 #ifdef __cplusplus
 }

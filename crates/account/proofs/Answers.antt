@@ -1,80 +1,74 @@
--- What sending with an account answers, by its tests; and the energies that it counts. Assumes nothing.
-use Prim.Native.Nat.{ℕ, _^_}
-use mathlib.Core.Path.{_≡_, sym, _∙_}
-use mathlib.Core.Bool.{true, false}
+-- The number of sending with an account by its tests, the account by the number, and the energies that are counted. Assumes nothing.
+use Prim.Native.Nat.{ℕ, _^_, _≤_}
+use mathlib.Core.Path.{_≡_, refl, sym, _∙_}
+use mathlib.Core.Bool.{Bool, true, false, cond}
 use mathlib.Core.List.{List}
 use native.Mathlib.Omega.{arith}
 use lib.Dec.{eqb}
-use lib.IntN.{ℤ}
-use lib.ListN.{length}
-use borrow.Author.Tests.{eq-eqb, ne-eqb}
+use borrow.Author.Tests.{ne-eqb, eqb-true, eqb-false}
 use Rattle.e8.specs.Energy.{energy}
 use Rattle.frames.specs.Frame.{sentFrame}
-use Rattle.frames.specs.Sending.{sendRefusal, frameAfter, energySent}
-use Rattle.kind_table.proofs.Each.{size}
-use Rattle.sending.proofs.Answers.{accepted}
+use Rattle.frames.specs.Sending.{sendRefusal}
+use Rattle.frames.proofs.Limits.{kind-high}
 use Rattle.frames.proofs.Bounds.{sent-energy}
+use Rattle.frames.proofs.Accepted.{all-passed}
+use Rattle.sending.proofs.Answers.{at-most-five}
 use Rattle.account.specs.declared.Account.{Account}
 use Rattle.account.specs.Power.{Measured, full, grown}
-use Rattle.account.specs.Counted.{countedRefusal, countedFrame, countedEnergy, countedAccount}
+use Rattle.account.specs.Counted.{countedRefusal, countedAccount}
 
--- ---- the answers, by the tests
+-- ---- the number, by the tests
 
--- a number, an energy, a frame and an account are what the definitions say
-pub record Answers (k b : ℕ) (m : List ℕ) (f : List ℤ) (a : Account) (number e : ℕ) (g : List ℤ) (a′ : Account) : Type 0 where
-  pub number-is : number ≡ countedRefusal k b m (length f) a
-  pub frame-is : g ≡ countedFrame k b m f a
-  pub energy-is : e ≡ countedEnergy k b m (length f) a
-  pub account-is : a′ ≡ countedAccount k b m (length f) a
-
-module _ (k b : ℕ) (m : List ℕ) (f : List ℤ) (a : Account) where
-  -- where there is a refusal, every other figure is as it came
-  as-it-came : (r : ℕ) → (r ≡ 0 → ⊥) → r ≡ countedRefusal k b m (length f) a → Answers k b m f a r 0 f a
-  unfolding countedFrame countedEnergy countedAccount
-  as-it-came r n q =
-      let e : eqb (countedRefusal k b m (length f) a) 0 ≡ false = ne-eqb _ _ (λ z. n (q ∙ z)) in
-      record { number-is = q; frame-is = simp e; energy-is = simp e; account-is = simp e }
-
-  pub refused : (r : ℕ) → (r ≡ 0 → ⊥) → r ≡ sendRefusal k b m (length f) → Answers k b m f a r 0 f a
+module _ (k b : ℕ) (m : List ℕ) (n : ℕ) (a : Account) where
+  pub by-sending : (sendRefusal k b m n ≡ 0 → ⊥) → sendRefusal k b m n ≡ countedRefusal k b m n a
   unfolding countedRefusal
-  refused r n q =
-      let e : eqb (sendRefusal k b m (length f)) 0 ≡ false = ne-eqb _ _ (λ z. n (q ∙ z)) in
-      as-it-came r n (simp e q)
+  by-sending h = let e : eqb (sendRefusal k b m n) 0 ≡ false = ne-eqb _ _ h in simp e
 
-  pub no-room : sendRefusal k b m (length f) ≡ 0 → full a ≡ true → Answers k b m f a 11 0 f a
+  pub no-room : sendRefusal k b m n ≡ 0 → full a ≡ true → 11 ≡ countedRefusal k b m n a
   unfolding countedRefusal
-  no-room z h = as-it-came 11 (λ e. omega arith) (simp (z, h))
+  no-room z h = simp (z, h)
 
-  accept : sendRefusal k b m (length f) ≡ 0 → full a ≡ false → 0 ≡ countedRefusal k b m (length f) a
+  pub accepts : sendRefusal k b m n ≡ 0 → full a ≡ false → 0 ≡ countedRefusal k b m n a
   unfolding countedRefusal
-  accept z h = simp (z, h)
+  accepts z h = simp (z, h)
 
-  sent : sendRefusal k b m (length f) ≡ 0 → (energySent k b m (length f) ≡ energy (sentFrame k b m)) × (frameAfter k b m f ≡ sentFrame k b m)
-  unfolding energySent frameAfter
-  sent z = (simp z, simp z)
+  -- back: a number that is none of sending's says that sending's tests are passed
+  pub passed : (number : ℕ) → number ≡ countedRefusal k b m n a → (number ≤ 5 → number ≡ 0) → sendRefusal k b m n ≡ 0
+  unfolding countedRefusal
+  passed number q h = go (sendRefusal k b m n) (eqb (sendRefusal k b m n) 0) refl (at-most-five k b m n) q
+    where
+      go : (s : ℕ) (v : Bool) → eqb s 0 ≡ v → s ≤ 5 → number ≡ cond v (cond {A = ℕ} (full a) 11 0) s → s ≡ 0
+      go s true e l q = eqb-true s 0 e
+      go s false e l q = sym q ∙ h (omega arith)
 
-  pub counted : sendRefusal k b m (length f) ≡ 0 → full a ≡ false → (e : ℕ) (g : List ℤ) (a′ : Account)
-      → e ≡ energySent k b m (length f) → g ≡ frameAfter k b m f → a′ ≡ grown a e (2 ^ k) → Answers k b m f a 0 e g a′
-  unfolding countedFrame countedEnergy countedAccount
-  counted z h e g a′ qe qg qa =
-      let r : eqb (countedRefusal k b m (length f) a) 0 ≡ true = eq-eqb _ _ (sym (accept z h)) in
-      let x : e ≡ energy (sentFrame k b m) = qe ∙ sent z .0 in
-      record {
-        number-is = accept z h;
-        frame-is = (qg ∙ sent z .1) ∙ simp r;
-        energy-is = x ∙ simp r;
-        account-is = qa ∙ simp (x, r);
-      }
+  -- and that the number is 0, that the account has room
+  pub room : countedRefusal k b m n a ≡ 0 → full a ≡ false
+  unfolding countedRefusal
+  room q = go (sendRefusal k b m n) (eqb (sendRefusal k b m n) 0) (full a) refl q
+    where
+      go : (s : ℕ) (v t : Bool) → eqb s 0 ≡ v → cond v (cond {A = ℕ} t 11 0) s ≡ 0 → t ≡ false
+      go s true true e q = absurd (omega arith)
+      go s true false e q = refl
+      go s false t e q = absurd (eqb-false s 0 e q)
 
--- what an accepted call counts has a power
-pub measured : (k b : ℕ) (m : List ℕ) (n : ℕ) → sendRefusal k b m n ≡ 0 → (e : ℕ) → e ≡ energySent k b m n → Measured e n
-unfolding energySent
+-- ---- the account, by the number
+
+module _ (number k b : ℕ) (m : List ℕ) (a : Account) where
+  pub account-refused : (number ≡ 0 → ⊥) → countedAccount number k b m a ≡ a
+  unfolding countedAccount
+  account-refused h = rw (ne-eqb number 0 h)
+
+  pub account-sent : number ≡ 0 → countedAccount number k b m a ≡ grown a (energy (sentFrame k b m)) (2 ^ k)
+  unfolding countedAccount
+  account-sent z = rw z
+
+-- what is sent for a message that is accepted has a power
+pub measured : (k b : ℕ) (m : List ℕ) (n : ℕ) → sendRefusal k b m n ≡ 0 → (e : ℕ) → e ≡ energy (sentFrame k b m) → Measured e n
 measured k b m n z e q =
-    let p = accepted k b m n z in
-    let x : e ≡ energy (sentFrame k b m) = q ∙ simp z in
+    let p = all-passed k b m n z in
     record {
-      small = omega (arith, sent-energy k b m (p .kind) (p .grade));
+      small = omega (arith, q, sent-energy k b m (p .kind) (p .grade));
       exponent = k;
-      short = omega (arith, size k (p .kind) .high);
-      is = p .positions;
+      short = omega (arith, kind-high k (p .kind));
+      is = p .coordinates;
     }

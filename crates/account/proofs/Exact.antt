@@ -35,7 +35,8 @@ pub div-whole : (x y : Float) (a b : ℕ) → 0 < b → HasValue x false a 1 →
 unfolding div
 div-whole (fin false m e) (fin false zero d) a b h v w = let p = mul-pos h (down-pos d) in absurd (omega (arith, w .1))
 div-whole (fin false m e) (fin false (suc n) d) a b h v w =
-    ap (λ (t : Bool). cond t (cond (eqb m 0) nan (inf false)) (round binary64 false (m * up e * down d) (suc n * up d * down e))) {x = eqb (suc n) 0} {y = false} (not-zero n)
+    ap (λ (t : Bool). cond t (cond (eqb m 0) nan (inf false)) (round binary64 false (m * up e * down d) (suc n * up d * down e)))
+    {x = eqb (suc n) 0} {y = false} (not-zero n)
     ∙ round-same binary64 false (m * up e * down d) (suc n * up d * down e) a b
     (mul-pos (mul-pos (omega arith) (up-pos d)) (down-pos e)) h
     (cross (m * up e) (suc n * up d) a b (down e) (down d) (v .1) (w .1))

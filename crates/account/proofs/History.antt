@@ -2,46 +2,37 @@
 -- the sum of their powers. Assumes nothing.
 use Prim.Native.Nat.{ℕ, _+_, _≤_, _<_}
 use mathlib.Core.Path.{_≡_, refl, sym, ap, _∙_}
-use mathlib.Core.Bool.{Bool, true, false, cond}
+use mathlib.Core.Bool.{Bool, true, false}
 use mathlib.Core.List.{List, [], _∷_}
 use native.Mathlib.Omega.{arith}
 use lib.Dec.{eqb}
 use lib.ListN.{length}
 use lib.Ieee.Exact.{HasValue}
-use borrow.Author.Tests.{eqb-true, eqb-false, leb-false}
+use borrow.Author.Tests.{eqb-true, leb-false}
 use Rattle.e8.specs.Energy.{energy}
-use Rattle.frames.specs.Sending.{sendRefusal}
-use Rattle.kind_table.proofs.Each.{size}
-use Rattle.sending.proofs.Answers.{accepted}
+use Rattle.frames.proofs.Limits.{kind-high}
+use Rattle.frames.proofs.Accepted.{Passed, all-passed}
 use Rattle.account.specs.declared.Account.{Account}
-use Rattle.account.specs.Power.{begun, full, grown}
-use Rattle.account.specs.Counted.{countedRefusal, countedAccount}
+use Rattle.account.specs.Power.{begun, grown}
+use Rattle.account.specs.Counted.{countedAccount}
 use Rattle.account.specs.History.{Call, answer, after, accountAfter, entryOf, sentBy, powersIn}
+use Rattle.account.proofs.Answers.{passed, room}
 use Rattle.account.proofs.Grown.{grownBy, Countable, AllCountable, grown-exactly}
 use Rattle.frames.proofs.Bounds.{sent-energy}
 
--- an accepted call passed sending's tests, and the account had room
-pub passed : (s : ℕ) (t : Bool) → cond (eqb s 0) (cond {A = ℕ} t 11 0) s ≡ 0 → (s ≡ 0) × (t ≡ false)
-passed s t e = go (eqb s 0) t refl e
-  where
-    go : (v t : Bool) → eqb s 0 ≡ v → cond v (cond {A = ℕ} t 11 0) s ≡ 0 → (s ≡ 0) × (t ≡ false)
-    go true true q e = absurd (omega arith)
-    go true false q e = (eqb-true _ _ q, refl)
-    go false t q e = absurd (eqb-false _ _ q e)
-
 module _ (a : Account) (c : Call) where
-  accepted-call : answer a c ≡ 0 → (sendRefusal (c .kind) (c .grade) (c .message) (c .n) ≡ 0) × (full a ≡ false)
-  unfolding countedRefusal
-  accepted-call e = passed _ (full a) e
+  -- an accepted call passed sending's tests, and the account had room
+  tests : answer a c ≡ 0 → Passed (c .kind) (c .grade) (c .message) (c .n)
+  tests e = all-passed (c .kind) (c .grade) (c .message) (c .n) (passed (c .kind) (c .grade) (c .message) (c .n) a 0 (sym e) (λ l. refl))
 
   counts : answer a c ≡ 0 → Countable 5 (entryOf c)
   counts e =
-      let p = accepted (c .kind) (c .grade) (c .message) (c .n) (accepted-call e .0) in
+      let p = tests e in
       let s = sent-energy (c .kind) (c .grade) (c .message) (p .kind) (p .grade) in
-      record { exponent = c .kind; short = size (c .kind) (p .kind) .high; is = refl; small = omega (arith, s) }
+      record { exponent = c .kind; short = kind-high (c .kind) (p .kind); is = refl; small = omega (arith, s) }
 
-  room : answer a c ≡ 0 → a .count < 1000000
-  room e = leb-false _ _ (accepted-call e .1)
+  has-room : answer a c ≡ 0 → a .count < 1000000
+  has-room e = leb-false 1000000 (a .count) (room (c .kind) (c .grade) (c .message) (c .n) a e)
 
   after-sent : eqb (answer a c) 0 ≡ true → after a c ≡ grown a (entryOf c .energy) (entryOf c .n)
   unfolding countedAccount
@@ -73,7 +64,7 @@ grows a (c ∷ cs) = go (eqb (answer a c) 0) refl (grows (after a c) cs)
     go : (v : Bool) → eqb (answer a c) 0 ≡ v → Grown (after a c) cs → Grown a (c ∷ cs)
     go true q g =
         let n : after a c .count ≡ a .count + 1 = ap (λ (x : Account). x .count) (after-sent a c q) in
-        let r : a .count < 1000000 = room a c (eqb-true _ _ q) in
+        let r : a .count < 1000000 = has-room a c (eqb-true _ _ q) in
         record {
           is = g .is ∙ ap (λ (x : Account). grownBy x (sentBy (after a c) cs)) (after-sent a c q) ∙ ap (grownBy a) (sym (by-sent a c q cs));
           counted = rw (by-sent a c q cs) (counts a c (eqb-true _ _ q), g .counted);

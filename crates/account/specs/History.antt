@@ -21,7 +21,7 @@ abbrev pub answer : Account → Call → ℕ
 answer a c = countedRefusal (c .kind) (c .grade) (c .message) (c .n) a
 
 abbrev pub after : Account → Call → Account
-after a c = countedAccount (c .kind) (c .grade) (c .message) (c .n) a
+after a c = countedAccount (answer a c) (c .kind) (c .grade) (c .message) a
 
 -- the account after calls one after the other, each with the account that the call before it gave
 unfoldable pub accountAfter : Account → List Call → Account

@@ -1,12 +1,11 @@
 // Sending with an account: the frame, and the account grown by its power as f64.
 ghost use mathlib.Core.Path.{_≡_};
-ghost use mathlib.Core.Bool.{false};
-ghost use Prim.Native.Nat.{_<_};
+ghost use mathlib.Core.Bool.{false, cond};
 ghost use lib.Ieee.Exact.{HasValue};
 ghost use lib.ListN.{length};
-ghost use Rattle.frames.specs.Sending.{LeastEnergy};
+ghost use Rattle.frames.specs.Sending.{frameAfter, energySent, LeastEnergy};
 ghost use Rattle.account.specs.Power.{Measured, powerOf, begun, full, grown};
-ghost use Rattle.account.specs.Counted.{countedRefusal, countedFrame, countedEnergy, countedAccount};
+ghost use Rattle.account.specs.Counted.{countedRefusal, countedAccount};
 
 // An account, by value: a count of frames and the sum of their powers. One from elsewhere may have any count and any sum.
 pub struct Account {
@@ -45,16 +44,33 @@ fn is_full(a: Account) -> bool
     1000000 <= a.count
 }
 
-// The account grown by a frame: one more in the count, one f64 addition to the sum.
+// The account grown by a frame: one more in the count, one f64 addition to the sum. A full account stays as it is.
 fn grow(a: Account, energy: u64, n: usize) -> Account
-    requires { ⌜ (a .count < 1000000) × Measured energy n ⌝ }
-    ensures { λ r. ⌜ r ≡ grown a energy n ⌝ }
+    requires { ⌜ Measured energy n ⌝ }
+    ensures { λ r. ⌜ r ≡ cond (full a) a (grown a energy n) ⌝ }
 {
     let p = power(energy, n);
+    if is_full(a) {
+        return a;
+    }
     Account {
         count: a.count + 1,
         sum: a.sum + p,
     }
+}
+
+// The tests: those of sending, and then whether the account is full; n coordinates are lent.
+fn refusal(kind: u8, grade: u8, message: &[u8], n: usize, account: Account) -> u8
+    ensures { λ r. ⌜ r ≡ countedRefusal kind grade (now (message .entry)) n account ⌝ }
+{
+    let first = sending::test(kind, grade, message, n);
+    if first != 0 {
+        return first;
+    }
+    if is_full(account) {
+        return 11;
+    }
+    0
 }
 
 // A refusal: no energy, and the account as it came.
@@ -77,22 +93,19 @@ pub fn send_counted(
     account: Account,
 ) -> Counted
     ensures number { λ r. ⌜ r .number ≡ countedRefusal kind grade (now (message .entry)) (length (now (frame .entry))) account ⌝ }
-    ensures frame { λ r. ⌜ now (frame .exit) ≡ countedFrame kind grade (now (message .entry)) (now (frame .entry)) account ⌝ }
-    ensures energy { λ r. ⌜ r .energy ≡ countedEnergy kind grade (now (message .entry)) (length (now (frame .entry))) account ⌝ }
-    ensures account { λ r. ⌜ r .account ≡ countedAccount kind grade (now (message .entry)) (length (now (frame .entry))) account ⌝ }
+    ensures frame { λ r. ⌜ now (frame .exit) ≡ frameAfter (r .number) kind grade (now (message .entry)) (now (frame .entry)) ⌝ }
+    ensures energy { λ r. ⌜ r .energy ≡ energySent (r .number) kind grade (now (message .entry)) ⌝ }
+    ensures account { λ r. ⌜ r .account ≡ countedAccount (r .number) kind grade (now (message .entry)) account ⌝ }
     ensures least { λ r. ⌜ (r .number ≡ 0 → LeastEnergy kind grade (now (frame .exit)) (r .energy)) ⌝ }
 {
     let n = frame.len();
-    let number = sending::test(kind, grade, message, n);
+    let number = refusal(kind, grade, message, n, account);
     if number != 0 {
         return refused(number, account);
     }
-    if is_full(account) {
-        return refused(11, account);
-    }
     let sent = sending::send(kind, grade, message, frame);
     Counted {
-        number: 0,
+        number,
         energy: sent.energy,
         account: grow(account, sent.energy, n),
     }

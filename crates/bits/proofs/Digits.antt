@@ -2,13 +2,10 @@
 use Prim.Native.Nat.{ℕ, zero, suc, _+_, _-_, _*_, _/_, _%_, _^_, _≤_, _<_, min}
 use mathlib.Core.Path.{_≡_, refl, sym, ap, _∙_}
 use native.Mathlib.Nat.{add-zero, min-zero, min-le-left, min-eq-left, div-one, div-eq-of-lt, zero-div, mod-eq-of-lt, pow-suc, mul-comm}
-use native.Mathlib.Decide.{decLt, ℕ-discrete}
 use native.Mathlib.Omega.{arith}
 use lib.Pow.{high, field, split, shl-shr, shr-shr, pow-mono, pow-lt}
 use lib.Bits.{bitAnd, bitXor, and-step, and-shr, xor-step, xor-shr, differ}
-use borrow.Author.Tests.{eq-eqb, ne-eqb}
-use lib.Dec.{eqb}
-use Rattle.bits.specs.Number.{given, number}
+use Rattle.bits.specs.Number.{number}
 use Rattle.bits.proofs.Message.{under, number-digits}
 
 abbrev pub digit : ℕ → ℕ → ℕ
@@ -77,22 +74,6 @@ low-shifted x n h = field (x * 2 ^ h) n h ∙ ap (λ (y : ℕ). y % 2 ^ n) (shl-
 -- the digits from p on
 pub digit-from : (x p i : ℕ) → digit (x / 2 ^ p) i ≡ digit x (p + i)
 digit-from x p i = ap (λ (y : ℕ). y % 2) (shr-shr x p i)
-
--- a bit b at S
-pub bit-digit : (b S W p : ℕ) → b < 2 → p < W → digit (b * 2 ^ S % 2 ^ W) p ≡ given (eqb p S) b
-bit-digit b S W p hb u = go (ℕ-discrete p S) (decLt p S)
-  where
-    go : Dec (p ≡ S) → Dec (p < S) → digit (b * 2 ^ S % 2 ^ W) p ≡ given (eqb p S) b
-    go (yes e) l =
-        let z : p - S ≡ 0 = omega arith in
-        rw (eq-eqb p S e)
-        (shift-digit b S W p (omega arith) u ∙ ap (λ (i : ℕ). digit b i) z ∙ ap (λ (y : ℕ). y % 2) (div-one b) ∙ mod-eq-of-lt hb)
-    go (no n) (yes l) =
-        rw (ne-eqb p S n) (shift-low b S W p l u)
-    go (no n) (no k) =
-        rw (ne-eqb p S n)
-        (shift-digit b S W p (omega arith) u
-        ∙ digit-past b 1 (p - S) hb (omega arith))
 
 -- ---- k digits more, at the low end
 

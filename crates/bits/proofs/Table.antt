@@ -1,14 +1,12 @@
--- Lists of the values of a function: length, entries, one value more. Assumes nothing.
+-- Lists of the values of a function: length, entries, tables that are filled from the first value on. Assumes nothing.
 use Prim.Native.Nat.{ℕ, zero, suc, _+_, _≤_, _<_}
 use mathlib.Core.Path.{_≡_, refl, sym, ap, ap₂, _∙_}
-use mathlib.Core.List.{List, [], _∷_, _++_, append-assoc, append-nil}
-use native.Mathlib.Nat.{add-zero, add-suc}
-use native.Mathlib.Numerals.{add-one}
+use mathlib.Core.List.{List, [], _∷_, _++_}
 use native.Mathlib.Decide.{decLt, ℕ-discrete}
 use native.Mathlib.Omega.{arith}
 use lib.Dec.{ltb}
-use lib.ListN.{length, getD, take, set, length-append, length-set, List·getD-append}
-use lib.Seq.{ext-getD, getD-set-same, getD-set-other, getD-at, take-suc-set, take-append-add, take-append-seam, length-take-le}
+use lib.ListN.{length, getD, set, length-append, length-set, List·getD-append}
+use lib.Seq.{ext-getD, getD-set-same, getD-set-other, getD-at}
 use borrow.Author.Tests.{lt-ltb, le-ltb}
 use Rattle.bits.specs.Number.{given, table}
 
@@ -27,35 +25,11 @@ table-at f (suc n) k h = go (table-at f n k) (decLt k n)
     go ih (yes l) = List·getD-append (table n f) (f n ∷ []) 0 k (omega (arith, length-table f n)) ∙ ih l
     go ih (no x) = getD-at (table n f) (f n) [] 0 k (omega (arith, length-table f n)) ∙ ap f (omega arith)
 
--- one more value
-pub table-none : (f : ℕ → ℕ) → [] ≡ table 0 f
-unfolding table
-table-none f = refl
-
-pub table-more : (f : ℕ → ℕ) (w : List ℕ) (k v : ℕ) → k < length w → v ≡ f k → take k w ≡ table k f → take (k + 1) (set w k v) ≡ table (k + 1) f
-unfolding table
-table-more f w k v h e t = rw (add-one, take-suc-set w k v) (ap₂ (λ (xs : List ℕ) (y : ℕ). xs ++ (y ∷ [])) t e)
-
 pub table-ext : (n : ℕ) {f g : ℕ → ℕ} → ((k : ℕ) → k < n → f k ≡ g k) → table n f ≡ table n g
 unfolding table
 table-ext zero h = refl
 table-ext (suc n) h =
     ap₂ (λ (xs : List ℕ) (y : ℕ). xs ++ (y ∷ [])) (table-ext n (λ k l. h k (omega arith))) (h n (omega arith))
-
--- ---- several values more
-
-pub table-join : (f : ℕ → ℕ) (n k : ℕ) → table (n + k) f ≡ table n f ++ table k (λ i. f (n + i))
-unfolding table
-table-join f n zero = rw (add-zero, append-nil)
-table-join f n (suc k) = rw (add-suc, table-join f n k, append-assoc)
-
--- the part of w from a on, overwritten by the next k values
-pub table-part : (f : ℕ → ℕ) (w : List ℕ) (a k : ℕ) (ys zs : List ℕ) → a ≤ length w → ys ≡ table k (λ i. f (a + i)) → take a w ≡ table a f
-    → take (a + k) (take a w ++ (ys ++ zs)) ≡ table (a + k) f
-table-part f w a k ys zs h e t =
-    ap₂ (λ (i j : ℕ). take (i + j) (take a w ++ (ys ++ zs))) (sym (length-take-le a w h)) (sym (ap length e ∙ length-table _ k))
-    ∙ take-append-add (take a w) (ys ++ zs) (length ys)
-    ∙ ap₂ _++_ t (take-append-seam ys zs ∙ e) ∙ sym (table-join f a k)
 
 -- ---- a table filled from the first value on
 

@@ -20,7 +20,8 @@ filled-next t y i v f h e = record {
   long = length-set y i v ∙ f .long;
   low = omega arith;
   same = ap (λ (n : ℕ). take n (set y i v)) {x = i + 1} {y = suc i} (omega arith) ∙ take-suc-set y i v (omega (arith, f .long))
-      ∙ ap (λ l. l ++ v ∷ []) (f .same) ∙ ap (λ z. take i t ++ z ∷ []) e ∙ sym (take-suc t i (pos 0) h) ∙ ap (λ (n : ℕ). take n t) {x = suc i} {y = i + 1} (omega arith);
+      ∙ ap (λ l. l ++ v ∷ []) (f .same) ∙ ap (λ z. take i t ++ z ∷ []) e ∙ sym (take-suc t i (pos 0) h)
+      ∙ ap (λ (n : ℕ). take n t) {x = suc i} {y = i + 1} (omega arith);
 }
 
 pub filled-all : (t y : List ℤ) (i : ℕ) → Filled t y i → length t ≤ i → y ≡ t

@@ -48,7 +48,9 @@ module _ (k : ℕ) (z : ℤ) (small : k ≤ 9) (size : natAbs z ≤ 2 ^ 30) wher
       go (negsuc n) e = omega (arith, e, size, abs-ud z, modZ-lt z (2 ^ k) M-pos, M-small)
 
   pub floor-fits : SFits w32 (z -ℤ pos (modZ z (2 ^ k)))
-  floor-fits = sfits! w32 (` z ⊖ # (modZ z (2 ^ k))) (omega (arith, modZ-lt z (2 ^ k) M-pos, M-small, abs-ud z, size)) (omega (arith, modZ-lt z (2 ^ k) M-pos, M-small, abs-ud z, size))
+  floor-fits =
+      let l = modZ-lt z (2 ^ k) M-pos in
+      sfits! w32 (` z ⊖ # (modZ z (2 ^ k))) (omega (arith, l, M-small, abs-ud z, size)) (omega (arith, l, M-small, abs-ud z, size))
 
   pub remainder-is : z -ℤ (z -ℤ pos (modZ z (2 ^ k))) ≡ pos (modZ z (2 ^ k))
   remainder-is = eq! (` z ⊖ (` z ⊖ # (modZ z (2 ^ k)))) (# (modZ z (2 ^ k))) (omega arith)
@@ -56,8 +58,21 @@ module _ (k : ℕ) (z : ℤ) (small : k ≤ 9) (size : natAbs z ≤ 2 ^ 30) wher
   pub fits-remainder : SFits w32 (pos (modZ z (2 ^ k)))
   fits-remainder = sfits! w32 (# (modZ z (2 ^ k))) (omega (arith, modZ-lt z (2 ^ k) M-pos, M-small)) (omega arith)
 
+-- ---- powers of two
+
 pub double : (k : ℕ) → 2 ^ (k + 1) ≡ 2 * 2 ^ k
 double k = simp (add-one, pow-succ')
+
+pub quadruple : (k : ℕ) → 2 ^ (k + 2) ≡ 4 * 2 ^ k
+quadruple k = ap (λ (n : ℕ). 2 ^ n) {x = k + 2} {y = k + 1 + 1} (omega arith) ∙ double (k + 1) ∙ omega (arith, double k)
+
+-- the scales that the code takes: M = 2·H is at most 2^7
+pub record Scale (H : ℕ) : Type 0 where
+  pub some : 0 < H
+  pub small : H ≤ 2 ^ 6
+
+pub scale : (k : ℕ) → k ≤ 6 → Scale (2 ^ k)
+scale k low = record { some = pow-pos k; small = pow-mono {j = 6} low }
 
 pub power-fits : (k : ℕ) → k ≤ 9 → SFits w32 (pos (2 ^ k))
 power-fits k h = fits (pos (2 ^ k)) (omega (arith, pow-mono {i = k} {j = 9} h))

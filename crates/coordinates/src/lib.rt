@@ -60,7 +60,8 @@ pub fn store(x: [i32; 8], part: &mut [i32])
     }
 }
 
-// The square of a coordinate of a sent block, which i16 has room for.
+// The square of a coordinate of a sent block. Such a coordinate is at most M in size, 128 and less, so that i16 has room for it: the compiler then
+// multiplies pairs of 16 bits and adds them at once.
 fn square(z: i32) -> u32
     requires { ⌜ natAbs z ≤ 2 ^ 10 ⌝ }
     ensures { λ r. ⌜ r ≡ sq z ⌝ }
@@ -75,11 +76,11 @@ pub fn block_energy(part: &[i32]) -> u64
     ensures { λ r. ⌜ r ≡ squares (now (part .entry)) ⌝ }
 {
     let mut sum: u32 = 0;
-    let mut i: usize = 0;
-    while i < 8 {
-        let z = part[i];
+    let mut n: usize = 0;
+    while n < 8 {
+        let z = part[n];
         sum += square(z);
-        i += 1;
+        n += 1;
     }
     sum as u64
 }

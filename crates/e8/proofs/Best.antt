@@ -3,7 +3,7 @@ use mathlib.Core.Path.{_≡_, refl, sym, ap, subst}
 use mathlib.Core.Logic.{_⊎_, inl, inr}
 use mathlib.Core.Bool.{Bool, true, false, not, true≢false}
 use mathlib.Core.List.{List, [], _∷_}
-use Prim.Native.Nat.{ℕ, suc, _+_, _*_, _-_, _<_}
+use Prim.Native.Nat.{ℕ, suc, _+_, _*_, _<_}
 use native.Mathlib.Nat.{eq-of-mul-eq-mul-left}
 use native.Mathlib.Omega.{arith}
 use lib.ListN.{length, getD}
@@ -15,7 +15,7 @@ use Rattle.integers.specs.Integer.{modZ}
 use Rattle.e8.specs.Energy.{energy}
 use Rattle.e8.specs.Order.{Reads}
 use Rattle.e8.specs.Lattice.{sum, bit, moved}
-use Rattle.e8.specs.Least.{cent, best}
+use Rattle.e8.specs.Least.{cent, better, best}
 use Rattle.e8.proofs.Order.{_≼_, trans, better-left, better-right, better-is, int-cases}
 use Rattle.e8.proofs.Points.{rest, bool-of}
 use Rattle.e8.proofs.Cent.{cent-is, cent-range, turns, First, first, Range}
@@ -144,7 +144,8 @@ least-at : (M : ℕ) (p : Bool) (x : ℤ) (xs zs : List ℤ) (b : Bool → List 
     → ((r : Bool) (ys : List ℤ) → In M r xs ys → b r ≼ ys)
     → (w : Parts M p x xs zs) → (cent M (off M (w .q) x) ∷ b (rest (w .q) p)) ≼ zs
 least-at M p x xs zs b h f w = subst (λ l. (cent M (off M (w .q) x) ∷ b (rest (w .q) p)) ≼ l) (sym (w .cut))
-    (cons-mono (cent M (off M (w .q) x)) (w .z₀) (b (rest (w .q) p)) (w .z₁) (cent-first M (off M (w .q) x) (w .s) (w .z₀) h (w .head)) (f (rest (w .q) p) (w .z₁) (w .tail)))
+    (cons-mono (cent M (off M (w .q) x)) (w .z₀) (b (rest (w .q) p)) (w .z₁) (cent-first M (off M (w .q) x) (w .s) (w .z₀) h (w .head))
+    (f (rest (w .q) p) (w .z₁) (w .tail)))
 
 nil-least : (M : ℕ) (r : Bool) (ys : List ℤ) → In M r [] ys → [] ≼ ys
 nil-least M r ys i = subst (λ l. [] ≼ l) (sym (only-nil M r ys i .0)) (inr (refl, tt))
@@ -166,9 +167,16 @@ best-least M p x (y ∷ ys) zs h i = go (w .q) (least-at M p x (y ∷ ys) zs (λ
     w : Parts M p x (y ∷ ys) zs
     w = parts M p x (y ∷ ys) zs i
 
+    -- the two candidates that `best` chooses from
+    a : List ℤ
+    a = cent M x ∷ best M p (y ∷ ys)
+
+    c : List ℤ
+    c = cent M (x -ℤ pos M) ∷ best M (not p) (y ∷ ys)
+
     go : (q : Bool) → (cent M (off M q x) ∷ best M (rest q p) (y ∷ ys)) ≼ zs → best M p (x ∷ y ∷ ys) ≼ zs
-    go false l = trans (best M p (x ∷ y ∷ ys)) (cent M x ∷ best M p (y ∷ ys)) zs (better-left (cent M x ∷ best M p (y ∷ ys)) (cent M (x -ℤ pos M) ∷ best M (not p) (y ∷ ys))) l
-    go true l = trans (best M p (x ∷ y ∷ ys)) (cent M (x -ℤ pos M) ∷ best M (not p) (y ∷ ys)) zs (better-right (cent M x ∷ best M p (y ∷ ys)) (cent M (x -ℤ pos M) ∷ best M (not p) (y ∷ ys))) l
+    go false l = trans (better a c) a zs (better-left a c) l
+    go true l = trans (better a c) c zs (better-right a c) l
 
 -- ---- every coordinate is in [−M, M)
 
@@ -189,7 +197,8 @@ best-range M p (x ∷ y ∷ ys) h = better-is (All (Range M)) (cent M x ∷ best
 pub best-head : (M : ℕ) (p : Bool) (x : ℤ) (xs : List ℤ) → 0 < M → (u : ℤ) × (getD (best M p (x ∷ xs)) 0 (pos 0) ≡ x -ℤ pos M *ℤ u)
 best-head M p x xs h = let i = best-in M p x xs h in go (i .us) (i .long) (i .is)
   where
-    go : (us : List ℤ) → length us ≡ suc (length xs) → best M p (x ∷ xs) ≡ moved M (x ∷ xs) us → (u : ℤ) × (getD (best M p (x ∷ xs)) 0 (pos 0) ≡ x -ℤ pos M *ℤ u)
+    go : (us : List ℤ) → length us ≡ suc (length xs) → best M p (x ∷ xs) ≡ moved M (x ∷ xs) us
+        → (u : ℤ) × (getD (best M p (x ∷ xs)) 0 (pos 0) ≡ x -ℤ pos M *ℤ u)
     go [] l e = absurd (omega arith)
     go (u ∷ us) l e = (u, ap (λ z. getD z 0 (pos 0)) e)
 

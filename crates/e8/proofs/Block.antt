@@ -10,7 +10,7 @@ use lib.IntN.{ℤ, pos, _+ℤ_, _-ℤ_, _*ℤ_}
 use lib.Signed.{shrZ}
 use Rattle.integers.proofs.Zed.{`_, #_, _⊕_, _⊖_, _⊗_, eq!, eq?}
 use Rattle.integers.specs.Integer.{modZ}
-use Rattle.integers.proofs.Floor.{div-mod, rem-is}
+use Rattle.integers.proofs.Floor.{div-mod, rem-is, multiple-rem}
 use Rattle.e8.specs.Lattice.{sum, bit, Each, moved, InBlock}
 use Rattle.e8.specs.Least.{better, best, lowered, leastBlock}
 use Rattle.e8.proofs.Order.{_≼_, trans, better-left, better-right, better-is}
@@ -83,8 +83,8 @@ module _ (H j : ℕ) (xs zs : List ℤ) (size : length xs ≡ 4 * j) where
         point = record {
           odd = b;
           same = grown-each b (i .us);
-          four = rem-is (sum (grown b (i .us))) 4 (i .half +ℤ pos (bit b * j)) 0 (omega arith)
-              (eq! (` (sum (grown b (i .us)))) (# 4 ⊗ (` (i .half) ⊕ # (bit b * j)) ⊕ # 0)
+          four = multiple-rem (sum (grown b (i .us))) 4 (i .half +ℤ pos (bit b * j)) (omega arith)
+              (eq! (` (sum (grown b (i .us)))) (# 4 ⊗ (` (i .half) ⊕ # (bit b * j)))
               (omega (
                 arith,
                 eq? (` (sum (grown b (i .us)))) (# 2 ⊗ ` (sum (i .us)) ⊕ # (bit b * length (i .us))) (grown-sum b (i .us)),
@@ -124,7 +124,8 @@ module _ (H : ℕ) (pos-H : 0 < H) where
   block-in j [] size = absurd (omega arith)
   block-in j (x ∷ xs) size = better-is (InBlock H (x ∷ xs)) (best (2 * H) false (x ∷ xs)) (best (2 * H) false (lowered (pos H) (x ∷ xs)))
       (into H (suc j) (x ∷ xs) (best (2 * H) false (x ∷ xs)) size false (best-in (2 * H) false x xs (omega arith)))
-      (into H (suc j) (x ∷ xs) (best (2 * H) false (lowered (pos H) (x ∷ xs))) size true (best-in (2 * H) false (x -ℤ pos H) (lowered (pos H) xs) (omega arith)))
+      (into H (suc j) (x ∷ xs) (best (2 * H) false (lowered (pos H) (x ∷ xs))) size true
+      (best-in (2 * H) false (x -ℤ pos H) (lowered (pos H) xs) (omega arith)))
 
   pub block-least : (j : ℕ) (xs zs : List ℤ) → length xs ≡ 4 * suc j → InBlock H xs zs → leastBlock H xs ≼ zs
   unfolding leastBlock

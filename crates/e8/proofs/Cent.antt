@@ -17,6 +17,10 @@ pub record Range (M : ℕ) (c : ℤ) : Type 0 where
   pub low : down c ≤ up c + M
   pub high : up c < down c + M
 
+pub range-abs : (M : ℕ) (c : ℤ) → Range M c → natAbs c ≤ M
+range-abs M (pos n) r = omega (arith, r .high)
+range-abs M (negsuc n) r = omega (arith, r .low)
+
 pub cent-range : (M : ℕ) (x : ℤ) → 0 < M → Range M (cent M x)
 unfolding cent
 cent-range M x h =
@@ -56,8 +60,11 @@ first M c z (pos zero) r e = inr (ap sq {x = c} {y = z} (eq! (` c) (` z) (omega 
     f : up z + down c ≡ up c + down z
     f = omega (arith, eq? (` z) (` c ⊖ # M ⊗ (# 2 ⊗ # 0)) e)
 first M c (pos z) (pos (suc k)) r e = absurd (omega (arith, r .low, r .high, eq? (` (pos z)) (` c ⊖ # M ⊗ (# 2 ⊗ # (suc k))) e))
-first M (pos c) (negsuc z) (pos (suc k)) r e = less (pos c) (negsuc z) (omega (arith, r .low, r .high, eq? (` (negsuc z)) (` (pos c) ⊖ # M ⊗ (# 2 ⊗ # (suc k))) e))
-first M (negsuc c) (negsuc z) (pos (suc k)) r e = less (negsuc c) (negsuc z) (omega (arith, r .low, r .high, eq? (` (negsuc z)) (` (negsuc c) ⊖ # M ⊗ (# 2 ⊗ # (suc k))) e))
+first M (pos c) (negsuc z) (pos (suc k)) r e = less (pos c) (negsuc z)
+    (omega (arith, r .low, r .high, eq? (` (negsuc z)) (` (pos c) ⊖ # M ⊗ (# 2 ⊗ # (suc k))) e))
+first M (negsuc c) (negsuc z) (pos (suc k)) r e = less (negsuc c) (negsuc z)
+    (omega (arith, r .low, r .high, eq? (` (negsuc z)) (` (negsuc c) ⊖ # M ⊗ (# 2 ⊗ # (suc k))) e))
 first M c (negsuc z) (negsuc k) r e = absurd (omega (arith, r .low, r .high, eq? (` (negsuc z)) (` c ⊖ # M ⊗ (# 2 ⊗ ⊝ # (suc k))) e))
 first M (pos c) (pos z) (negsuc k) r e = less (pos c) (pos z) (omega (arith, r .low, r .high, eq? (` (pos z)) (` (pos c) ⊖ # M ⊗ (# 2 ⊗ ⊝ # (suc k))) e))
-first M (negsuc c) (pos z) (negsuc k) r e = least (negsuc c) (pos z) (omega (arith, r .low, r .high, eq? (` (pos z)) (` (negsuc c) ⊖ # M ⊗ (# 2 ⊗ ⊝ # (suc k))) e)) (ud-le (negsuc c) (pos z) (omega arith))
+first M (negsuc c) (pos z) (negsuc k) r e = least (negsuc c) (pos z)
+    (omega (arith, r .low, r .high, eq? (` (pos z)) (` (negsuc c) ⊖ # M ⊗ (# 2 ⊗ ⊝ # (suc k))) e)) (ud-le (negsuc c) (pos z) (omega arith))

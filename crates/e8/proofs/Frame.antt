@@ -2,16 +2,16 @@
 use mathlib.Core.Path.{_≡_, refl, sym, _∙_, ap, subst, subst₂}
 use mathlib.Core.Logic.{inl, inr}
 use mathlib.Core.List.{List, [], _∷_, _++_, append-nil, append-assoc}
-use Prim.Native.Nat.{ℕ, zero, suc, _+_, _*_, _-_, _<_, _≤_}
+use Prim.Native.Nat.{ℕ, zero, suc, _+_, _*_, _<_}
 use native.Mathlib.Omega.{arith}
 use lib.ListN.{length, take, drop, length-take, length-drop, length-append, take-append-drop}
 use lib.Seq.{drop-drop, take-at, drop-at}
-use lib.IntN.{ℤ, pos, negsuc, natAbs}
+use lib.IntN.{ℤ}
 use Rattle.e8.specs.Energy.{energy, Within}
 use Rattle.e8.specs.Lattice.{InBlock, part, Differ}
 use Rattle.e8.specs.Least.{IsLeast, leastBlock, leastFrame}
 use Rattle.e8.proofs.Order.{_≼_, reads-antisym, append-mono}
-use Rattle.e8.proofs.Cent.{Range}
+use Rattle.e8.proofs.Cent.{Range, range-abs}
 use Rattle.e8.proofs.Best.{All}
 use Rattle.e8.proofs.Group.{block-refl, block-sym, block-trans, block-length}
 use Rattle.e8.proofs.Block.{block-in, block-least, block-range}
@@ -25,7 +25,10 @@ pub differ-sym : (H n : ℕ) (xs ys : List ℤ) → Differ H n xs ys → Differ 
 differ-sym H n xs ys d = record { long = sym (d .long); blocks = λ i h. block-sym H (part i xs) (part i ys) (d .blocks i h) }
 
 pub differ-trans : (H n : ℕ) (xs ys zs : List ℤ) → Differ H n xs ys → Differ H n ys zs → Differ H n xs zs
-differ-trans H n xs ys zs d e = record { long = e .long ∙ d .long; blocks = λ i h. block-trans H (part i xs) (part i ys) (part i zs) (d .blocks i h) (e .blocks i h) }
+differ-trans H n xs ys zs d e = record {
+  long = e .long ∙ d .long;
+  blocks = λ i h. block-trans H (part i xs) (part i ys) (part i zs) (d .blocks i h) (e .blocks i h);
+}
 
 -- ---- one block and the rest
 
@@ -57,11 +60,7 @@ all-append P (z ∷ a) b h k = (h .0, all-append P a b (h .1) k)
 
 range-within : (M : ℕ) (zs : List ℤ) → All (Range M) zs → Within M zs
 range-within M [] h = tt
-range-within M (z ∷ zs) h = (range-abs z (h .0), range-within M zs (h .1))
-  where
-    range-abs : (z : ℤ) → Range M z → natAbs z ≤ M
-    range-abs (pos n) r = omega (arith, r .high)
-    range-abs (negsuc n) r = omega (arith, r .low)
+range-within M (z ∷ zs) h = (range-abs M z (h .0), range-within M zs (h .1))
 
 -- ---- the least frame
 
@@ -72,7 +71,10 @@ module _ (H : ℕ) (pos-H : 0 < H) where
   pub frame-size : (n : ℕ) (x : List ℤ) → length x ≡ 8 * n → length (leastFrame H n x) ≡ 8 * n
   unfolding leastFrame
   frame-size zero x l = omega arith
-  frame-size (suc n) x l = simp length-append (omega (arith, block-size (take 8 x) (simp length-take (omega arith)), frame-size n (drop 8 x) (simp length-drop (omega arith))))
+  frame-size (suc n) x l =
+      let a = block-size (take 8 x) (simp length-take (omega arith)) in
+      let b = frame-size n (drop 8 x) (simp length-drop (omega arith)) in
+      simp length-append (omega (arith, a, b))
 
   frame-in : (n : ℕ) (x : List ℤ) → length x ≡ 8 * n → Differ H n x (leastFrame H n x)
   unfolding leastFrame
@@ -116,7 +118,8 @@ module _ (H : ℕ) (pos-H : 0 < H) where
   frame-range : (n : ℕ) (x : List ℤ) → All (Range (2 * H)) (leastFrame H n x)
   unfolding leastFrame
   frame-range zero x = tt
-  frame-range (suc n) x = all-append (Range (2 * H)) (leastBlock H (take 8 x)) (leastFrame H n (drop 8 x)) (block-range H pos-H (take 8 x)) (frame-range n (drop 8 x))
+  frame-range (suc n) x =
+      all-append (Range (2 * H)) (leastBlock H (take 8 x)) (leastFrame H n (drop 8 x)) (block-range H pos-H (take 8 x)) (frame-range n (drop 8 x))
 
   pub leastFrame-within : (n : ℕ) (x : List ℤ) → Within (2 * H) (leastFrame H n x)
   leastFrame-within n x = range-within (2 * H) (leastFrame H n x) (frame-range n x)

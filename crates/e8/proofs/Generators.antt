@@ -1,17 +1,24 @@
--- The rows of matrix (39), scaled, generate exactly the scaled lattice: whole combinations of them are its points, and each point is one
+-- The rows of matrix (39), scaled, generate exactly the scaled lattice: whole combinations of them are its points, and each point is one.
+-- A point reduced by the rows leaves 0, since 0 is in range and in its class; so it is the combination that was taken off
 use mathlib.Core.Path.{_≡_, refl, sym, _∙_, ap, subst}
-use mathlib.Core.Bool.{Bool, true, false}
-use mathlib.Core.List.{List, [], _∷_}
-use Prim.Native.Nat.{ℕ, _*_}
+use mathlib.Core.Bool.{Bool, true, false, _&&_, _||_}
+use mathlib.Core.List.{List, [], _∷_, map}
+use Prim.Native.Nat.{ℕ, zero, suc, _*_, _<_, _%_}
 use native.Mathlib.Omega.{arith}
-use lib.ListN.{length}
-use lib.IntN.{ℤ, pos, _+ℤ_, _-ℤ_, _*ℤ_}
+use borrow.Author.Tests.{eqb-true}
+use lib.Dec.{eqb}
+use lib.ListN.{length, getD}
+use lib.IntN.{ℤ, pos, _+ℤ_, _-ℤ_, _*ℤ_, natAbs}
 use lib.Signed.{shrZ}
 use Rattle.integers.specs.Integer.{modZ}
-use Rattle.integers.proofs.Zed.{E, `_, #_, _⊕_, _⊖_, _⊗_, ⟦_⟧, eq!, eq?}
-use Rattle.e8.specs.Lattice.{sum, bit, Each, TwoE8}
-use Rattle.e8.specs.Rows.{ints, times, add, rows, combination}
-use Rattle.e8.proofs.Points.{of-bit, of-four, add-length, add-point, times-length, times-point}
+use Rattle.integers.proofs.Zed.{`_, #_, _⊕_, _⊖_, _⊗_, eq!, eq?}
+use Rattle.e8.specs.Lattice.{sum, bit, Each, TwoE8, moved, InBlock}
+use Rattle.e8.specs.Rows.{ints, times, add, matrix, rows, combination, takenOff, reducedBy, reduced, Ranged}
+use Rattle.e8.proofs.Points.{add-length, add-point, times-length, times-point}
+use Rattle.e8.proofs.Group.{block-sym, block-trans}
+use Rattle.e8.proofs.Rows.{ints-length, reduced-in, reduced-ranged, ranged-unique}
+use Rattle.e8.proofs.Reduction.{of-eight, reduced-rows}
+use Rattle.e8.proofs.Within.{and-both}
 
 -- v is h times a point of 2·E8
 pub record Point (h : ℕ) (v : List ℤ) : Type 0 where
@@ -19,6 +26,48 @@ pub record Point (h : ℕ) (v : List ℤ) : Type 0 where
   pub long : length ws ≡ 8
   pub is : v ≡ times (pos h) ws
   pub point : TwoE8 ws
+
+abbrev none : List ℤ
+none = ints (0 ∷ 0 ∷ 0 ∷ 0 ∷ 0 ∷ 0 ∷ 0 ∷ 0 ∷ [])
+
+-- ---- each row is a point, by a test
+
+abbrev eachIs : ℕ → List ℕ → Bool
+eachIs r [] = true
+eachIs r (n ∷ ns) = eqb (n % 2) r && eachIs r ns
+
+abbrev isPoint : List ℕ → Bool
+isPoint row = (eachIs 0 row || eachIs 1 row) && (eqb (modZ (sum (ints row)) 4) 0 && eqb (length row) 8)
+
+abbrev arePoints : List (List ℕ) → Bool
+arePoints [] = true
+arePoints (row ∷ rest) = isPoint row && arePoints rest
+
+each-is : (b : Bool) (row : List ℕ) → eachIs (bit b) row ≡ true → Each b (ints row)
+each-is b [] e = tt
+each-is b (n ∷ ns) e = let t = and-both (eqb (n % 2) (bit b)) (eachIs (bit b) ns) e in (eqb-true (n % 2) (bit b) (t .0), each-is b ns (t .1))
+
+row-point : (h : ℕ) (row : List ℕ) → isPoint row ≡ true → Point h (times (pos h) (ints row))
+row-point h row e =
+    let t = and-both (eachIs 0 row || eachIs 1 row) (eqb (modZ (sum (ints row)) 4) 0 && eqb (length row) 8) e in
+    let u = and-both (eqb (modZ (sum (ints row)) 4) 0) (eqb (length row) 8) (t .1) in
+    let f = eqb-true (modZ (sum (ints row)) 4) 0 (u .0) in
+    record { ws = ints row; long = ints-length row ∙ eqb-true (length row) 8 (u .1); is = refl; point = go f (eachIs 0 row) refl (t .0) }
+  where
+    go : modZ (sum (ints row)) 4 ≡ 0 → (s : Bool) → eachIs 0 row ≡ s → (s || eachIs 1 row) ≡ true → TwoE8 (ints row)
+    go f true d e = record { odd = false; same = each-is false row d; four = f }
+    go f false d e = record { odd = true; same = each-is true row e; four = f }
+
+abbrev Points : ℕ → List (List ℤ) → Type 0
+Points h [] = Unit {0}
+Points h (r ∷ rs) = Point h r × Points h rs
+
+all-points : (h : ℕ) (ms : List (List ℕ)) → arePoints ms ≡ true → Points h (map (λ row. times (pos h) (ints row)) ms)
+all-points h [] e = tt
+all-points h (row ∷ ms) e = let t = and-both (isPoint row) (arePoints ms) e in (row-point h row (t .0), all-points h ms (t .1))
+
+rows-points : (h : ℕ) → Points h (rows h)
+rows-points h = all-points h matrix refl
 
 -- ---- every combination is a point
 
@@ -31,57 +80,11 @@ times-add h [] vs = refl
 times-add h (w ∷ ws) [] = refl
 times-add h (w ∷ ws) (v ∷ vs) = cc (eq! (# h ⊗ ` w ⊕ # h ⊗ ` v) (# h ⊗ (` w ⊕ ` v)) (omega arith), times-add h ws vs)
 
--- the first row is all odd, the others are doubles
-abbrev doubles : List ℕ → List ℕ
-doubles [] = []
-doubles (n ∷ ns) = 2 * n ∷ doubles ns
+times-none : (h : ℕ) → times (pos h) none ≡ none
+times-none h = cc (eq! (# h ⊗ # 0) (# 0) (omega arith))
 
-doubles-each : (ns : List ℕ) → Each false (ints (doubles ns))
-doubles-each [] = tt
-doubles-each (n ∷ ns) = (omega arith, doubles-each ns)
-
-ones : (h : ℕ) → Point h (times (pos h) (ints (1 ∷ 1 ∷ 1 ∷ 1 ∷ 1 ∷ 1 ∷ 1 ∷ 1 ∷ [])))
-ones h = record {
-  ws = ints (1 ∷ 1 ∷ 1 ∷ 1 ∷ 1 ∷ 1 ∷ 1 ∷ 1 ∷ []);
-  long = refl;
-  is = refl;
-  point = record { odd = true; same = (refl, (refl, (refl, (refl, (refl, (refl, (refl, (refl, tt)))))))); four = refl };
-}
-
-row : (h : ℕ) (ns : List ℕ) → length (ints (doubles ns)) ≡ 8 → modZ (sum (ints (doubles ns))) 4 ≡ 0 → Point h (times (pos h) (ints (doubles ns)))
-row h ns l f = record { ws = ints (doubles ns); long = l; is = refl; point = record { odd = false; same = doubles-each ns; four = f } }
-
-abbrev Points : ℕ → List (List ℤ) → Type 0
-Points h [] = Unit {0}
-Points h (r ∷ rs) = Point h r × Points h rs
-
-rows-points : (h : ℕ) → Points h (rows h)
-rows-points h = (
-  ones h,
-  (
-    row h (0 ∷ 1 ∷ 0 ∷ 0 ∷ 0 ∷ 0 ∷ 0 ∷ 1 ∷ []) refl refl,
-    (
-      row h (0 ∷ 0 ∷ 1 ∷ 0 ∷ 0 ∷ 0 ∷ 0 ∷ 1 ∷ []) refl refl,
-      (
-        row h (0 ∷ 0 ∷ 0 ∷ 1 ∷ 0 ∷ 0 ∷ 0 ∷ 1 ∷ []) refl refl,
-        (
-          row h (0 ∷ 0 ∷ 0 ∷ 0 ∷ 1 ∷ 0 ∷ 0 ∷ 1 ∷ []) refl refl,
-          (
-            row h (0 ∷ 0 ∷ 0 ∷ 0 ∷ 0 ∷ 1 ∷ 0 ∷ 1 ∷ []) refl refl,
-            (
-              row h (0 ∷ 0 ∷ 0 ∷ 0 ∷ 0 ∷ 0 ∷ 1 ∷ 1 ∷ []) refl refl,
-              (row h (0 ∷ 0 ∷ 0 ∷ 0 ∷ 0 ∷ 0 ∷ 0 ∷ 2 ∷ []) refl refl, tt),
-            ),
-          ),
-        ),
-      ),
-    ),
-  ),
-)
-
-zero-point : (h : ℕ) → Point h (ints (0 ∷ 0 ∷ 0 ∷ 0 ∷ 0 ∷ 0 ∷ 0 ∷ 0 ∷ []))
-zero-point h = subst (Point h) {x = times (pos h) (ints (0 ∷ 0 ∷ 0 ∷ 0 ∷ 0 ∷ 0 ∷ 0 ∷ 0 ∷ []))} {y = ints (0 ∷ 0 ∷ 0 ∷ 0 ∷ 0 ∷ 0 ∷ 0 ∷ 0 ∷ [])} (cc (eq! (# h ⊗ # 0) (# 0) (omega arith)))
-    (row h (0 ∷ 0 ∷ 0 ∷ 0 ∷ 0 ∷ 0 ∷ 0 ∷ 0 ∷ []) refl refl)
+zero-point : (h : ℕ) → Point h none
+zero-point h = subst (Point h) (times-none h) (row-point h (0 ∷ 0 ∷ 0 ∷ 0 ∷ 0 ∷ 0 ∷ 0 ∷ 0 ∷ []) refl)
 
 combined : (h : ℕ) (qs : List ℤ) (rs : List (List ℤ)) → Points h rs → Point h (combination qs rs)
 combined h [] rs ps = zero-point h
@@ -100,90 +103,106 @@ combined h (q ∷ qs) (r ∷ rs) ps =
 pub combination-point : (h : ℕ) (qs : List ℤ) → Point h (combination qs (rows h))
 combination-point h qs = combined h qs (rows h) (rows-points h)
 
+-- ---- what a reduction takes off is a combination, whatever the rows
+
+add-none : (xs : List ℤ) → length xs ≡ 8 → add none xs ≡ xs
+add-none = of-eight (λ xs. add none xs ≡ xs)
+    (λ a b c d e f g k. cc (nothing a, nothing b, nothing c, nothing d, nothing e, nothing f, nothing g, nothing k))
+  where
+    nothing : (x : ℤ) → pos 0 +ℤ x ≡ x
+    nothing x = eq! (# 0 ⊕ ` x) (` x) (omega arith)
+
+add-comm : (xs ys : List ℤ) → add xs ys ≡ add ys xs
+add-comm [] [] = refl
+add-comm [] (y ∷ ys) = refl
+add-comm (x ∷ xs) [] = refl
+add-comm (x ∷ xs) (y ∷ ys) = cc (eq! (` x ⊕ ` y) (` y ⊕ ` x) (omega arith), add-comm xs ys)
+
+-- q times a row added and taken off again
+put-back : (q : ℤ) (rs cs zs xs : List ℤ) → length rs ≡ length xs → takenOff q rs xs ≡ add cs zs → xs ≡ add (add (times q rs) cs) zs
+put-back q [] cs zs [] l e = refl
+put-back q [] cs zs (x ∷ xs) l e = absurd (omega arith)
+put-back q (r ∷ rs) cs zs [] l e = absurd (omega arith)
+put-back q (r ∷ rs) [] zs (x ∷ xs) l e = absurd (omega (arith, ap length e))
+put-back q (r ∷ rs) (c ∷ cs) [] (x ∷ xs) l e = absurd (omega (arith, ap length e))
+put-back q (r ∷ rs) (c ∷ cs) (z ∷ zs) (x ∷ xs) l e =
+    let d : x -ℤ q *ℤ r ≡ c +ℤ z = cc in
+    let f : takenOff q rs xs ≡ add cs zs = cc in
+    let g : x ≡ q *ℤ r +ℤ c +ℤ z = eq! (` x) (` q ⊗ ` r ⊕ ` c ⊕ ` z) (omega (arith, eq? (` x ⊖ ` q ⊗ ` r) (` c ⊕ ` z) d)) in
+    cc (g, put-back q rs cs zs xs (omega arith) f)
+
+off-length : (q : ℤ) (rs xs : List ℤ) → length rs ≡ length xs → length (takenOff q rs xs) ≡ length xs
+off-length q [] xs l = omega arith
+off-length q (r ∷ rs) [] l = absurd (omega arith)
+off-length q (r ∷ rs) (x ∷ xs) l = ap suc (off-length q rs xs (omega arith))
+
+record Off (i : ℕ) (rs : List (List ℤ)) (xs : List ℤ) : Type 0 where
+  qs : List ℤ
+  long : length qs ≡ length rs
+  is : xs ≡ add (combination qs rs) (reducedBy i rs xs)
+
+point-length : (h : ℕ) (v : List ℤ) → Point h v → length v ≡ 8
+point-length h v p = ap length (p .is) ∙ times-length (pos h) (p .ws) ∙ p .long
+
+off : (h i : ℕ) (rs : List (List ℤ)) (xs : List ℤ) → Points h rs → length xs ≡ 8 → Off i rs xs
+unfolding reducedBy
+off h i [] xs ps l = record { qs = []; long = refl; is = sym (add-none xs l) }
+off h i (r ∷ rs) xs ps l =
+    let q : ℤ = shrZ (getD xs i (pos 0)) (natAbs (getD r i (pos 0))) in
+    let k : length r ≡ length xs = point-length h r (ps .0) ∙ sym l in
+    let o : Off (suc i) rs (takenOff q r xs) = off h (suc i) rs (takenOff q r xs) (ps .1) (off-length q r xs k ∙ l) in
+    record {
+      qs = q ∷ o .qs;
+      long = ap suc (o .long);
+      is = put-back q r (combination (o .qs) rs) (reducedBy (suc i) rs (takenOff q r xs)) xs k (o .is);
+    }
+
 -- ---- every point is a combination
-
--- a coordinate of a combination: the numbers qs with a column of twice matrix (39), h times; and without h
-abbrev column : ℕ → List ℤ → List ℕ → ℤ
-column h [] ms = pos 0
-column h (q ∷ qs) [] = pos 0
-column h (q ∷ qs) (m ∷ ms) = q *ℤ (pos h *ℤ pos m) +ℤ column h qs ms
-
-abbrev dot : List ℤ → List ℕ → E
-dot [] ms = # 0
-dot (q ∷ qs) [] = # 0
-dot (q ∷ qs) (m ∷ ms) = ` q ⊗ # m ⊕ dot qs ms
-
-column-dot : (h : ℕ) (qs : List ℤ) (ms : List ℕ) → pos h *ℤ ⟦ dot qs ms ⟧ ≡ column h qs ms
-column-dot h [] ms = eq! (# h ⊗ # 0) (# 0) (omega arith)
-column-dot h (q ∷ qs) [] = eq! (# h ⊗ # 0) (# 0) (omega arith)
-column-dot h (q ∷ qs) (m ∷ ms) = eq! (# h ⊗ (` q ⊗ # m ⊕ ` ⟦ dot qs ms ⟧)) (` q ⊗ (# h ⊗ # m) ⊕ ` (column h qs ms)) (omega (arith, eq? (# h ⊗ ` ⟦ dot qs ms ⟧) (` (column h qs ms)) (column-dot h qs ms)))
-
-at : (h : ℕ) (w : ℤ) (qs : List ℤ) (ms : List ℕ) → w ≡ ⟦ dot qs ms ⟧ → pos h *ℤ w ≡ column h qs ms
-at h w qs ms e = ap (λ (z : ℤ). pos h *ℤ z) e ∙ column-dot h qs ms
 
 pub record Combined (h : ℕ) (v : List ℤ) : Type 0 where
   pub qs : List ℤ
   pub long : length qs ≡ 8
   pub is : v ≡ combination qs (rows h)
 
--- q1 = w1; qi is half of wi − w1; and q8 is what is left of the sum's fourth part
-from-eight : (h : ℕ) (w₁ w₂ w₃ w₄ w₅ w₆ w₇ w₈ : ℤ) → TwoE8 (w₁ ∷ w₂ ∷ w₃ ∷ w₄ ∷ w₅ ∷ w₆ ∷ w₇ ∷ w₈ ∷ []) → Combined h (times (pos h) (w₁ ∷ w₂ ∷ w₃ ∷ w₄ ∷ w₅ ∷ w₆ ∷ w₇ ∷ w₈ ∷ []))
-from-eight h w₁ w₂ w₃ w₄ w₅ w₆ w₇ w₈ p =
-    let b : Bool = p .odd in
-    let q₂ : ℤ = shrZ w₂ 2 -ℤ shrZ w₁ 2 in
-    let q₃ : ℤ = shrZ w₃ 2 -ℤ shrZ w₁ 2 in
-    let q₄ : ℤ = shrZ w₄ 2 -ℤ shrZ w₁ 2 in
-    let q₅ : ℤ = shrZ w₅ 2 -ℤ shrZ w₁ 2 in
-    let q₆ : ℤ = shrZ w₆ 2 -ℤ shrZ w₁ 2 in
-    let q₇ : ℤ = shrZ w₇ 2 -ℤ shrZ w₁ 2 in
-    let t : ℤ = shrZ (sum (w₁ ∷ w₂ ∷ w₃ ∷ w₄ ∷ w₅ ∷ w₆ ∷ w₇ ∷ w₈ ∷ [])) 4 in
-    let q₈ : ℤ = t -ℤ pos 2 *ℤ w₁ -ℤ (q₂ +ℤ q₃ +ℤ q₄ +ℤ q₅ +ℤ q₆ +ℤ q₇) in
-    let e₁ : w₁ ≡ pos 2 *ℤ shrZ w₁ 2 +ℤ pos (bit b) = of-bit w₁ b (p .same .0) in
-    let e₂ : w₂ ≡ w₁ +ℤ pos 2 *ℤ q₂ = apart w₁ w₂ b e₁ (of-bit w₂ b (p .same .1 .0)) in
-    let e₃ : w₃ ≡ w₁ +ℤ pos 2 *ℤ q₃ = apart w₁ w₃ b e₁ (of-bit w₃ b (p .same .1 .1 .0)) in
-    let e₄ : w₄ ≡ w₁ +ℤ pos 2 *ℤ q₄ = apart w₁ w₄ b e₁ (of-bit w₄ b (p .same .1 .1 .1 .0)) in
-    let e₅ : w₅ ≡ w₁ +ℤ pos 2 *ℤ q₅ = apart w₁ w₅ b e₁ (of-bit w₅ b (p .same .1 .1 .1 .1 .0)) in
-    let e₆ : w₆ ≡ w₁ +ℤ pos 2 *ℤ q₆ = apart w₁ w₆ b e₁ (of-bit w₆ b (p .same .1 .1 .1 .1 .1 .0)) in
-    let e₇ : w₇ ≡ w₁ +ℤ pos 2 *ℤ q₇ = apart w₁ w₇ b e₁ (of-bit w₇ b (p .same .1 .1 .1 .1 .1 .1 .0)) in
-    let s : w₁ +ℤ (w₂ +ℤ (w₃ +ℤ (w₄ +ℤ (w₅ +ℤ (w₆ +ℤ (w₇ +ℤ (w₈ +ℤ pos 0))))))) ≡ pos 4 *ℤ t = of-four (sum (w₁ ∷ w₂ ∷ w₃ ∷ w₄ ∷ w₅ ∷ w₆ ∷ w₇ ∷ w₈ ∷ [])) (p .four) in
-    let e₈ : w₈ ≡ w₁ +ℤ pos 2 *ℤ (q₂ +ℤ q₃ +ℤ q₄ +ℤ q₅ +ℤ q₆ +ℤ q₇) +ℤ pos 4 *ℤ q₈ = eq! (` w₈) (` w₁ ⊕ # 2 ⊗ (` q₂ ⊕ ` q₃ ⊕ ` q₄ ⊕ ` q₅ ⊕ ` q₆ ⊕ ` q₇) ⊕ # 4 ⊗ (` t ⊖ # 2 ⊗ ` w₁ ⊖ (` q₂ ⊕ ` q₃ ⊕ ` q₄ ⊕ ` q₅ ⊕ ` q₆ ⊕ ` q₇)))
-    (omega (
-      arith,
-      eq? (` w₁ ⊕ (` w₂ ⊕ (` w₃ ⊕ (` w₄ ⊕ (` w₅ ⊕ (` w₆ ⊕ (` w₇ ⊕ (` w₈ ⊕ # 0)))))))) (# 4 ⊗ ` t) s,
-      eq? (` w₂) (` w₁ ⊕ # 2 ⊗ ` q₂) e₂,
-      eq? (` w₃) (` w₁ ⊕ # 2 ⊗ ` q₃) e₃,
-      eq? (` w₄) (` w₁ ⊕ # 2 ⊗ ` q₄) e₄,
-      eq? (` w₅) (` w₁ ⊕ # 2 ⊗ ` q₅) e₅,
-      eq? (` w₆) (` w₁ ⊕ # 2 ⊗ ` q₆) e₆,
-      eq? (` w₇) (` w₁ ⊕ # 2 ⊗ ` q₇) e₇,
-    )) in
-    let qs : List ℤ = w₁ ∷ q₂ ∷ q₃ ∷ q₄ ∷ q₅ ∷ q₆ ∷ q₇ ∷ q₈ ∷ [] in
-    record {
-      qs = qs;
-      long = refl;
-      is = cc (
-        at h w₁ qs (1 ∷ 0 ∷ 0 ∷ 0 ∷ 0 ∷ 0 ∷ 0 ∷ 0 ∷ []) (eq! (` w₁) (dot qs (1 ∷ 0 ∷ 0 ∷ 0 ∷ 0 ∷ 0 ∷ 0 ∷ 0 ∷ [])) (omega arith)),
-        at h w₂ qs (1 ∷ 2 ∷ 0 ∷ 0 ∷ 0 ∷ 0 ∷ 0 ∷ 0 ∷ []) (eq! (` w₂) (dot qs (1 ∷ 2 ∷ 0 ∷ 0 ∷ 0 ∷ 0 ∷ 0 ∷ 0 ∷ [])) (omega (arith, eq? (` w₂) (` w₁ ⊕ # 2 ⊗ ` q₂) e₂))),
-        at h w₃ qs (1 ∷ 0 ∷ 2 ∷ 0 ∷ 0 ∷ 0 ∷ 0 ∷ 0 ∷ []) (eq! (` w₃) (dot qs (1 ∷ 0 ∷ 2 ∷ 0 ∷ 0 ∷ 0 ∷ 0 ∷ 0 ∷ [])) (omega (arith, eq? (` w₃) (` w₁ ⊕ # 2 ⊗ ` q₃) e₃))),
-        at h w₄ qs (1 ∷ 0 ∷ 0 ∷ 2 ∷ 0 ∷ 0 ∷ 0 ∷ 0 ∷ []) (eq! (` w₄) (dot qs (1 ∷ 0 ∷ 0 ∷ 2 ∷ 0 ∷ 0 ∷ 0 ∷ 0 ∷ [])) (omega (arith, eq? (` w₄) (` w₁ ⊕ # 2 ⊗ ` q₄) e₄))),
-        at h w₅ qs (1 ∷ 0 ∷ 0 ∷ 0 ∷ 2 ∷ 0 ∷ 0 ∷ 0 ∷ []) (eq! (` w₅) (dot qs (1 ∷ 0 ∷ 0 ∷ 0 ∷ 2 ∷ 0 ∷ 0 ∷ 0 ∷ [])) (omega (arith, eq? (` w₅) (` w₁ ⊕ # 2 ⊗ ` q₅) e₅))),
-        at h w₆ qs (1 ∷ 0 ∷ 0 ∷ 0 ∷ 0 ∷ 2 ∷ 0 ∷ 0 ∷ []) (eq! (` w₆) (dot qs (1 ∷ 0 ∷ 0 ∷ 0 ∷ 0 ∷ 2 ∷ 0 ∷ 0 ∷ [])) (omega (arith, eq? (` w₆) (` w₁ ⊕ # 2 ⊗ ` q₆) e₆))),
-        at h w₇ qs (1 ∷ 0 ∷ 0 ∷ 0 ∷ 0 ∷ 0 ∷ 2 ∷ 0 ∷ []) (eq! (` w₇) (dot qs (1 ∷ 0 ∷ 0 ∷ 0 ∷ 0 ∷ 0 ∷ 2 ∷ 0 ∷ [])) (omega (arith, eq? (` w₇) (` w₁ ⊕ # 2 ⊗ ` q₇) e₇))),
-        at h w₈ qs (1 ∷ 2 ∷ 2 ∷ 2 ∷ 2 ∷ 2 ∷ 2 ∷ 4 ∷ []) (eq! (` w₈) (dot qs (1 ∷ 2 ∷ 2 ∷ 2 ∷ 2 ∷ 2 ∷ 2 ∷ 4 ∷ [])) (omega (arith, eq? (` w₈) (` w₁ ⊕ # 2 ⊗ (` q₂ ⊕ ` q₃ ⊕ ` q₄ ⊕ ` q₅ ⊕ ` q₆ ⊕ ` q₇) ⊕ # 4 ⊗ ` q₈) e₈))),
-      );
-    }
+cancelled : (h : ℕ) (ws : List ℤ) → length ws ≡ 8 → none ≡ moved h (times (pos h) ws) ws
+cancelled h = of-eight (λ ws. none ≡ moved h (times (pos h) ws) ws)
+    (λ a b c d e f g k. cc (gone a, gone b, gone c, gone d, gone e, gone f, gone g, gone k))
   where
-    apart : (v w : ℤ) (b : Bool) → v ≡ pos 2 *ℤ shrZ v 2 +ℤ pos (bit b) → w ≡ pos 2 *ℤ shrZ w 2 +ℤ pos (bit b) → w ≡ v +ℤ pos 2 *ℤ (shrZ w 2 -ℤ shrZ v 2)
-    apart v w b e f = eq! (` w) (` v ⊕ # 2 ⊗ (` (shrZ w 2) ⊖ ` (shrZ v 2))) (omega (arith, eq? (` v) (# 2 ⊗ ` (shrZ v 2) ⊕ # (bit b)) e, eq? (` w) (# 2 ⊗ ` (shrZ w 2) ⊕ # (bit b)) f))
+    gone : (w : ℤ) → pos 0 ≡ pos h *ℤ w -ℤ pos h *ℤ w
+    gone w = eq! (# 0) (# h ⊗ ` w ⊖ # h ⊗ ` w) (omega arith)
+
+-- a point leaves 0
+reduced-none : (h : ℕ) (ws : List ℤ) → 0 < h → length ws ≡ 8 → TwoE8 ws → ints (reduced h (times (pos h) ws)) ≡ none
+reduced-none h ws p l t =
+    let v : List ℤ = times (pos h) ws in
+    let n : length v ≡ 8 = times-length (pos h) ws ∙ l in
+    let c : InBlock h v none = record { ws = ws; long = l ∙ sym n; is = cancelled h ws l; point = t } in
+    let d : InBlock h (ints (reduced h v)) none = block-trans h (ints (reduced h v)) v none (block-sym h v (ints (reduced h v)) (reduced-in h 1 v p n)) c in
+    sym (ap ints (ranged-unique h (reduced h v) (0 ∷ 0 ∷ 0 ∷ 0 ∷ 0 ∷ 0 ∷ 0 ∷ 0 ∷ []) (reduced-ranged h v p (omega arith)) zeros d))
+  where
+    z : 0 < 2 * h
+    z = omega arith
+
+    zeros : Ranged h (0 ∷ 0 ∷ 0 ∷ 0 ∷ 0 ∷ 0 ∷ 0 ∷ 0 ∷ [])
+    zeros = (p, (z, (z, (z, (z, (z, (z, omega arith)))))))
+
+-- of h = 0 each combination is 0
+nothing : (ws : List ℤ) → length ws ≡ 8 → times (pos 0) ws ≡ none
+nothing = of-eight (λ ws. times (pos 0) ws ≡ none) (λ a b c d e f g k. cc (gone a, gone b, gone c, gone d, gone e, gone f, gone g, gone k))
+  where
+    gone : (w : ℤ) → pos 0 *ℤ w ≡ pos 0
+    gone w = eq! (# 0 ⊗ ` w) (# 0) (omega arith)
 
 pub point-combined : (h : ℕ) (ws : List ℤ) → length ws ≡ 8 → TwoE8 ws → Combined h (times (pos h) ws)
-point-combined h [] l p = absurd (omega arith)
-point-combined h (w₁ ∷ []) l p = absurd (omega arith)
-point-combined h (w₁ ∷ w₂ ∷ []) l p = absurd (omega arith)
-point-combined h (w₁ ∷ w₂ ∷ w₃ ∷ []) l p = absurd (omega arith)
-point-combined h (w₁ ∷ w₂ ∷ w₃ ∷ w₄ ∷ []) l p = absurd (omega arith)
-point-combined h (w₁ ∷ w₂ ∷ w₃ ∷ w₄ ∷ w₅ ∷ []) l p = absurd (omega arith)
-point-combined h (w₁ ∷ w₂ ∷ w₃ ∷ w₄ ∷ w₅ ∷ w₆ ∷ []) l p = absurd (omega arith)
-point-combined h (w₁ ∷ w₂ ∷ w₃ ∷ w₄ ∷ w₅ ∷ w₆ ∷ w₇ ∷ []) l p = absurd (omega arith)
-point-combined h (w₁ ∷ w₂ ∷ w₃ ∷ w₄ ∷ w₅ ∷ w₆ ∷ w₇ ∷ w₈ ∷ []) l p = from-eight h w₁ w₂ w₃ w₄ w₅ w₆ w₇ w₈ p
-point-combined h (w₁ ∷ w₂ ∷ w₃ ∷ w₄ ∷ w₅ ∷ w₆ ∷ w₇ ∷ w₈ ∷ w ∷ ws) l p = absurd (omega arith)
+point-combined zero ws l t = record { qs = none; long = refl; is = nothing ws l }
+point-combined (suc h) ws l t =
+    let v : List ℤ = times (pos (suc h)) ws in
+    let n : length v ≡ 8 = times-length (pos (suc h)) ws ∙ l in
+    let o : Off 0 (rows (suc h)) v = off (suc h) 0 (rows (suc h)) v (rows-points (suc h)) n in
+    let e : reducedBy 0 (rows (suc h)) v ≡ none = sym (reduced-rows (suc h) (omega arith) v n) ∙ reduced-none (suc h) ws (omega arith) l t in
+    let c : List ℤ = combination (o .qs) (rows (suc h)) in
+    record {
+      qs = o .qs;
+      long = o .long;
+      is = o .is ∙ ap (add c) e ∙ add-comm c none ∙ add-none c (point-length (suc h) c (combination-point (suc h) (o .qs)));
+    }

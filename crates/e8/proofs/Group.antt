@@ -8,11 +8,11 @@ use lib.ListN.{length}
 use lib.IntN.{ℤ, pos, negsuc, _-ℤ_, _*ℤ_}
 use Rattle.integers.specs.Integer.{modZ}
 use Rattle.integers.proofs.Zed.{`_, #_, _⊕_, _⊖_, _⊗_, ⊝_, up, down, eq!, eq?}
-use Rattle.integers.proofs.Floor.{modZ-lt}
+use Rattle.integers.proofs.Floor.{modZ-lt, multiple-rem}
 use Rattle.e8.specs.Lattice.{sum, bit, Each, moved, InBlock}
 use Rattle.e8.specs.Least.{lowered}
 use Rattle.e8.specs.Rows.{add, times}
-use Rattle.e8.proofs.Points.{to-four, add-length, add-point, bool-of, times-length, times-point}
+use Rattle.e8.proofs.Points.{add-length, add-point, bool-of, times-length, times-point}
 
 add-moved : (H : ℕ) (xs ws vs : List ℤ) → moved H (moved H xs ws) vs ≡ moved H xs (add ws vs)
 add-moved H [] ws vs = refl
@@ -51,35 +51,7 @@ block-sym H xs ys i = record {
   point = times-point (negsuc 0) (i .ws) (i .point);
 }
 
-abbrev zeros : List ℤ → List ℤ
-zeros [] = []
-zeros (x ∷ xs) = pos 0 ∷ zeros xs
-
-zeros-length : (xs : List ℤ) → length (zeros xs) ≡ length xs
-zeros-length [] = refl
-zeros-length (x ∷ xs) = ap suc (zeros-length xs)
-
-zeros-each : (xs : List ℤ) → Each false (zeros xs)
-zeros-each [] = tt
-zeros-each (x ∷ xs) = (refl, zeros-each xs)
-
-zeros-sum : (xs : List ℤ) → sum (zeros xs) ≡ pos 0
-zeros-sum [] = refl
-zeros-sum (x ∷ xs) = eq! (# 0 ⊕ ` (sum (zeros xs))) (# 0) (omega (arith, eq? (` (sum (zeros xs))) (# 0) (zeros-sum xs)))
-
-zeros-moved : (H : ℕ) (xs : List ℤ) → xs ≡ moved H xs (zeros xs)
-zeros-moved H [] = refl
-zeros-moved H (x ∷ xs) = cc (eq! (` x) (` x ⊖ # H ⊗ # 0) (omega arith), zeros-moved H xs)
-
-pub block-refl : (H : ℕ) (xs : List ℤ) → InBlock H xs xs
-block-refl H xs = record {
-  ws = zeros xs;
-  long = zeros-length xs;
-  is = zeros-moved H xs;
-  point = record { odd = false; same = zeros-each xs; four = ap (λ (z : ℤ). modZ z 4) (zeros-sum xs) };
-}
-
--- ---- the vector of one number, in a length that 4 divides
+-- ---- the vector of one number: 0, and any in a length that 4 divides
 
 abbrev same-as : ℤ → List ℤ → List ℤ
 same-as q [] = []
@@ -95,7 +67,8 @@ same-each q b (x ∷ xs) h = (h, same-each q b xs h)
 
 same-sum : (q : ℤ) (xs : List ℤ) → sum (same-as q xs) ≡ pos (length xs) *ℤ q
 same-sum q [] = eq! (# 0) (# 0 ⊗ ` q) (omega arith)
-same-sum q (x ∷ xs) = eq! (` q ⊕ ` (sum (same-as q xs))) (# (suc (length xs)) ⊗ ` q) (omega (arith, eq? (` (sum (same-as q xs))) (# (length xs) ⊗ ` q) (same-sum q xs)))
+same-sum q (x ∷ xs) = eq! (` q ⊕ ` (sum (same-as q xs))) (# (suc (length xs)) ⊗ ` q)
+    (omega (arith, eq? (` (sum (same-as q xs))) (# (length xs) ⊗ ` q) (same-sum q xs)))
 
 same-moved : (H : ℕ) (q : ℤ) (xs : List ℤ) → lowered (pos H *ℤ q) xs ≡ moved H xs (same-as q xs)
 same-moved H q [] = refl
@@ -111,8 +84,25 @@ block-const H j q xs l =
       point = record {
         odd = b .0;
         same = same-each q (b .0) xs (b .1);
-        four = to-four (sum (same-as q xs)) (pos j *ℤ q)
+        four = multiple-rem (sum (same-as q xs)) 4 (pos j *ℤ q) (omega arith)
             (eq! (` (sum (same-as q xs))) (# 4 ⊗ (# j ⊗ ` q))
             (omega (arith, eq? (` (sum (same-as q xs))) (# (length xs) ⊗ ` q) (same-sum q xs), ap (λ (n : ℕ). n * up q) l, ap (λ (n : ℕ). n * down q) l)));
       };
     }
+
+none-moved : (H : ℕ) (xs : List ℤ) → xs ≡ moved H xs (same-as (pos 0) xs)
+none-moved H [] = refl
+none-moved H (x ∷ xs) = cc (eq! (` x) (` x ⊖ # H ⊗ # 0) (omega arith), none-moved H xs)
+
+pub block-refl : (H : ℕ) (xs : List ℤ) → InBlock H xs xs
+block-refl H xs = record {
+  ws = same-as (pos 0) xs;
+  long = same-length (pos 0) xs;
+  is = none-moved H xs;
+  point = record {
+    odd = false;
+    same = same-each (pos 0) false xs refl;
+    four = multiple-rem (sum (same-as (pos 0) xs)) 4 (pos 0) (omega arith)
+        (same-sum (pos 0) xs ∙ eq! (# (length xs) ⊗ # 0) (# 4 ⊗ # 0) (omega arith));
+  };
+}

@@ -7,6 +7,7 @@ pub mod Points
 pub mod Group
 pub mod Block
 pub mod Rows
+pub mod Reduction
 pub mod Generators
 pub mod Frame
 pub mod Within

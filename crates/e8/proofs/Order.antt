@@ -31,7 +31,12 @@ nat-cases m n = go (decLe m n)
     go (no h) = inr (inr (omega arith))
 
 pub int-cases : (a b : ℤ) → (a <ℤ b) ⊎ ((a ≡ b) ⊎ (b <ℤ a))
-int-cases a b = elim (nat-cases (up a + down b) (up b + down a)) [ inl h ↦ inl (ud-lt a b h) | inr x ↦ elim x [ inl e ↦ inr (inl (ud-eq a b e)) | inr h ↦ inr (inr (ud-lt b a h)) ] ]
+int-cases a b = go (nat-cases (up a + down b) (up b + down a))
+  where
+    go : (up a + down b < up b + down a) ⊎ ((up a + down b ≡ up b + down a) ⊎ (up b + down a < up a + down b)) → (a <ℤ b) ⊎ ((a ≡ b) ⊎ (b <ℤ a))
+    go (inl h) = inl (ud-lt a b h)
+    go (inr (inl e)) = inr (inl (ud-eq a b e))
+    go (inr (inr h)) = inr (inr (ud-lt b a h))
 
 -- ---- an order
 
@@ -74,6 +79,12 @@ antisym a b (inr h) (inr k) = reads-antisym a b (h .1) (k .1)
 
 -- ---- the test of reading order
 
+not-less : (a b : ℤ) → ltZ a b ≡ false → up b + down a ≤ up a + down b
+not-less a b e = le-ud (ltZ-no {a = a} {b = b} (subst (λ s. T (not s)) (sym e) tt))
+
+neither-less : (a b : ℤ) → ltZ a b ≡ false → ltZ b a ≡ false → a ≡ b
+neither-less a b e f = ud-eq a b (omega (arith, not-less a b e, not-less b a f))
+
 before-yes : (a b : List ℤ) → T (before a b) → Reads a b
 unfolding before
 before-yes [] b h = tt
@@ -83,7 +94,7 @@ before-yes (a ∷ av) (b ∷ bv) h = go (ltZ a b) (ltZ b a) refl refl (before-ye
     go : (p q : Bool) → ltZ a b ≡ p → ltZ b a ≡ q → (T (before av bv) → Reads av bv) → T (cond p true (cond q false (before av bv))) → Reads (a ∷ av) (b ∷ bv)
     go true q hp hq f t = inl (ltZ-yes (subst T (sym hp) tt))
     go false true hp hq f t = absurd t
-    go false false hp hq f t = inr (ud-eq a b (omega (arith, le-ud (ltZ-no {a = a} {b = b} (subst (λ s. T (not s)) (sym hp) tt)), le-ud (ltZ-no {a = b} {b = a} (subst (λ s. T (not s)) (sym hq) tt)))), f t)
+    go false false hp hq f t = inr (neither-less a b hp hq, f t)
 
 before-no : (a b : List ℤ) → T (not (before a b)) → Reads b a
 unfolding before
@@ -91,10 +102,11 @@ before-no [] b h = absurd h
 before-no (a ∷ av) [] h = tt
 before-no (a ∷ av) (b ∷ bv) h = go (ltZ a b) (ltZ b a) refl refl (before-no av bv) h
   where
-    go : (p q : Bool) → ltZ a b ≡ p → ltZ b a ≡ q → (T (not (before av bv)) → Reads bv av) → T (not (cond p true (cond q false (before av bv)))) → Reads (b ∷ bv) (a ∷ av)
+    go : (p q : Bool) → ltZ a b ≡ p → ltZ b a ≡ q → (T (not (before av bv)) → Reads bv av) → T (not (cond p true (cond q false (before av bv))))
+        → Reads (b ∷ bv) (a ∷ av)
     go true q hp hq f t = absurd t
     go false true hp hq f t = inl (ltZ-yes (subst T (sym hq) tt))
-    go false false hp hq f t = inr (ud-eq b a (omega (arith, le-ud (ltZ-no {a = a} {b = b} (subst (λ s. T (not s)) (sym hp) tt)), le-ud (ltZ-no {a = b} {b = a} (subst (λ s. T (not s)) (sym hq) tt)))), f t)
+    go false false hp hq f t = inr (neither-less b a hq hp, f t)
 
 -- ---- the better of two
 
@@ -142,7 +154,7 @@ better-heads c d av bv e f ne he hf = go (ltZ c d) (cond (ltZ c d) (leb e f) (lt
     go true false hp hq = better-second (c ∷ av) (d ∷ bv) (inl (omega (arith, he, hf, leb-false e f hq)))
     go false true hp hq = better-first (c ∷ av) (d ∷ bv) (inl (omega (arith, he, hf, ltb-true e f hq)))
     go false false hp hq = better-second (c ∷ av) (d ∷ bv) (equal-or (omega (arith, he, hf, ltb-false e f hq))
-        (inl (ud-lt d c (lt-of-le-ne (le-ud (ltZ-no {a = c} {b = d} (subst (λ s. T (not s)) (sym hp) tt))) (λ q. ne (sym (ud-eq d c q)))))))
+        (inl (ud-lt d c (lt-of-le-ne (not-less c d hp) (λ q. ne (sym (ud-eq d c q)))))))
 
 -- ---- one list after another
 

@@ -9,11 +9,11 @@ use lib.IntN.{ℤ, pos, _+ℤ_, _*ℤ_}
 use lib.Signed.{shrZ}
 use Rattle.integers.specs.Integer.{modZ}
 use Rattle.integers.proofs.Zed.{`_, #_, _⊕_, _⊗_, up, down, eq!, eq?}
-use Rattle.integers.proofs.Floor.{modZ-lt, div-mod, rem-is}
+use Rattle.integers.proofs.Floor.{modZ-lt, div-mod, rem-is, multiple-rem, rem-multiple}
 use Rattle.e8.specs.Lattice.{sum, bit, Each, TwoE8}
 use Rattle.e8.specs.Rows.{add, times}
 
--- ---- w is 2u + b, and w is 4t, with a witness
+-- ---- w is 2u + b, with a witness
 
 pub to-bit : (w u : ℤ) (b : Bool) → w ≡ pos 2 *ℤ u +ℤ pos (bit b) → modZ w 2 ≡ bit b
 to-bit w u false e = rem-is w 2 u 0 (omega arith) e
@@ -21,12 +21,6 @@ to-bit w u true e = rem-is w 2 u 1 (omega arith) e
 
 pub of-bit : (w : ℤ) (b : Bool) → modZ w 2 ≡ bit b → w ≡ pos 2 *ℤ shrZ w 2 +ℤ pos (bit b)
 of-bit w b e = div-mod w 2 (omega arith) ∙ ap (λ (n : ℕ). pos 2 *ℤ shrZ w 2 +ℤ pos n) e
-
-pub to-four : (w u : ℤ) → w ≡ pos 4 *ℤ u → modZ w 4 ≡ 0
-to-four w u e = rem-is w 4 u 0 (omega arith) (eq! (` w) (# 4 ⊗ ` u ⊕ # 0) (omega (arith, eq? (` w) (# 4 ⊗ ` u) e)))
-
-pub of-four : (w : ℤ) → modZ w 4 ≡ 0 → w ≡ pos 4 *ℤ shrZ w 4
-of-four w e = eq! (` w) (# 4 ⊗ ` (shrZ w 4)) (omega (arith, eq? (` w) (# 4 ⊗ ` (shrZ w 4) ⊕ # (modZ w 4)) (div-mod w 4 (omega arith))))
 
 -- ---- sums of points
 
@@ -43,12 +37,15 @@ carry true true = (1, omega arith)
 add-each : (b c : Bool) (ws vs : List ℤ) → Each b ws → Each c vs → Each (rest b c) (add ws vs)
 add-each b c [] vs h k = tt
 add-each b c (w ∷ ws) [] h k = tt
-add-each b c (w ∷ ws) (v ∷ vs) h k = (
-  to-bit (w +ℤ v) (shrZ w 2 +ℤ shrZ v 2 +ℤ pos (carry b c .0)) (rest b c)
-      (eq! (` w ⊕ ` v) (# 2 ⊗ (` (shrZ w 2) ⊕ ` (shrZ v 2) ⊕ # (carry b c .0)) ⊕ # (bit (rest b c)))
-      (omega (arith, carry b c .1, eq? (` w) (# 2 ⊗ ` (shrZ w 2) ⊕ # (bit b)) (of-bit w b (h .0)), eq? (` v) (# 2 ⊗ ` (shrZ v 2) ⊕ # (bit c)) (of-bit v c (k .0))))),
-  add-each b c ws vs (h .1) (k .1),
-)
+add-each b c (w ∷ ws) (v ∷ vs) h k =
+    let u : ℤ = shrZ w 2 in
+    let t : ℤ = shrZ v 2 in
+    let e = eq? (` w) (# 2 ⊗ ` u ⊕ # (bit b)) (of-bit w b (h .0)) in
+    let f = eq? (` v) (# 2 ⊗ ` t ⊕ # (bit c)) (of-bit v c (k .0)) in
+    let d = carry b c in
+    let g : w +ℤ v ≡ pos 2 *ℤ (u +ℤ t +ℤ pos (d .0)) +ℤ pos (bit (rest b c)) =
+    eq! (` w ⊕ ` v) (# 2 ⊗ (` u ⊕ ` t ⊕ # (d .0)) ⊕ # (bit (rest b c))) (omega (arith, d .1, e, f)) in
+    (to-bit (w +ℤ v) (u +ℤ t +ℤ pos (d .0)) (rest b c) g, add-each b c ws vs (h .1) (k .1))
 
 add-sum : (ws vs : List ℤ) → length ws ≡ length vs → sum (add ws vs) ≡ sum ws +ℤ sum vs
 add-sum [] [] l = refl
@@ -66,13 +63,13 @@ pub add-point : (ws vs : List ℤ) → length ws ≡ length vs → TwoE8 ws → 
 add-point ws vs l a b = record {
   odd = rest (a .odd) (b .odd);
   same = add-each (a .odd) (b .odd) ws vs (a .same) (b .same);
-  four = to-four (sum (add ws vs)) (shrZ (sum ws) 4 +ℤ shrZ (sum vs) 4)
+  four = multiple-rem (sum (add ws vs)) 4 (shrZ (sum ws) 4 +ℤ shrZ (sum vs) 4) (omega arith)
       (eq! (` (sum (add ws vs))) (# 4 ⊗ (` (shrZ (sum ws) 4) ⊕ ` (shrZ (sum vs) 4)))
       (omega (
         arith,
         eq? (` (sum (add ws vs))) (` (sum ws) ⊕ ` (sum vs)) (add-sum ws vs l),
-        eq? (` (sum ws)) (# 4 ⊗ ` (shrZ (sum ws) 4)) (of-four (sum ws) (a .four)),
-        eq? (` (sum vs)) (# 4 ⊗ ` (shrZ (sum vs) 4)) (of-four (sum vs) (b .four)),
+        eq? (` (sum ws)) (# 4 ⊗ ` (shrZ (sum ws) 4)) (rem-multiple (sum ws) 4 (omega arith) (a .four)),
+        eq? (` (sum vs)) (# 4 ⊗ ` (shrZ (sum vs) 4)) (rem-multiple (sum vs) 4 (omega arith) (b .four)),
       )));
 }
 
@@ -105,7 +102,8 @@ times-each q b c (w ∷ ws) h k = (times-bit q w b c h (k .0), times-each q b c 
 
 times-sum : (q : ℤ) (ws : List ℤ) → sum (times q ws) ≡ q *ℤ sum ws
 times-sum q [] = eq! (# 0) (` q ⊗ # 0) (omega arith)
-times-sum q (w ∷ ws) = eq! (` q ⊗ ` w ⊕ ` (sum (times q ws))) (` q ⊗ (` w ⊕ ` (sum ws))) (omega (arith, eq? (` (sum (times q ws))) (` q ⊗ ` (sum ws)) (times-sum q ws)))
+times-sum q (w ∷ ws) = eq! (` q ⊗ ` w ⊕ ` (sum (times q ws))) (` q ⊗ (` w ⊕ ` (sum ws)))
+    (omega (arith, eq? (` (sum (times q ws))) (` q ⊗ ` (sum ws)) (times-sum q ws)))
 
 pub times-length : (q : ℤ) (ws : List ℤ) → length (times q ws) ≡ length ws
 times-length q [] = refl
@@ -115,11 +113,11 @@ pub times-point : (q : ℤ) (ws : List ℤ) → TwoE8 ws → TwoE8 (times q ws)
 times-point q ws a =
     let c : (c : Bool) × (modZ q 2 ≡ bit c) = bool-of (modZ q 2) (modZ-lt q 2 (omega arith)) in
     let t : ℤ = shrZ (sum ws) 4 in
-    let e = eq? (` (sum ws)) (# 4 ⊗ ` t) (of-four (sum ws) (a .four)) in
+    let e = eq? (` (sum ws)) (# 4 ⊗ ` t) (rem-multiple (sum ws) 4 (omega arith) (a .four)) in
     record {
       odd = each (a .odd) (c .0);
       same = times-each q (a .odd) (c .0) ws (c .1) (a .same);
-      four = to-four (sum (times q ws)) (q *ℤ t)
+      four = multiple-rem (sum (times q ws)) 4 (q *ℤ t) (omega arith)
           (eq! (` (sum (times q ws))) (# 4 ⊗ (` q ⊗ ` t))
           (omega (arith, eq? (` (sum (times q ws))) (` q ⊗ ` (sum ws)) (times-sum q ws), ap (λ (n : ℕ). up q * n) e, ap (λ (n : ℕ). down q * n) e)));
     }

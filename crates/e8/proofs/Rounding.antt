@@ -2,7 +2,7 @@
 -- M = 2·H; a coordinate is rounded to `cent H x`, and changed by M towards the other side of 0
 use mathlib.Core.Path.{_≡_, refl, sym, _∙_, ap, subst}
 use mathlib.Core.Logic.{_⊎_, inl, inr}
-use mathlib.Core.Bool.{Bool, true, false, not, true≢false, cond}
+use mathlib.Core.Bool.{Bool, true, false, not, true≢false, cond, Bool·not-not}
 use mathlib.Core.List.{List, [], _∷_}
 use Prim.Native.Nat.{ℕ, suc, _+_, _*_, _-_, _<_}
 use native.Mathlib.Nat.{mul-le-mul-left}
@@ -46,8 +46,12 @@ parity-more M q p t u a b =
 
 -- the remainder modulo 2M is 0 or M
 pub parity-rest : (M : ℕ) (p : Bool) (t : ℤ) → 0 < M → Parity M p t → modZ t (2 * M) ≡ bit p * M
-parity-rest M false t h a = rem-is t (2 * M) (a .half) 0 (omega arith) (eq! (` t) (# (2 * M) ⊗ ` (a .half) ⊕ # 0) (omega (arith, eq? (` t) (# M ⊗ (# 2 ⊗ ` (a .half) ⊕ # 0)) (a .is)))) ∙ omega arith
-parity-rest M true t h a = rem-is t (2 * M) (a .half) M (omega arith) (eq! (` t) (# (2 * M) ⊗ ` (a .half) ⊕ # M) (omega (arith, eq? (` t) (# M ⊗ (# 2 ⊗ ` (a .half) ⊕ # 1)) (a .is)))) ∙ omega arith
+parity-rest M odd t h a = rem-is t (2 * M) (a .half) (bit odd * M) (low odd)
+    (eq! (` t) (# (2 * M) ⊗ ` (a .half) ⊕ # (bit odd * M)) (omega (arith, eq? (` t) (# M ⊗ (# 2 ⊗ ` (a .half) ⊕ # (bit odd))) (a .is))))
+  where
+    low : (b : Bool) → bit b * M < 2 * M
+    low false = omega arith
+    low true = omega arith
 
 -- ---- the two candidates for a coordinate
 
@@ -133,16 +137,13 @@ cost-one M c d e =
     let b : ℕ = natAbs d in
     omega (arith, ap (λ (n : ℕ). n * a) e, ap (λ (n : ℕ). n * n) e)
 
-not-not : (p : Bool) → not (not p) ≡ p
-not-not false = refl
-not-not true = refl
-
 not-rest : (q p : Bool) → not (rest q p) ≡ rest q (not p)
 not-rest false p = refl
 not-rest true p = refl
 
 -- the best of one coordinate more is the better of the two candidates before the best of the others
-choose : (M : ℕ) (q p : Bool) (x y c d : ℤ) (ys rs cs : List ℤ) → cent M (off M q x) ≡ c → cent M (off M (not q) x) ≡ d → best M p (y ∷ ys) ≡ rs → best M (not p) (y ∷ ys) ≡ cs
+choose : (M : ℕ) (q p : Bool) (x y c d : ℤ) (ys rs cs : List ℤ) → cent M (off M q x) ≡ c → cent M (off M (not q) x) ≡ d
+    → best M p (y ∷ ys) ≡ rs → best M (not p) (y ∷ ys) ≡ cs
     → (best M (rest q p) (x ∷ y ∷ ys) ≡ better (c ∷ rs) (d ∷ cs)) ⊎ (best M (rest q p) (x ∷ y ∷ ys) ≡ better (d ∷ cs) (c ∷ rs))
 unfolding best
 choose M false p x y c d ys rs cs e f g h = inl (λ j. better (e j ∷ g j) (f j ∷ h j))
@@ -169,18 +170,25 @@ module _ (H : ℕ) (x d : ℤ) (low : Bool) (t : Turned H x) (h : 0 < H) (hl : l
   a = across H c d low (cent-range H x h) hl hd
 
   one : cent M (off M (t .odd) x) ≡ c
-  one = cent-only M (off M (t .odd) x) (t .parity .half) c (a .range)
-      (eq! (` (off M (t .odd) x)) (` c ⊕ # M ⊗ (# 2 ⊗ ` (t .parity .half)))
-      (omega (arith, eq? (` (off M (t .odd) x)) (` x ⊖ # M ⊗ # (bit (t .odd))) (off-is M (t .odd) x), eq? (` x ⊖ ` c) (# M ⊗ (# 2 ⊗ ` (t .parity .half) ⊕ # (bit (t .odd)))) (t .parity .is))))
+  one =
+      let y : ℤ = off M (t .odd) x in
+      let s : ℤ = t .parity .half in
+      let e = eq? (` y) (` x ⊖ # M ⊗ # (bit (t .odd))) (off-is M (t .odd) x) in
+      let f = eq? (` x ⊖ ` c) (# M ⊗ (# 2 ⊗ ` s ⊕ # (bit (t .odd)))) (t .parity .is) in
+      cent-only M y s c (a .range) (eq! (` y) (` c ⊕ # M ⊗ (# 2 ⊗ ` s)) (omega (arith, e, f)))
 
   two : cent M (off M (not (t .odd)) x) ≡ d
   two = go (t .odd) low (t .parity .half) (t .parity .is) hd
     where
       go : (q l : Bool) (s : ℤ) → x -ℤ c ≡ pos M *ℤ (pos 2 *ℤ s +ℤ pos (bit q)) → d ≡ cond l (c +ℤ pos M) (c -ℤ pos M) → cent M (off M (not q) x) ≡ d
-      go false true s e f = cent-only M (x -ℤ pos M) (s -ℤ pos 1) d (a .other) (eq! (` x ⊖ # M) (` d ⊕ # M ⊗ (# 2 ⊗ (` s ⊖ # 1))) (omega (arith, eq? (` x ⊖ ` c) (# M ⊗ (# 2 ⊗ ` s ⊕ # 0)) e, eq? (` d) (` c ⊕ # M) f)))
-      go false false s e f = cent-only M (x -ℤ pos M) s d (a .other) (eq! (` x ⊖ # M) (` d ⊕ # M ⊗ (# 2 ⊗ ` s)) (omega (arith, eq? (` x ⊖ ` c) (# M ⊗ (# 2 ⊗ ` s ⊕ # 0)) e, eq? (` d) (` c ⊖ # M) f)))
-      go true true s e f = cent-only M x s d (a .other) (eq! (` x) (` d ⊕ # M ⊗ (# 2 ⊗ ` s)) (omega (arith, eq? (` x ⊖ ` c) (# M ⊗ (# 2 ⊗ ` s ⊕ # 1)) e, eq? (` d) (` c ⊕ # M) f)))
-      go true false s e f = cent-only M x (s +ℤ pos 1) d (a .other) (eq! (` x) (` d ⊕ # M ⊗ (# 2 ⊗ (` s ⊕ # 1))) (omega (arith, eq? (` x ⊖ ` c) (# M ⊗ (# 2 ⊗ ` s ⊕ # 1)) e, eq? (` d) (` c ⊖ # M) f)))
+      go false true s e f = cent-only M (x -ℤ pos M) (s -ℤ pos 1) d (a .other) (eq! (` x ⊖ # M) (` d ⊕ # M ⊗ (# 2 ⊗ (` s ⊖ # 1)))
+          (omega (arith, eq? (` x ⊖ ` c) (# M ⊗ (# 2 ⊗ ` s ⊕ # 0)) e, eq? (` d) (` c ⊕ # M) f)))
+      go false false s e f = cent-only M (x -ℤ pos M) s d (a .other) (eq! (` x ⊖ # M) (` d ⊕ # M ⊗ (# 2 ⊗ ` s))
+          (omega (arith, eq? (` x ⊖ ` c) (# M ⊗ (# 2 ⊗ ` s ⊕ # 0)) e, eq? (` d) (` c ⊖ # M) f)))
+      go true true s e f = cent-only M x s d (a .other) (eq! (` x) (` d ⊕ # M ⊗ (# 2 ⊗ ` s))
+          (omega (arith, eq? (` x ⊖ ` c) (# M ⊗ (# 2 ⊗ ` s ⊕ # 1)) e, eq? (` d) (` c ⊕ # M) f)))
+      go true false s e f = cent-only M x (s +ℤ pos 1) d (a .other) (eq! (` x) (` d ⊕ # M ⊗ (# 2 ⊗ (` s ⊕ # 1)))
+          (omega (arith, eq? (` x ⊖ ` c) (# M ⊗ (# 2 ⊗ ` s ⊕ # 1)) e, eq? (` d) (` c ⊖ # M) f)))
 
   cost : sq d + 2 * (M * natAbs c) ≡ sq c + M * M
   cost = cost-one M c d (a .sizes)
@@ -202,11 +210,16 @@ module _ (H : ℕ) (x d : ℤ) (low : Bool) (t : Turned H x) (h : 0 < H) (hl : l
   -- one coordinate more
   module _ (p : Bool) (y : ℤ) (ys rs cs : List ℤ) (m : ℕ) (r : Rounding M p (y ∷ ys) rs cs m) where
     nearer : best M (rest (t .odd) p) (x ∷ y ∷ ys) ≡ c ∷ rs
-    nearer = chosen (best M (rest (t .odd) p) (x ∷ y ∷ ys)) (c ∷ rs) (d ∷ cs) (choose M (t .odd) p x y c d ys rs cs one two (r .near) (r .far)) (cons-mono c d rs cs (a .near) (r .order))
+    nearer = chosen (best M (rest (t .odd) p) (x ∷ y ∷ ys)) (c ∷ rs) (d ∷ cs) (choose M (t .odd) p x y c d ys rs cs one two (r .near) (r .far))
+        (cons-mono c d rs cs (a .near) (r .order))
 
-    further : (best M (not (rest (t .odd) p)) (x ∷ y ∷ ys) ≡ better (c ∷ cs) (d ∷ rs)) ⊎ (best M (not (rest (t .odd) p)) (x ∷ y ∷ ys) ≡ better (d ∷ rs) (c ∷ cs))
-    further = subst (λ s. (best M s (x ∷ y ∷ ys) ≡ better (c ∷ cs) (d ∷ rs)) ⊎ (best M s (x ∷ y ∷ ys) ≡ better (d ∷ rs) (c ∷ cs))) (sym (not-rest (t .odd) p))
-        (choose M (t .odd) (not p) x y c d ys cs rs one two (r .far) (ap (λ s. best M s (y ∷ ys)) (not-not p) ∙ r .near))
+    -- for the other parity it is the better of two
+    abbrev Further : Bool → Type 0
+    Further s = (best M s (x ∷ y ∷ ys) ≡ better (c ∷ cs) (d ∷ rs)) ⊎ (best M s (x ∷ y ∷ ys) ≡ better (d ∷ rs) (c ∷ cs))
+
+    further : Further (not (rest (t .odd) p))
+    further = subst Further (sym (not-rest (t .odd) p))
+        (choose M (t .odd) (not p) x y c d ys cs rs one two (r .far) (ap (λ s. best M s (y ∷ ys)) (Bool·not-not p) ∙ r .near))
 
     -- it is the one to change: it is larger, or as large and not negative
     pub round-here : (m < natAbs c) ⊎ ((m ≡ natAbs c) × (low ≡ false)) → Rounding M (rest (t .odd) p) (x ∷ y ∷ ys) (c ∷ rs) (d ∷ rs) (natAbs c)

@@ -10,11 +10,10 @@ use lib.IntN.{ℤ, pos, _+ℤ_, _-ℤ_, _*ℤ_}
 use lib.Signed.{shrZ}
 use Rattle.integers.proofs.Zed.{`_, #_, _⊕_, _⊖_, _⊗_, eq!, eq?}
 use Rattle.integers.specs.Integer.{modZ}
-use Rattle.integers.proofs.Floor.{modZ-lt, div-mod, rem-is, digits-q, digits-r}
+use Rattle.integers.proofs.Floor.{modZ-lt, div-mod, digits-q, digits-r, multiple-rem, rem-multiple}
 use Rattle.e8.specs.Lattice.{sum, Each, moved, InBlock}
 use Rattle.e8.specs.Least.{lowered}
 use Rattle.e8.specs.Rows.{ints, remainders, reduced, Below, Ranged}
-use Rattle.e8.proofs.Points.{to-four, of-four}
 use Rattle.e8.proofs.Group.{block-trans, block-const}
 
 -- ---- lengths
@@ -60,9 +59,6 @@ record Lower (h : ℕ) (Q : ℤ) (ys zs : List ℤ) : Type 0 where
   even : Each false ws
   total : sum ws ≡ pos 2 *ℤ Q +ℤ pos 4 *ℤ k
 
-is-even : (w u : ℤ) → w ≡ pos 2 *ℤ u → modZ w 2 ≡ 0
-is-even w u e = rem-is w 2 u 0 (omega arith) (eq! (` w) (# 2 ⊗ ` u ⊕ # 0) (omega (arith, eq? (` w) (# 2 ⊗ ` u) e)))
-
 remainders-in : (h : ℕ) (Q y : ℤ) (ys : List ℤ) → 0 < h → Lower h Q (y ∷ ys) (ints (remainders h Q (y ∷ ys)))
 remainders-in h Q y [] p =
     let v : ℤ = y -ℤ pos (2 * h) *ℤ Q in
@@ -74,7 +70,11 @@ remainders-in h Q y [] p =
       long = refl;
       is = ap (λ z. z ∷ []) (eq! (# r) (` y ⊖ # h ⊗ (# 2 ⊗ ` Q ⊕ # 4 ⊗ ` q))
           (omega (arith, eq? (` y ⊖ # (2 * h) ⊗ ` Q) (# (4 * h) ⊗ ` q ⊕ # r) (div-mod v (4 * h) (omega arith)))));
-      even = (is-even (pos 2 *ℤ Q +ℤ pos 4 *ℤ q) (Q +ℤ pos 2 *ℤ q) (eq! (# 2 ⊗ ` Q ⊕ # 4 ⊗ ` q) (# 2 ⊗ (` Q ⊕ # 2 ⊗ ` q)) (omega arith)), tt);
+      even = (
+        multiple-rem (pos 2 *ℤ Q +ℤ pos 4 *ℤ q) 2 (Q +ℤ pos 2 *ℤ q) (omega arith)
+            (eq! (# 2 ⊗ ` Q ⊕ # 4 ⊗ ` q) (# 2 ⊗ (` Q ⊕ # 2 ⊗ ` q)) (omega arith)),
+        tt,
+      );
       total = eq! (# 2 ⊗ ` Q ⊕ # 4 ⊗ ` q ⊕ # 0) (# 2 ⊗ ` Q ⊕ # 4 ⊗ ` q) (omega arith);
     }
 remainders-in h Q y (z ∷ zs) p =
@@ -86,7 +86,7 @@ remainders-in h Q y (z ∷ zs) p =
       k = q +ℤ l .k;
       long = ap suc (l .long);
       is = cc (l .is, eq! (# s) (` y ⊖ # h ⊗ (# 2 ⊗ ` q)) (omega (arith, eq? (` y) (# (2 * h) ⊗ ` q ⊕ # s) (div-mod y (2 * h) (omega arith)))));
-      even = (is-even (pos 2 *ℤ q) q refl, l .even);
+      even = (multiple-rem (pos 2 *ℤ q) 2 q (omega arith) refl, l .even);
       total = eq! (# 2 ⊗ ` q ⊕ ` (sum (l .ws))) (# 2 ⊗ ` Q ⊕ # 4 ⊗ (` q ⊕ ` (l .k)))
           (omega (arith, eq? (` (sum (l .ws))) (# 2 ⊗ (` Q ⊕ ` q) ⊕ # 4 ⊗ ` (l .k)) (l .total)));
     }
@@ -108,8 +108,9 @@ reduced-in h j (x ∷ y ∷ ys) p n =
       is = cc (l .is, eq! (# (modZ x h)) (` x ⊖ # h ⊗ ` q ⊖ # h ⊗ # 0) (omega (arith, eq? (` x) (# h ⊗ ` q ⊕ # (modZ x h)) (div-mod x h p))));
       point = record {
         odd = false;
-        same = (is-even (pos 0) (pos 0) refl, l .even);
-        four = to-four (pos 0 +ℤ sum (l .ws)) (l .k) (eq! (# 0 ⊕ ` (sum (l .ws))) (# 4 ⊗ ` (l .k)) (omega (arith, eq? (` (sum (l .ws))) (# 2 ⊗ # 0 ⊕ # 4 ⊗ ` (l .k)) (l .total))));
+        same = (refl, l .even);
+        four = multiple-rem (pos 0 +ℤ sum (l .ws)) 4 (l .k) (omega arith) (eq! (# 0 ⊕ ` (sum (l .ws))) (# 4 ⊗ ` (l .k))
+            (omega (arith, eq? (` (sum (l .ws))) (# 2 ⊗ # 0 ⊕ # 4 ⊗ ` (l .k)) (l .total))));
       };
     })
 
@@ -123,11 +124,8 @@ same-step h c s t w u hs ht e d =
     (omega (arith, eq? (# t) (# s ⊖ # h ⊗ ` w) d, ap (λ (n : ℕ). h * n) (eq? (` w) (# c ⊗ ` u) e))) in
     (digits-q (c * h) u (pos 0) t s ht hs f, digits-r (c * h) u (pos 0) t s ht hs f)
 
-even-of : (w : ℤ) → modZ w 2 ≡ 0 → w ≡ pos 2 *ℤ shrZ w 2
-even-of w e = eq! (` w) (# 2 ⊗ ` (shrZ w 2)) (omega (arith, eq? (` w) (# 2 ⊗ ` (shrZ w 2) ⊕ # (modZ w 2)) (div-mod w 2 (omega arith))))
-
-low-unique : (h s t : ℕ) (ss ts : List ℕ) (ws : List ℤ) (k : ℤ) → Below h (s ∷ ss) → Below h (t ∷ ts) → Each false ws → sum ws ≡ pos 4 *ℤ k → length ws ≡ length (ints (s ∷ ss))
-    → ints (t ∷ ts) ≡ moved h (ints (s ∷ ss)) ws → t ∷ ts ≡ s ∷ ss
+low-unique : (h s t : ℕ) (ss ts : List ℕ) (ws : List ℤ) (k : ℤ) → Below h (s ∷ ss) → Below h (t ∷ ts) → Each false ws → sum ws ≡ pos 4 *ℤ k
+    → length ws ≡ length (ints (s ∷ ss)) → ints (t ∷ ts) ≡ moved h (ints (s ∷ ss)) ws → t ∷ ts ≡ s ∷ ss
 low-unique h s t ss ts [] k a b v e l d = absurd (omega arith)
 low-unique h s t [] [] (w ∷ []) k a b v e l d =
     let g : w ≡ pos 4 *ℤ k = eq! (` w) (# 4 ⊗ ` k) (omega (arith, eq? (` w ⊕ # 0) (# 4 ⊗ ` k) e)) in
@@ -140,9 +138,10 @@ low-unique h s t (s₁ ∷ ss) [] (w ∷ v₁ ∷ vs) k a b v e l d = absurd (om
 low-unique h s t (s₁ ∷ ss) (t₁ ∷ ts) (w ∷ ws) k a b v e l d =
     let c : pos t ≡ pos s -ℤ pos h *ℤ w = cc in
     let c₁ : ints (t₁ ∷ ts) ≡ moved h (ints (s₁ ∷ ss)) ws = cc in
-    let r : (shrZ w 2 ≡ pos 0) × (t ≡ s) = same-step h 2 s t w (shrZ w 2) (a .0) (b .0) (even-of w (v .0)) c in
+    let d₂ : w ≡ pos 2 *ℤ shrZ w 2 = rem-multiple w 2 (omega arith) (v .0) in
+    let r : (shrZ w 2 ≡ pos 0) × (t ≡ s) = same-step h 2 s t w (shrZ w 2) (a .0) (b .0) d₂ c in
     let e₁ : sum ws ≡ pos 4 *ℤ k = eq! (` (sum ws)) (# 4 ⊗ ` k)
-    (omega (arith, eq? (` w ⊕ ` (sum ws)) (# 4 ⊗ ` k) e, eq? (` w) (# 2 ⊗ ` (shrZ w 2)) (even-of w (v .0)), eq? (` (shrZ w 2)) (# 0) (r .0))) in
+    (omega (arith, eq? (` w ⊕ ` (sum ws)) (# 4 ⊗ ` k) e, eq? (` w) (# 2 ⊗ ` (shrZ w 2)) d₂, eq? (` (shrZ w 2)) (# 0) (r .0))) in
     cc (r .1, low-unique h s₁ t₁ ss ts ws k (a .1) (b .1) (v .1) e₁ (omega arith) c₁)
 
 -- two messages in range whose vectors differ by a point of h·(2·E8) are one
@@ -151,10 +150,14 @@ ranged-unique h [] ts a b i = absurd a
 ranged-unique h (s ∷ []) ts a b i = absurd (a .1)
 ranged-unique h (s ∷ s₁ ∷ ss) [] a b i = absurd b
 ranged-unique h (s ∷ s₁ ∷ ss) (t ∷ []) a b i = absurd (b .1)
-ranged-unique h (s ∷ s₁ ∷ ss) (t ∷ t₁ ∷ ts) a b i = go (i .ws) (i .long) (i .is) (i .point .odd) (i .point .same) (of-four (sum (i .ws)) (i .point .four))
+ranged-unique h (s ∷ s₁ ∷ ss) (t ∷ t₁ ∷ ts) a b i =
+    go (i .ws) (i .long) (i .is) (i .point .odd) (i .point .same) (rem-multiple (sum (i .ws)) 4 (omega arith) (i .point .four))
   where
-    go : (ws : List ℤ) → length ws ≡ length (ints (s ∷ s₁ ∷ ss)) → ints (t ∷ t₁ ∷ ts) ≡ moved h (ints (s ∷ s₁ ∷ ss)) ws → (o : Bool) → Each o ws → sum ws ≡ pos 4 *ℤ shrZ (sum (i .ws)) 4
-        → t ∷ t₁ ∷ ts ≡ s ∷ s₁ ∷ ss
+    k : ℤ
+    k = shrZ (sum (i .ws)) 4
+
+    go : (ws : List ℤ) → length ws ≡ length (ints (s ∷ s₁ ∷ ss)) → ints (t ∷ t₁ ∷ ts) ≡ moved h (ints (s ∷ s₁ ∷ ss)) ws → (o : Bool) → Each o ws
+        → sum ws ≡ pos 4 *ℤ k → t ∷ t₁ ∷ ts ≡ s ∷ s₁ ∷ ss
     go [] l d o v e = absurd (omega arith)
     go (w ∷ ws) l d o v e =
         let c : pos t ≡ pos s -ℤ pos h *ℤ w = cc in
@@ -165,8 +168,8 @@ ranged-unique h (s ∷ s₁ ∷ ss) (t ∷ t₁ ∷ ts) a b i = go (i .ws) (i .l
         go′ false v r =
             cc (
               r .1,
-              low-unique h s₁ t₁ ss ts ws (shrZ (sum (i .ws)) 4) (a .1) (b .1) (v .1)
-                  (eq! (` (sum ws)) (# 4 ⊗ ` (shrZ (sum (i .ws)) 4)) (omega (arith, eq? (` w ⊕ ` (sum ws)) (# 4 ⊗ ` (shrZ (sum (i .ws)) 4)) e, eq? (` w) (# 0) (r .0))))
+              low-unique h s₁ t₁ ss ts ws k (a .1) (b .1) (v .1)
+                  (eq! (` (sum ws)) (# 4 ⊗ ` k) (omega (arith, eq? (` w ⊕ ` (sum ws)) (# 4 ⊗ ` k) e, eq? (` w) (# 0) (r .0))))
                   (omega arith) (cc),
             )
         go′ true v r = absurd (omega (arith, v .0, ap (λ (z : ℤ). modZ z 2) (r .0)))

@@ -40,14 +40,14 @@ pub within-part : (B j : ℕ) (xs : List ℤ) → Within B xs → Within B (part
 within-part B j xs h = within-take B 8 (drop (8 * j) xs) (within-drop B (8 * j) xs h)
 
 -- by the test
+pub and-both : (s t : Bool) → (s && t) ≡ true → (s ≡ true) × (t ≡ true)
+and-both true t e = (refl, e)
+and-both false t e = absurd (true≢false (sym e))
+
 pub test-within : (B : ℕ) (xs : List ℤ) → isWithin B xs ≡ true → Within B xs
 unfolding isWithin
 test-within B [] e = tt
-test-within B (z ∷ xs) e = let t = both (leb (natAbs z) B) (isWithin B xs) e in (leb-true (natAbs z) B (t .0), test-within B xs (t .1))
-  where
-    both : (s t : Bool) → (s && t) ≡ true → (s ≡ true) × (t ≡ true)
-    both true t e = (refl, e)
-    both false t e = absurd (true≢false (sym e))
+test-within B (z ∷ xs) e = let t = and-both (leb (natAbs z) B) (isWithin B xs) e in (leb-true (natAbs z) B (t .0), test-within B xs (t .1))
 
 pub within-test : (B : ℕ) (xs : List ℤ) → Within B xs → isWithin B xs ≡ true
 unfolding isWithin

@@ -1,8 +1,10 @@
 -- One message for each class: the rows of matrix (39), and the reduction of a block by them (document 01, "Shaping"; document 003, example 1).
--- Twice matrix (39) is whole, so 2^b times it is h times that, with h = 2^(b − 1). Clients cite rows, combination, reduced, Ranged, ints. Assumes nothing.
+-- Twice matrix (39) is whole, so 2^b times it is h times that, with h = 2^(b − 1). Clients cite rows, combination, reducedBy, reduced, Ranged, ints.
+-- Assumes nothing.
 use mathlib.Core.List.{List, [], _∷_, map}
-use Prim.Native.Nat.{ℕ, _*_, _<_}
-use lib.IntN.{ℤ, pos, _+ℤ_, _-ℤ_, _*ℤ_}
+use Prim.Native.Nat.{ℕ, suc, _*_, _<_}
+use lib.ListN.{getD}
+use lib.IntN.{ℤ, pos, _+ℤ_, _-ℤ_, _*ℤ_, natAbs}
 use lib.Signed.{shrZ}
 use Rattle.integers.specs.Integer.{modZ}
 use Rattle.e8.specs.Least.{lowered}
@@ -46,13 +48,25 @@ combination [] rs = ints (0 ∷ 0 ∷ 0 ∷ 0 ∷ 0 ∷ 0 ∷ 0 ∷ 0 ∷ [])
 combination (q ∷ qs) [] = ints (0 ∷ 0 ∷ 0 ∷ 0 ∷ 0 ∷ 0 ∷ 0 ∷ 0 ∷ [])
 combination (q ∷ qs) (r ∷ rs) = add (times q r) (combination qs rs)
 
+-- a vector less q times a row, coordinate by coordinate
+abbrev pub takenOff : ℤ → List ℤ → List ℤ → List ℤ
+takenOff q [] xs = []
+takenOff q (r ∷ rs) [] = []
+takenOff q (r ∷ rs) (x ∷ xs) = (x -ℤ q *ℤ r) ∷ takenOff q rs xs
+
+-- THE RULE OF REDUCTION, for rows that begin with row i: in their order, each is taken off as often as the floor quotient of the number in place i
+-- by the row's diagonal entry
+unfoldable pub reducedBy : ℕ → List (List ℤ) → List ℤ → List ℤ
+reducedBy i [] xs = xs
+reducedBy i (r ∷ rs) xs = reducedBy (suc i) rs (takenOff (shrZ (getD xs i (pos 0)) (natAbs (getD r i (pos 0)))) r xs)
+
 -- the rows after the first, taken off as often as the remainder in their own place stays from 0 on; each changes the last place too, by 2h·Q in all
 abbrev pub remainders : ℕ → ℤ → List ℤ → List ℕ
 remainders h Q [] = []
 remainders h Q (y ∷ []) = modZ (y -ℤ pos (2 * h) *ℤ Q) (4 * h) ∷ []
 remainders h Q (y ∷ z ∷ zs) = modZ y (2 * h) ∷ remainders h (Q +ℤ shrZ y (2 * h)) (z ∷ zs)
 
--- THE REDUCTION of a block to s1 .. s8: the first row is taken off every place, then the others
+-- THE REDUCTION of a block to s1 .. s8, computed: the first row is taken off every place, then the others. It is the reduction by the rows (proofs/Reduction)
 unfoldable pub reduced : ℕ → List ℤ → List ℕ
 reduced h [] = []
 reduced h (x ∷ xs) = modZ x h ∷ remainders h (pos 0) (lowered (pos h *ℤ shrZ x h) xs)

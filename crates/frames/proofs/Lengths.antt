@@ -33,6 +33,11 @@ dimensions-le m rs zero = omega arith
 dimensions-le m [] (suc i) = omega arith
 dimensions-le m (r ∷ rs) (suc i) = omega (arith, dimensions-le m rs i)
 
+-- where the next level of a kind begins
+pub level-end : (k i : ℕ) → i < levels k → dimensions k (take (i + 1) (degrees k)) ≡ dimensions k (take i (degrees k)) + dimension (getD (degrees k) i 0) k
+unfolding levels
+level-end k i h = dimensions-more k (degrees k) i h
+
 -- ---- what is read
 
 pub levels-length : (m i : ℕ) (rs : List ℕ) (f : List ℤ) → length (levelMessages m i rs f) ≡ dimensions m rs

@@ -85,6 +85,10 @@ pub whole-blocks : (k : ℕ) → isKind k ≡ true → 8 * blocks k ≡ 2 ^ k
 unfolding kinds
 whole-blocks = row-eq (λ k. 8 * blocks k) (λ k. 2 ^ k) refl
 
+pub some-block : (k : ℕ) → isKind k ≡ true → 1 ≤ blocks k
+unfolding kinds
+some-block = row-le (λ k. 1) blocks refl
+
 -- the distances 4, 8, 16 are the least of 4^i·2^(m−r) over the levels, and of 4^a
 pub distances : (k : ℕ) → isKind k ≡ true → apartBy k (degrees k) ≡ leastDistance k
 unfolding degrees kinds

@@ -33,6 +33,13 @@ quot-is z m q r h e = digits-q m (shrZ z m) q (modZ z m) r (modZ-lt z m (omega a
 pub rem-is : (z : ℤ) (m : ℕ) (q : ℤ) (r : ℕ) → r < m → z ≡ pos m *ℤ q +ℤ pos r → modZ z m ≡ r
 rem-is z m q r h e = digits-r m (shrZ z m) q (modZ z m) r (modZ-lt z m (omega arith)) h (sym (div-mod z m (omega arith)) ∙ e)
 
+-- a multiple leaves nothing, and what leaves nothing is a multiple
+pub multiple-rem : (z : ℤ) (m : ℕ) (q : ℤ) → 0 < m → z ≡ pos m *ℤ q → modZ z m ≡ 0
+multiple-rem z m q h e = rem-is z m q 0 h (eq! (` z) (# m ⊗ ` q ⊕ # 0) (omega (arith, eq? (` z) (# m ⊗ ` q) e)))
+
+pub rem-multiple : (z : ℤ) (m : ℕ) → 0 < m → modZ z m ≡ 0 → z ≡ pos m *ℤ shrZ z m
+rem-multiple z m h e = eq! (` z) (# m ⊗ ` (shrZ z m)) (omega (arith, e, eq? (` z) (# m ⊗ ` (shrZ z m) ⊕ # (modZ z m)) (div-mod z m h)))
+
 -- ---- a divisor in two steps, and the divisor 1
 
 pub shr-one : (z : ℤ) → shrZ z 1 ≡ z

@@ -1,15 +1,70 @@
--- The answer of an exported function in one signed number. Assumes nothing.
+-- What the exported functions answer, in one signed number, and what they leave in what is lent. Assumes nothing.
 use Prim.Native.Nat.{ℕ}
 use mathlib.Core.Bool.{cond}
+use mathlib.Core.List.{List}
 use lib.Dec.{eqb}
 use lib.IntN.{ℤ, pos, negℤ}
+use lib.ListN.{length}
 use lib.Ieee.{Float}
+use Rattle.e8.specs.Energy.{energy}
+use Rattle.frames.specs.Frame.{sentFrame}
+use Rattle.frames.specs.Sending.{sendRefusal, frameAfter}
+use Rattle.frames.specs.Reading.{openRefusal, strictRefusal, messageAfter}
 use Rattle.account.specs.declared.Account.{Account}
+use Rattle.account.specs.Counted.{countedRefusal, countedAccount}
 
 -- the energy, or minus the refusal number
 unfoldable pub answerOf : ℕ → ℕ → ℤ
 answerOf number energy = cond (eqb number 0) (pos energy) (negℤ (pos number))
 
+-- sending: the energy of the sent frame, or minus the refusal number; n coordinates are lent
+unfoldable pub sendAnswer : ℕ → ℕ → List ℕ → ℕ → ℤ
+unfolding answerOf
+sendAnswer k b bytes n = answerOf (sendRefusal k b bytes n) (energy (sentFrame k b bytes))
+
+-- the lent frame f afterwards: the sent frame, or as it was where sending is refused
+abbrev pub sendFrame : ℕ → ℕ → List ℕ → List ℤ → List ℤ
+sendFrame k b bytes f = frameAfter (sendRefusal k b bytes (length f)) k b bytes f
+
+-- the open reading of a frame f: its energy, or minus the refusal number; n message bytes are lent
+unfoldable pub openAnswer : ℕ → ℕ → List ℤ → ℕ → ℤ
+unfolding answerOf
+openAnswer k b f n = answerOf (openRefusal k b f n) (energy f)
+
+-- the lent bytes afterwards: the message, or as they were where the reading is refused
+abbrev pub openBytes : ℕ → ℕ → List ℤ → List ℕ → List ℕ
+openBytes k b f bytes = messageAfter (openRefusal k b f (length bytes)) k b f bytes
+
+-- the strict reading likewise
+unfoldable pub strictAnswer : ℕ → ℕ → List ℤ → ℕ → ℤ
+unfolding answerOf
+strictAnswer k b f n = answerOf (strictRefusal k b f n) (energy f)
+
+abbrev pub strictBytes : ℕ → ℕ → List ℤ → List ℕ → List ℕ
+strictBytes k b f bytes = messageAfter (strictRefusal k b f (length bytes)) k b f bytes
+
+-- ---- sending with an account, into a lent frame f
+
 -- the account that two lent numbers hold
 abbrev pub accountOf : ℕ → Float → Account
 accountOf count sum = record { count = count; sum = sum }
+
+-- the number that is answered
+abbrev pub countedNumber : ℕ → ℕ → List ℕ → List ℤ → ℕ → Float → ℕ
+countedNumber k b bytes f count sum = countedRefusal k b bytes (length f) (accountOf count sum)
+
+-- the energy of the sent frame, or minus the refusal number
+unfoldable pub countedAnswer : ℕ → ℕ → List ℕ → List ℤ → ℕ → Float → ℤ
+unfolding answerOf
+countedAnswer k b bytes f count sum = answerOf (countedNumber k b bytes f count sum) (energy (sentFrame k b bytes))
+
+-- the lent frame afterwards
+abbrev pub frameOf : ℕ → ℕ → List ℕ → List ℤ → ℕ → Float → List ℤ
+frameOf k b bytes f count sum = frameAfter (countedNumber k b bytes f count sum) k b bytes f
+
+-- the two lent numbers afterwards: those of the account grown by the sent frame, or as they were where sending is refused
+abbrev pub countOf : ℕ → ℕ → List ℕ → List ℤ → ℕ → Float → ℕ
+countOf k b bytes f count sum = countedAccount (countedNumber k b bytes f count sum) k b bytes (accountOf count sum) .count
+
+abbrev pub sumOf : ℕ → ℕ → List ℕ → List ℤ → ℕ → Float → Float
+sumOf k b bytes f count sum = countedAccount (countedNumber k b bytes f count sum) k b bytes (accountOf count sum) .sum

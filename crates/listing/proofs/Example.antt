@@ -9,10 +9,10 @@ use Rattle.bits.specs.Message.{messageBit}
 use Rattle.e8.specs.Energy.{sq, energy}
 use Rattle.e8.specs.Order.{before}
 use Rattle.e8.specs.Least.{cent, better, best, leastBlock, leastFrame}
-use Rattle.frames.specs.Kind.{kinds, isKind, degrees, levels, levelBits, messageBits, messageBytes}
-use Rattle.frames.specs.Message.{number, numbers, blockNumbers, stacked, coordinate, leader}
+use Rattle.frames.specs.Kind.{kinds, isKind, isGrade, degrees, levels, levelBits, messageBits, messageBytes}
+use Rattle.frames.specs.Message.{numbers, blockNumbers, stacked, coordinate, leader}
 use Rattle.frames.specs.Frame.{half, sentFrame}
-use Rattle.frames.specs.Sending.{anySet, spareSet, isGrade, sendRefusal}
+use Rattle.frames.specs.Sending.{anySet, spareSet, sendRefusal}
 use Rattle.text.specs.Text.{bytes, digitsOf, decimalOf, signedOf}
 use Rattle.text.specs.Line.{headerText, coordinatesOf, lineOf, refusedText}
 use Rattle.listing.specs.Record.{marked, recordRefusal, recordNumber}
@@ -23,7 +23,7 @@ pub sheet : List ℕ
 sheet = 76 ∷ 67 ∷ 3 ∷ 1 ∷ 0 ∷ 8 ∷ 76 ∷ 67 ∷ 3 ∷ 1 ∷ 2 ∷ 0 ∷ 76 ∷ 67 ∷ 3 ∷ 5 ∷ []
 
 pub example : listingOf sheet ≡ bytes "kind grade energy frame\n3 1 16 -4 0 0 0 0 0 0 0\n3 1 4 0 1 0 1 0 1 0 1\nrefused 2\n"
-unfolding sheet listingOf linesFrom lineAt nextAt sentLine recordNumber recordRefusal marked sendRefusal isGrade isKind kinds spareSet anySet messageBytes messageBits levelBits headerText lineOf refusedText coordinatesOf signedOf decimalOf digitsOf bytes sentFrame half leastFrame leastBlock best better cent before energy sq leader coordinate stacked blockNumbers numbers number degrees levels sumTo codeword order dimension masks ofWeight table messageBit ones
+unfolding sheet listingOf linesFrom lineAt nextAt sentLine recordNumber recordRefusal marked sendRefusal isGrade isKind kinds spareSet anySet messageBytes messageBits levelBits headerText lineOf refusedText coordinatesOf signedOf decimalOf digitsOf bytes sentFrame half leastFrame leastBlock best better cent before energy sq leader coordinate stacked blockNumbers numbers degrees levels sumTo codeword order dimension masks ofWeight table messageBit ones
 example = refl
 
 -- no input: the header only

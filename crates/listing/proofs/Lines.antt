@@ -63,8 +63,12 @@ module _ (s : List ℕ) where
       go : (v : Bool) → long s ≡ v
           → (headerText ++ cond v (refusedText 12) []) ++ linesFrom (length s - cond v (length s) 0) s (cond v (length s) 0)
           ≡ headerText ++ cond v (refusedText 12) (linesFrom (length s) s 0)
-      go true e = ap (λ (l : List ℕ). (headerText ++ refusedText 12) ++ l) (none-left (length s - length s) (length s) (omega arith)) ∙ append-nil (headerText ++ refusedText 12)
-      go false e = append-assoc headerText [] (linesFrom (length s - 0) s 0) ∙ ap (λ (l : List ℕ). headerText ++ l) (enough (length s - 0) (length s) 0 (omega arith) (omega arith))
+      go true e =
+          ap (λ (l : List ℕ). (headerText ++ refusedText 12) ++ l) (none-left (length s - length s) (length s) (omega arith))
+          ∙ append-nil (headerText ++ refusedText 12)
+      go false e =
+          append-assoc headerText [] (linesFrom (length s - 0) s 0)
+          ∙ ap (λ (l : List ℕ). headerText ++ l) (enough (length s - 0) (length s) 0 (omega arith) (omega arith))
 
   -- the lines from a place in the sheet are the line of the record there and those from the place that it gives,
   pub lines-go-on : (p : ℕ) → p < length s → linesAt p ≡ lineAt s p ++ linesAt (nextAt s p)

@@ -1,23 +1,47 @@
 -- What is put into a lent line, by the room that is lent. Assumes nothing.
-use Prim.Native.Nat.{ℕ, _≤_, _<_}
-use mathlib.Core.Path.{_≡_}
-use mathlib.Core.List.{List, []}
+use Prim.Native.Nat.{ℕ, zero, suc, _≤_, _<_}
+use mathlib.Core.Path.{_≡_, refl}
+use mathlib.Core.Bool.{Bool, true, false, cond}
+use mathlib.Core.List.{List, [], _++_, append-nil}
+use native.Mathlib.Decide.{decLt}
+use native.Mathlib.Omega.{arith}
+use lib.Dec.{leb, ltb}
 use lib.ListN.{length}
 use borrow.Author.Tests.{lt-ltb, le-ltb, le-leb, lt-leb}
-use Rattle.listing.specs.Listing.{lineAt, nextAt, beginning, startOf, lineInto, nextInto, beginningInto, startInto}
+use Rattle.text.specs.Line.{headerText, refusedText}
+use Rattle.listing.specs.Listing.{lineAt, nextAt, linesFrom, long, listingOf, beginning, startOf, lineInto, nextInto, beginningInto, startInto, putFrom}
 
 module _ (room : ℕ) (s : List ℕ) where
   pub no-room : (p : ℕ) → room < 512 → ([] ≡ lineInto room s p) × (length s ≡ nextInto room s p)
   unfolding lineInto nextInto
   no-room p h = (simp (lt-ltb room 512 h), simp (lt-ltb room 512 h))
 
-  pub no-record : (p : ℕ) → 512 ≤ room → length s ≤ p → ([] ≡ lineInto room s p) × (length s ≡ nextInto room s p)
+  -- a long sheet has the header and `refused 12` only: no place of it has a line
+  pub too-long : (p : ℕ) → 32768 < length s → ([] ≡ lineInto room s p) × (length s ≡ nextInto room s p)
   unfolding lineInto nextInto
-  no-record p h e = (simp (le-ltb room 512 h, le-leb (length s) p e), simp (le-ltb room 512 h, le-leb (length s) p e))
+  too-long p h = go (ltb room 512)
+    where
+      go : (v : Bool) → ([] ≡ cond v [] (cond (long s) [] (cond (leb (length s) p) [] (lineAt s p))))
+          × (length s ≡ cond v (length s) (cond (long s) (length s) (cond (leb (length s) p) (length s) (nextAt s p))))
+      go true = (refl, refl)
+      go false = (simp (lt-ltb 32768 (length s) h), simp (lt-ltb 32768 (length s) h))
 
-  pub a-record : (p : ℕ) → 512 ≤ room → p < length s → (lineAt s p ≡ lineInto room s p) × (nextAt s p ≡ nextInto room s p)
-  unfolding lineInto nextInto
-  a-record p h e = (simp (le-ltb room 512 h, lt-leb (length s) p e), simp (le-ltb room 512 h, lt-leb (length s) p e))
+  module _ (p : ℕ) (roomy : 512 ≤ room) (short : length s ≤ 32768) where
+    pub no-record : length s ≤ p → ([] ≡ lineInto room s p) × (length s ≡ nextInto room s p)
+    unfolding lineInto nextInto
+    no-record e =
+        let r = le-ltb room 512 roomy in
+        let l = le-ltb 32768 (length s) short in
+        let i = le-leb (length s) p e in
+        (simp (r, l, i), simp (r, l, i))
+
+    pub a-record : p < length s → (lineAt s p ≡ lineInto room s p) × (nextAt s p ≡ nextInto room s p)
+    unfolding lineInto nextInto
+    a-record e =
+        let r = le-ltb room 512 roomy in
+        let l = le-ltb 32768 (length s) short in
+        let i = lt-leb (length s) p e in
+        (simp (r, l, i), simp (r, l, i))
 
   pub no-beginning : room < 512 → ([] ≡ beginningInto room s) × (length s ≡ startInto room s)
   unfolding beginningInto startInto
@@ -26,3 +50,37 @@ module _ (room : ℕ) (s : List ℕ) where
   pub a-beginning : 512 ≤ room → (beginning s ≡ beginningInto room s) × (startOf s ≡ startInto room s)
   unfolding beginningInto startInto
   a-beginning h = (simp (le-ltb room 512 h), simp (le-ltb room 512 h))
+
+-- ---- THE LISTING AS IT IS PUT: where there is room, the beginning, and line after line from the place that was given
+
+module _ (room : ℕ) (s : List ℕ) (roomy : 512 ≤ room) where
+  none-put : (f p : ℕ) → length s ≤ p → putFrom f room s p ≡ []
+  unfolding putFrom
+  none-put zero p h = refl
+  none-put (suc f) p h = simp (le-ltb p (length s) h)
+
+  -- the lines of a sheet that is not long
+  lines-put : length s ≤ 32768 → (f p : ℕ) → putFrom f room s p ≡ linesFrom f s p
+  unfolding putFrom linesFrom
+  lines-put short zero p = refl
+  lines-put short (suc f) p = go (decLt p (length s)) (lines-put short f (nextAt s p))
+    where
+      go : Dec (p < length s) → putFrom f room s (nextAt s p) ≡ linesFrom f s (nextAt s p)
+          → cond (ltb p (length s)) (lineInto room s p ++ putFrom f room s (nextInto room s p)) []
+          ≡ cond (ltb p (length s)) (lineAt s p ++ linesFrom f s (nextAt s p)) []
+      go (yes h) ih = let r = a-record room s p roomy short h in rw (← (r .0), ← (r .1), ih)
+      go (no n) ih = let l = le-ltb p (length s) (omega arith) in simp l
+
+  pub listing-put : beginningInto room s ++ putFrom (length s) room s (startInto room s) ≡ listingOf s
+  unfolding beginning startOf listingOf
+  listing-put = go (decLt 32768 (length s))
+    where
+      go : Dec (32768 < length s) → beginningInto room s ++ putFrom (length s) room s (startInto room s) ≡ listingOf s
+      go (yes h) =
+          let b = a-beginning room s roomy in
+          let l = lt-ltb 32768 (length s) h in
+          rw (← (b .0), ← (b .1)) (simp (l, none-put (length s) (length s) (omega arith)) (append-nil (headerText ++ refusedText 12)))
+      go (no n) =
+          let b = a-beginning room s roomy in
+          let l = le-ltb 32768 (length s) (omega arith) in
+          rw (← (b .0), ← (b .1)) (simp (l, lines-put (omega arith) (length s) 0))

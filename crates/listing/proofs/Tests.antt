@@ -8,10 +8,11 @@ use lib.Dec.{eqb, leb, ltb}
 use lib.IntN.{ℤ}
 use lib.ListN.{length, getD, take, drop}
 use borrow.Author.Tests.{eq-eqb, ne-eqb, le-leb, lt-leb, lt-ltb, le-ltb, leb-true}
-use Rattle.frames.specs.Kind.{isKind, messageBytes}
+use Rattle.frames.specs.Kind.{isKind, isGrade, messageBytes}
 use Rattle.e8.specs.Energy.{energy}
 use Rattle.frames.specs.Frame.{sentFrame}
-use Rattle.frames.specs.Sending.{isGrade, sendRefusal, frameAfter, energySent}
+use Rattle.frames.specs.Sending.{sendRefusal, frameAfter, energySent}
+use Rattle.frames.proofs.Accepted.{sent-leaves}
 use Rattle.frames.proofs.Refusals.{passed}
 use Rattle.listing.specs.Record.{marked, kindAt, gradeAt, messageAt, endAt, recordRefusal, recordNumber}
 use Rattle.listing.specs.Listing.{sentLine, lineAt, nextAt, beginning, startOf}
@@ -123,16 +124,12 @@ header-length = refl
 -- ---- what sending a message of a record gives, for its line
 
 module _ (k b : ℕ) (m : List ℕ) (f : List ℤ) where
-  shown : sendRefusal k b m (length f) ≡ 0 → (frameAfter k b m f ≡ sentFrame k b m) × (energySent k b m (length f) ≡ energy (sentFrame k b m))
-  unfolding frameAfter energySent
-  shown z = (simp z, simp z)
-
   is : lineOf k b (energy (sentFrame k b m)) (sentFrame k b m) ≡ sentLine k b m
   unfolding sentLine
   is = refl
 
-  pub sent-shown : sendRefusal k b m (length f) ≡ 0 → (g : List ℤ) (e : ℕ) → g ≡ frameAfter k b m f → e ≡ energySent k b m (length f)
+  pub sent-shown : (number : ℕ) → number ≡ 0 → (g : List ℤ) (e : ℕ) → g ≡ frameAfter number k b m f → e ≡ energySent number k b m
       → (g ≡ sentFrame k b m) × (lineOf k b e g ≡ sentLine k b m)
-  sent-shown z g e qg qe =
-      let r = shown z in
+  sent-shown number z g e qg qe =
+      let r = sent-leaves number k b m f z in
       (qg ∙ r .0, ap₂ (λ (x : ℕ) (y : List ℤ). lineOf k b x y) (qe ∙ r .1) (qg ∙ r .0) ∙ is)

@@ -5,8 +5,8 @@ use mathlib.Core.Bool.{Bool, _&&_, cond}
 use mathlib.Core.List.{List}
 use lib.Dec.{eqb, leb}
 use lib.ListN.{length, getD, take, drop}
-use Rattle.frames.specs.Kind.{isKind, messageBytes}
-use Rattle.frames.specs.Sending.{isGrade, unless, sendRefusal}
+use Rattle.frames.specs.Kind.{isKind, isGrade, messageBytes}
+use Rattle.frames.specs.Sending.{unless, sendRefusal}
 
 -- the mark stands at place p
 unfoldable pub marked : List ℕ → ℕ → Bool

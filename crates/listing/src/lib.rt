@@ -135,29 +135,30 @@ fn header(sheet: &[u8], out: &mut [u8]) -> Written
     Written { length: a, next: 0 }
 }
 
-// The line of the record at place p. Nothing is put past the end of the sheet, or where less than 512 bytes are lent.
+// The line of the record at place p. Nothing is put where less than 512 bytes are lent, for a long sheet, or past the end of the sheet.
 pub fn line(sheet: &[u8], p: usize, out: &mut [u8]) -> Written
-    ensures line { λ r. ⌜ Put (now (out .entry)) 0 (lineInto (length (now (out .entry))) (now (sheet .entry)) p) (r .length) (now (out .exit)) × (r .length ≤ length (now (out .entry))) ⌝ }
-    ensures next { λ r. ⌜ (r .next ≡ nextInto (length (now (out .entry))) (now (sheet .entry)) p) × (p < length (now (sheet .entry)) → p < r .next) ⌝ }
+    ensures line { λ r. ⌜ Put (now (out .entry)) 0 (lineInto (length (now (out .entry))) (now (sheet .entry)) p) (r .length) (now (out .exit)) ⌝ }
+    ensures short { λ r. ⌜ r .length ≤ length (now (out .entry)) ⌝ }
+    ensures next { λ r. ⌜ r .next ≡ nextInto (length (now (out .entry))) (now (sheet .entry)) p ⌝ }
+    ensures further { λ r. ⌜ (p < length (now (sheet .entry)) → p < r .next) ⌝ }
 {
+    let n = sheet.len();
     if out.len() < 512 {
-        return Written {
-            length: 0,
-            next: sheet.len(),
-        };
+        return Written { length: 0, next: n };
     }
-    if sheet.len() <= p {
-        return Written {
-            length: 0,
-            next: sheet.len(),
-        };
+    if 32768 < n {
+        return Written { length: 0, next: n };
+    }
+    if n <= p {
+        return Written { length: 0, next: n };
     }
     record_line(sheet, p, out)
 }
 
 // What the listing begins with. Nothing is put where less than 512 bytes are lent.
 pub fn begin(sheet: &[u8], out: &mut [u8]) -> Written
-    ensures line { λ r. ⌜ Put (now (out .entry)) 0 (beginningInto (length (now (out .entry))) (now (sheet .entry))) (r .length) (now (out .exit)) × (r .length ≤ length (now (out .entry))) ⌝ }
+    ensures line { λ r. ⌜ Put (now (out .entry)) 0 (beginningInto (length (now (out .entry))) (now (sheet .entry))) (r .length) (now (out .exit)) ⌝ }
+    ensures short { λ r. ⌜ r .length ≤ length (now (out .entry)) ⌝ }
     ensures next { λ r. ⌜ r .next ≡ startInto (length (now (out .entry))) (now (sheet .entry)) ⌝ }
 {
     if out.len() < 512 {

@@ -15,6 +15,7 @@ use Rattle.e8.specs.Least.{lowered}
 use Rattle.e8.specs.Rows.{ints, remainders, reduced}
 use Rattle.e8.proofs.Rows.{ints-length, remainders-length}
 use Rattle.coordinates.proofs.Size.{abs! }
+use Rattle.coordinates.proofs.Rest.{Scale}
 use Rattle.coordinates.proofs.Filled.{Filled, filled-next, filled-all}
 
 drop-last : (xs : List ℤ) (i : ℕ) → length xs ≡ suc i → drop i xs ≡ getD xs i (pos 0) ∷ []
@@ -49,28 +50,33 @@ more : (h : ℕ) (Q z : ℤ) (ys : List ℤ) → 0 < length ys → remainders h 
 more h Q z [] l = absurd (omega arith)
 more h Q z (y ∷ ys) l = refl
 
-module _ (h : ℕ) (y r : List ℤ) (q : ℤ) (i : ℕ) (h-pos : 0 < h) (h-small : h ≤ 2 ^ 6) (eight : length y ≡ 8) (s : Rows h y r q i) where
-  at : ℤ
+-- one row more, and the last
+module _ {h : ℕ} {y r : List ℤ} {q : ℤ} {i : ℕ} (h-scale : Scale h) (eight : length y ≡ 8) (s : Rows h y r q i) where
+  abbrev at : ℤ
   at = getD y i (pos 0)
 
-  pub rows-next : (v w : ℤ) → i < 7 → natAbs (getD y i (pos 0)) ≤ 2 ^ 26 → v ≡ pos (modZ (getD y i (pos 0)) (2 * h)) → w ≡ q +ℤ (getD y i (pos 0) -ℤ v) → Rows h y (set r i v) w (i + 1)
-  unfolding at
+  pub rows-next : (v w : ℤ) → i < 7 → natAbs at ≤ 2 ^ 26 → v ≡ pos (modZ at (2 * h)) → w ≡ q +ℤ (at -ℤ v) → Rows h y (set r i v) w (i + 1)
   rows-next v w i-lt small ev ew =
       let u : ℤ = shrZ at (2 * h) in
       let n : ℕ = modZ at (2 * h) in
-      let d = eq? (` at) (# (2 * h) ⊗ ` u ⊕ # n) (div-mod at (2 * h) (omega arith)) in
-      let lt : n < 2 * h = modZ-lt at (2 * h) (omega arith) in
+      let d = eq? (` at) (# (2 * h) ⊗ ` u ⊕ # n) (div-mod at (2 * h) (omega (arith, h-scale .some))) in
+      let lt : n < 2 * h = modZ-lt at (2 * h) (omega (arith, h-scale .some)) in
       let o = eq? (` q) (# (2 * h) ⊗ ` (s .Q)) (s .off) in
       let w′ : w ≡ q +ℤ (at -ℤ pos n) = ew ∙ ap (λ (z : ℤ). q +ℤ (at -ℤ z)) ev in
       let t : List ℤ = result h y in
       let f : getD t i (pos 0) ∷ drop (suc i) t ≡ pos n ∷ ints (remainders h (s .Q +ℤ u) (drop (suc i) y)) =
       sym (drop-cons t i (pos 0) (omega (arith, result-length h y eight))) ∙ s .left
-      ∙ ap (λ l. ints (remainders h (s .Q) l)) (drop-cons y i (pos 0) (omega arith)) ∙ ap ints (more h (s .Q) at (drop (suc i) y) (simp length-drop (omega arith))) in
+      ∙ ap (λ l. ints (remainders h (s .Q) l)) (drop-cons y i (pos 0) (omega arith))
+      ∙ ap ints (more h (s .Q) at (drop (suc i) y) (simp length-drop (omega arith))) in
+      let B : ℕ = (i + 1) * 2 ^ 27 in
+      let a = abs-ud q in
+      let b = abs-ud at in
+      let c = h-scale .small in
       record {
         Q = s .Q +ℤ u;
         off = w′ ∙ eq! (` q ⊕ (` at ⊖ # n)) (# (2 * h) ⊗ (` (s .Q) ⊕ ` u)) (omega (arith, d, o));
-        size = subst (λ (z : ℤ). natAbs z ≤ (i + 1) * 2 ^ 27) (sym w′)
-            (abs! (` q ⊕ (` at ⊖ # n)) ((i + 1) * 2 ^ 27) (omega (arith, s .size, abs-ud q, abs-ud at, small, lt)) (omega (arith, s .size, abs-ud q, abs-ud at, small, lt)));
+        size = subst (λ (z : ℤ). natAbs z ≤ B) (sym w′)
+            (abs! (` q ⊕ (` at ⊖ # n)) B (omega (arith, s .size, a, b, c, small, lt)) (omega (arith, s .size, a, b, c, small, lt)));
         left = simp add-one (ap (drop 1) f);
         filled = filled-next t r i v (s .filled) (omega (arith, result-length h y eight)) (ev ∙ sym (ap (λ l. getD l 0 (pos 0)) f));
       }
@@ -87,7 +93,8 @@ module _ (h : ℕ) (y r : List ℤ) (q : ℤ) (i : ℕ) (h-pos : 0 < h) (h-small
       (omega (arith, result-length h y eight))
 
 -- the first row
-pub first-row : (h : ℕ) (v : List ℤ) (d s : ℤ) → 0 < h → length v ≡ 8 → s ≡ pos (modZ (getD v 0 (pos 0)) h) → d ≡ getD v 0 (pos 0) -ℤ s → result h (lowered d v) ≡ ints (reduced h v)
+pub first-row : (h : ℕ) (v : List ℤ) (d s : ℤ) → 0 < h → length v ≡ 8 → s ≡ pos (modZ (getD v 0 (pos 0)) h) → d ≡ getD v 0 (pos 0) -ℤ s
+    → result h (lowered d v) ≡ ints (reduced h v)
 unfolding reduced
 first-row h [] d s p l es ed = absurd (omega arith)
 first-row h (x ∷ xs) d s p l es ed =

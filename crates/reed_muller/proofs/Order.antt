@@ -220,7 +220,7 @@ module _ (m : ℕ) where
   unfolding order dimension
   place-order S h = let w = place-mask m m S h (ones-le m S h) in (omega (arith, order-length, w .0), w .1)
 
--- the first masks of the order are those of at most r bits, and the later ones have more
+-- the first masks of the order have at most r bits
 module _ (r m : ℕ) (hr : r ≤ m) where
   -- there are no more message bits than masks
   pub dimension-small : dimension r m ≤ 2 ^ m
@@ -228,11 +228,3 @@ module _ (r m : ℕ) (hr : r ≤ m) where
 
   pub order-light : (k : ℕ) → k < dimension r m → weight (getD (order m) k 0) ≤ r
   order-light k h = rw (order-at r m hr k h) (mask-light r m k h .1)
-
-  pub place-light : (S : ℕ) → S < 2 ^ m → weight S ≤ r → place (order m) S < dimension r m
-  place-light S h w =
-      let e = place-mask r m S h w in
-      let same =
-      ap (place (order m)) (sym (e .1) ∙ sym (order-at r m hr (place (masks r m) S) (e .0)))
-      ∙ order-place m (place (masks r m) S) (omega (arith, dimension-small, e .0)) in
-      omega (arith, same, e .0)

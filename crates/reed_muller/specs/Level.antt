@@ -1,6 +1,6 @@
 -- Level codes: masks and their order, codewords of RM(r,m), the way back, and which words belong to the code.
 -- Clients cite liesIn, weight, masks, order, place, dimension, codeword, backwards, belongs, and Tabled. Assumes nothing.
-use Prim.Native.Nat.{ℕ, zero, suc, _+_, _%_, _^_, _≤_}
+use Prim.Native.Nat.{ℕ, zero, suc, _%_, _^_, _≤_}
 use mathlib.Core.Bool.{Bool, true, false, _&&_, _||_}
 use mathlib.Core.List.{List, [], _∷_, _++_}
 use lib.Dec.{eqb, leb}

@@ -1,7 +1,7 @@
 -- The answer of sending by the tests that were passed, and what an answer of 0 says. Assumes nothing.
 use Prim.Native.Nat.{ℕ, suc, _+_, _*_, _^_, _≤_}
 use mathlib.Core.Path.{_≡_, refl, _∙_}
-use mathlib.Core.Bool.{Bool, true, false}
+use mathlib.Core.Bool.{Bool, true, false, cond}
 use mathlib.Core.List.{List}
 use native.Mathlib.Omega.{arith}
 use lib.Dec.{eqb}
@@ -28,6 +28,24 @@ module _ (k b : ℕ) (bytes : List ℕ) (n : ℕ) (good : (isKind k ≡ true) ×
       pub accepts : spareSet k b bytes ≡ false → 0 ≡ sendRefusal k b bytes n
       unfolding sendRefusal
       accepts e = simp (good .0, good .1, eq-eqb _ _ long, eq-eqb _ _ positions, e)
+
+-- no number is over 5
+unless-most : (t : Bool) (number next most : ℕ) → number ≤ most → next ≤ most → unless t number next ≤ most
+unless-most true number next most h l = l
+unless-most false number next most h l = h
+
+cond-most : (t : Bool) → cond {A = ℕ} t 5 0 ≤ 5
+cond-most true = omega arith
+cond-most false = omega arith
+
+pub at-most-five : (k b : ℕ) (bytes : List ℕ) (n : ℕ) → sendRefusal k b bytes n ≤ 5
+unfolding sendRefusal
+at-most-five k b bytes n =
+    unless-most (isKind k) 1 _ 5 (omega arith)
+    (unless-most (isGrade b) 2 _ 5 (omega arith)
+    (unless-most (eqb (length bytes) (messageBytes k b)) 3 _ 5 (omega arith)
+    (unless-most (eqb n (2 ^ k)) 4 _ 5 (omega arith)
+    (cond-most (spareSet k b bytes)))))
 
 -- ---- back: what is known where none of the first four tests refuses
 

@@ -34,7 +34,15 @@ pub fn codewords(kind: u8, message: &[u8]) -> [u64; 3]
 }
 
 // A block of the leader, from the block's message bits and the values c0, c1, c2 of the levels at its eight positions: c0 + 2·c1 + 4·c2 + 2^a·s.
-pub fn block(message: &[u8], from: usize, grade: usize, a: u32, c0: u64, c1: u64, c2: u64) -> [i32; 8]
+pub fn block(
+    message: &[u8],
+    from: usize,
+    grade: usize,
+    a: u32,
+    c0: u64,
+    c1: u64,
+    c2: u64,
+) -> [i32; 8]
     requires { ⌜ (1 ≤ grade) × (grade ≤ 4) × (a ≤ 3) × (from % 8 + 8 * grade ≤ 64) × (from + 8 * grade ≤ 8 * length (now message)) ⌝ }
     ensures { λ x. ⌜ x ≡ ints (table 8 (λ o. c0 / 2 ^ o % 2 + 2 * (c1 / 2 ^ o % 2) + 4 * (c2 / 2 ^ o % 2)
         + 2 ^ a * getD (numbers (messageBit (now (message .entry))) from (widths grade)) o 0)) ⌝ }

@@ -44,7 +44,7 @@ fn write_leader(kind: u8, grade: usize, message: &[u8], frame: &mut [i32])
 
 // Shapes a frame in place, block by block, for the scale M = 2^(k + 1).
 fn shape(k: u32, frame: &mut [i32])
-    requires { ⌜ (k ≤ 6) × (length (now frame) % 8 ≡ 0) × (length (now frame) ≤ 1024) × Within (2 ^ 24) (now frame) ⌝ }
+    requires { ⌜ (k ≤ 6) × (length (now frame) % 8 ≡ 0) × (length (now frame) ≤ 1024) × Within (2 ^ 24) (now frame) × (8 ≤ length (now frame)) ⌝ }
     ensures { λ _. ⌜ now (frame .exit) ≡ leastFrame (2 ^ k) (length (now (frame .entry)) / 8) (now (frame .entry)) ⌝ }
 {
     let all = frame.len() / 8;

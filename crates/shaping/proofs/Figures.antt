@@ -2,7 +2,7 @@
 use mathlib.Core.Path.{_≡_, refl, sym, _∙_, ap, ap₂, transport}
 use mathlib.Core.Bool.{Bool, true, false, cond}
 use mathlib.Core.List.{List, [], _∷_}
-use Prim.Native.Nat.{ℕ, zero, suc, _+_, _*_, _^_, _<_, _≤_}
+use Prim.Native.Nat.{ℕ, zero, suc, _*_, _^_, _<_, _≤_}
 use native.Mathlib.Omega.{arith}
 use lib.Dec.{ltb}
 use lib.ListN.{length, drop, getD, set}
@@ -14,8 +14,9 @@ use Rattle.integers.proofs.Zed.{`_, #_, _⊕_, _⊖_, eq! }
 use Rattle.integers.proofs.Floor.{modZ-lt}
 use Rattle.e8.specs.Energy.{Within}
 use Rattle.e8.specs.Least.{cent}
+use Rattle.e8.proofs.Cent.{range-abs, cent-range}
 use Rattle.coordinates.proofs.Size.{sum-abs, less-abs}
-use Rattle.shaping.proofs.Passing.{cent-abs}
+use Rattle.coordinates.proofs.Rest.{Scale}
 use Rattle.shaping.specs.Rounded.{rankOf, rounded, off, floors, sizes, highest, lowest, Rounded}
 
 -- ---- one coordinate more
@@ -29,7 +30,8 @@ drop-set [] i c h = absurd (omega arith)
 drop-set (r ∷ rs) zero c h = refl
 drop-set (r ∷ rs) (suc i) c h = drop-set rs i c (omega arith)
 
-rounded-more : (H : ℕ) (xs rs : List ℤ) (s t n u v z c s′ t′ n′ u′ v′ : ℤ) (i : ℕ) → c ≡ cent H z → s′ ≡ s +ℤ (z -ℤ c) → t′ ≡ t +ℤ (z -ℤ pos (modZ z (2 * H))) → n′ ≡ n +ℤ pos (natAbs c)
+rounded-more : (H : ℕ) (xs rs : List ℤ) (s t n u v z c s′ t′ n′ u′ v′ : ℤ) (i : ℕ) → c ≡ cent H z
+    → s′ ≡ s +ℤ (z -ℤ c) → t′ ≡ t +ℤ (z -ℤ pos (modZ z (2 * H))) → n′ ≡ n +ℤ pos (natAbs c)
     → u′ ≡ cond (ltZ u (pos (rankOf c i))) (pos (rankOf c i)) u → v′ ≡ cond (ltZ v (pos (rankOf c i))) v (pos (rankOf c i))
     → Rounded H xs rs s t n u v (suc i) → Rounded H (z ∷ xs) (c ∷ rs) s′ t′ n′ u′ v′ i
 rounded-more H xs rs s t n u v z c s′ t′ n′ u′ v′ i hc hs ht hn hu hv r = record {
@@ -37,12 +39,15 @@ rounded-more H xs rs s t n u v z c s′ t′ n′ u′ v′ i hc hs ht hn hu hv 
   whole = hs ∙ ap₂ (λ a b. a +ℤ (z -ℤ b)) (r .whole) hc;
   half = ht ∙ ap (λ (a : ℤ). a +ℤ (z -ℤ pos (modZ z (2 * H)))) (r .half);
   size = hn ∙ ap (λ (a : ℤ). a +ℤ pos (natAbs c)) (r .size);
-  top = hu ∙ ap (λ (a : ℤ). cond (ltZ a (pos (rankOf c i))) (pos (rankOf c i)) a) (r .top) ∙ pos-where (ltb (highest rs (suc i)) (rankOf c i)) (rankOf c i) (highest rs (suc i));
-  low = hv ∙ ap (λ (a : ℤ). cond (ltZ a (pos (rankOf c i))) a (pos (rankOf c i))) (r .low) ∙ pos-where (ltb (lowest rs (suc i)) (rankOf c i)) (lowest rs (suc i)) (rankOf c i);
+  top = hu ∙ ap (λ (a : ℤ). cond (ltZ a (pos (rankOf c i))) (pos (rankOf c i)) a) (r .top)
+      ∙ pos-where (ltb (highest rs (suc i)) (rankOf c i)) (rankOf c i) (highest rs (suc i));
+  low = hv ∙ ap (λ (a : ℤ). cond (ltZ a (pos (rankOf c i))) a (pos (rankOf c i))) (r .low)
+      ∙ pos-where (ltb (lowest rs (suc i)) (rankOf c i)) (lowest rs (suc i)) (rankOf c i);
 }
 
 -- as the code takes it
-pub rounded-turn : (H : ℕ) (x r : List ℤ) (s t n u v z c s′ t′ n′ u′ v′ : ℤ) (i j : ℕ) → i ≡ suc j → i ≤ 8 → length x ≡ 8 → length r ≡ 8 → z ≡ getD x j (pos 0)
+pub rounded-turn : (H : ℕ) (x r : List ℤ) (s t n u v z c s′ t′ n′ u′ v′ : ℤ) (i j : ℕ)
+    → i ≡ suc j → i ≤ 8 → length x ≡ 8 → length r ≡ 8 → z ≡ getD x j (pos 0)
     → c ≡ cent H z → s′ ≡ s +ℤ (z -ℤ c) → t′ ≡ t +ℤ (z -ℤ pos (modZ z (2 * H))) → n′ ≡ n +ℤ pos (natAbs c)
     → u′ ≡ cond (ltZ u (pos (rankOf c j))) (pos (rankOf c j)) u → v′ ≡ cond (ltZ v (pos (rankOf c j))) v (pos (rankOf c j))
     → Rounded H (drop i x) (drop i r) s t n u v i → Rounded H (drop j x) (drop j (set r j c)) s′ t′ n′ u′ v′ j
@@ -50,29 +55,32 @@ rounded-turn H x r s t n u v z c s′ t′ n′ u′ v′ i j hi k lx lr hz hc h
     let ex : z ∷ drop (suc j) x ≡ drop j x = ap (λ (y : ℤ). y ∷ drop (suc j) x) hz ∙ sym (drop-cons x j (pos 0) (omega arith)) in
     let er : c ∷ drop (suc j) r ≡ drop j (set r j c) = sym (drop-set r j c (omega arith)) in
     transport (λ m. Rounded H (ex m) (er m) s′ t′ n′ u′ v′ j)
-    (rounded-more H (drop (suc j) x) (drop (suc j) r) s t n u v z c s′ t′ n′ u′ v′ j hc hs ht hn hu hv (transport (λ m. Rounded H (drop (hi m) x) (drop (hi m) r) s t n u v (hi m)) q))
+    (rounded-more H (drop (suc j) x) (drop (suc j) r) s t n u v z c s′ t′ n′ u′ v′ j hc hs ht hn hu hv
+    (transport (λ m. Rounded H (drop (hi m) x) (drop (hi m) r) s t n u v (hi m)) q))
 
 -- what comes off a coordinate, by the multiple of M next below x + H
-pub off-is : (H m : ℕ) (x : ℤ) → m ≡ 2 * H → x +ℤ pos H -ℤ pos (modZ (x +ℤ pos H) m) ≡ x -ℤ cent H x
+pub off-floor : (H m : ℕ) (x : ℤ) → m ≡ 2 * H → x +ℤ pos H -ℤ pos (modZ (x +ℤ pos H) m) ≡ x -ℤ cent H x
 unfolding cent
-off-is H m x e =
+off-floor H m x e =
     let r : ℕ = modZ (x +ℤ pos H) (2 * H) in
     ap (λ (n : ℕ). x +ℤ pos H -ℤ pos (modZ (x +ℤ pos H) n)) e ∙ eq! (` x ⊕ # H ⊖ # r) (` x ⊖ (# r ⊖ # H)) (omega arith)
 
 pub back : (x c : ℤ) → x -ℤ (x -ℤ c) ≡ c
 back x c = eq! (` x ⊖ (` x ⊖ ` c)) (` c) (omega arith)
 
--- ---- how large they are
+-- ---- how large they are, at a scale that the code takes
 
-module _ (H : ℕ) (h : 0 < H) (s : H ≤ 2 ^ 6) where
+module _ {H : ℕ} (s : Scale H) where
   pub cent-low : (x : ℤ) → natAbs (cent H x) ≤ 2 ^ 6
-  cent-low x = omega (arith, cent-abs H x h)
+  cent-low x = omega (arith, range-abs H (cent H x) (cent-range H x (s .some)), s .small)
 
   pub off-one : (x : ℤ) → natAbs x ≤ 2 ^ 24 → natAbs (x -ℤ cent H x) ≤ 2 ^ 25
   off-one x l = omega (arith, less-abs x (cent H x) (2 ^ 24) (2 ^ 6) l (cent-low x))
 
   pub floor-one : (x : ℤ) → natAbs x ≤ 2 ^ 24 → natAbs (x -ℤ pos (modZ x (2 * H))) ≤ 2 ^ 25
-  floor-one x l = omega (arith, less-abs x (pos (modZ x (2 * H))) (2 ^ 24) (2 ^ 7) l (omega (arith, modZ-lt x (2 * H) (omega arith))))
+  floor-one x l =
+      let m : modZ x (2 * H) ≤ 2 ^ 7 = omega (arith, modZ-lt x (2 * H) (omega (arith, s .some)), s .small) in
+      omega (arith, less-abs x (pos (modZ x (2 * H))) (2 ^ 24) (2 ^ 7) l m)
 
   pub off-size : (xs : List ℤ) → Within (2 ^ 24) xs → natAbs (off H xs) ≤ length xs * 2 ^ 25
   off-size [] w = omega arith
@@ -80,7 +88,9 @@ module _ (H : ℕ) (h : 0 < H) (s : H ≤ 2 ^ 6) where
 
   pub floors-size : (xs : List ℤ) → Within (2 ^ 24) xs → natAbs (floors H xs) ≤ length xs * 2 ^ 25
   floors-size [] w = omega arith
-  floors-size (x ∷ xs) w = omega (arith, sum-abs (floors H xs) (x -ℤ pos (modZ x (2 * H))) (length xs * 2 ^ 25) (2 ^ 25) (floors-size xs (w .1)) (floor-one x (w .0)))
+  floors-size (x ∷ xs) w =
+      let d : ℤ = x -ℤ pos (modZ x (2 * H)) in
+      omega (arith, sum-abs (floors H xs) d (length xs * 2 ^ 25) (2 ^ 25) (floors-size xs (w .1)) (floor-one x (w .0)))
 
   pub sizes-low : (xs : List ℤ) → sizes (rounded H xs) ≤ length xs * 2 ^ 6
   sizes-low [] = omega arith

@@ -1,4 +1,15 @@
--- The half part from the rounded whole part: each coordinate H across 0, the ranks turned round, the energy by the sizes; and the better of the two candidates
+-- The half part from the rounded whole part, and the better of the two candidates.
+--
+-- c = cent H x is x rounded modulo M = 2·H, from −H to H − 1. The half part of the class is x − H less multiples of M, and x − H rounded is c moved by H
+-- across 0: d = c − H where c is not negative, d = c + H where it is. So a block need be rounded only once:
+--   sizes     |c| + |d| = H
+--   ranks     rank c + rank d = 16·H + 15, so that the highest rank of the half part is the lowest of the whole part turned round
+--   energies  Σ d² = Σ c² − M·Σ|c| + M·4·H for eight coordinates
+-- To change a coordinate c by M across 0, where the sum is odd, adds M·(M − 2·|c|) to the energy; |c| is the rank divided by 16.
+-- Both energies are then that of the rounded block and a multiple of M, and the code compares the two multiples, with Σ|c| added to each:
+--   whole part  Σ|c| and, where its sum is odd, 2·(H − highest rank / 16)
+--   half part   4·H and, where its sum is odd, 2·(lowest rank / 16)
+-- A rank is at most 16·H + 15, which for the largest H, 64, is 1039: the lowest rank of no coordinate at all is 1039
 use mathlib.Core.Path.{_≡_, refl, sym, _∙_, ap, ap₂, subst}
 use mathlib.Core.Logic.{inl, inr}
 use mathlib.Core.Bool.{Bool, true, false, true≢false, cond}
@@ -20,7 +31,7 @@ use Rattle.e8.proofs.Cent.{Range, cent-range, cent-is, turns}
 use Rattle.e8.proofs.Best.{All}
 use Rattle.e8.proofs.Rounding.{cent-only, cost-one}
 use Rattle.e8.proofs.Rows.{lowered-length}
-use Rattle.shaping.proofs.Passing.{placeOf, ranked, changed, across-none, Passed, passed, Mended, mended, least-is}
+use Rattle.shaping.proofs.Mending.{placeOf, ranked, changed, across-none, Passed, passed, Mended, mended, least-is}
 use Rattle.shaping.specs.Rounded.{across, wholeFirst, rankOf, rounded, off, floors, sizes, highest, lowest, memberOf, members}
 
 -- ---- one coordinate
@@ -28,7 +39,8 @@ use Rattle.shaping.specs.Rounded.{across, wholeFirst, rankOf, rounded, o
 pub half-cent : (H : ℕ) (x : ℤ) → 0 < H → cent H (x -ℤ pos H) ≡ across (pos H) (cent H x)
 half-cent H x h = go (cent H x) (ltZ (cent H x) (pos 0)) refl (cent-range H x h) (cent-is H x h)
   where
-    go : (c : ℤ) (t : Bool) → ltZ c (pos 0) ≡ t → Range H c → c ≡ x -ℤ pos H *ℤ (pos 2 *ℤ turns H x) → cent H (x -ℤ pos H) ≡ cond t (c +ℤ pos H) (c -ℤ pos H)
+    go : (c : ℤ) (t : Bool) → ltZ c (pos 0) ≡ t → Range H c → c ≡ x -ℤ pos H *ℤ (pos 2 *ℤ turns H x)
+        → cent H (x -ℤ pos H) ≡ cond t (c +ℤ pos H) (c -ℤ pos H)
     go (pos a) true l r e = absurd (omega (arith, ltb-true a 0 l))
     go (pos a) false l r e =
         let d = eq? (` (pos a -ℤ pos H)) (# a ⊖ # H) refl in
@@ -37,7 +49,8 @@ half-cent H x h = go (cent H x) (ltZ (cent H x) (pos 0)) refl (cent-range H x h)
     go (negsuc a) true l r e =
         let d = eq? (` (negsuc a +ℤ pos H)) (` (negsuc a) ⊕ # H) refl in
         cent-only H (x -ℤ pos H) (turns H x -ℤ pos 1) (negsuc a +ℤ pos H) (record { low = omega (arith, d, r .low); high = omega (arith, d) })
-        (eq! (` x ⊖ # H) (` (negsuc a) ⊕ # H ⊕ # H ⊗ (# 2 ⊗ (` (turns H x) ⊖ # 1))) (omega (arith, eq? (` (negsuc a)) (` x ⊖ # H ⊗ (# 2 ⊗ ` (turns H x))) e)))
+        (eq! (` x ⊖ # H) (` (negsuc a) ⊕ # H ⊕ # H ⊗ (# 2 ⊗ (` (turns H x) ⊖ # 1)))
+        (omega (arith, eq? (` (negsuc a)) (` x ⊖ # H ⊗ (# 2 ⊗ ` (turns H x))) e)))
     go (negsuc a) false l r e = absurd (true≢false l)
 
 -- what comes off it is a multiple of M
@@ -45,7 +58,8 @@ half-off : (H : ℕ) (x : ℤ) → x -ℤ pos H -ℤ cent H (x -ℤ pos H) ≡ x
 unfolding cent
 half-off H x =
     let p : x -ℤ pos H +ℤ pos H ≡ x = eq! (` x ⊖ # H ⊕ # H) (` x) (omega arith) in
-    ap (λ (z : ℤ). x -ℤ pos H -ℤ (pos (modZ z (2 * H)) -ℤ pos H)) p ∙ eq! (` x ⊖ # H ⊖ (# (modZ x (2 * H)) ⊖ # H)) (` x ⊖ # (modZ x (2 * H))) (omega arith)
+    ap (λ (z : ℤ). x -ℤ pos H -ℤ (pos (modZ z (2 * H)) -ℤ pos H)) p
+    ∙ eq! (` x ⊖ # H ⊖ (# (modZ x (2 * H)) ⊖ # H)) (` x ⊖ # (modZ x (2 * H))) (omega arith)
 
 -- sizes and ranks make up H, and 16·H + 15
 pub record Half (H : ℕ) (c d : ℤ) : Type 0 where
@@ -111,10 +125,13 @@ turn-one n m K s b = go (ltb 1039 n) refl (ltb 0 m) refl
     go false e true f = b
     go false e false f = omega (arith, ltb-false 0 m f)
 
-ranks-half : (H : ℕ) (cs : List ℤ) (i : ℕ) → H ≤ 64 → All (Range H) cs → 0 < length cs → i + length cs ≤ 8 → lowest cs i + highest (acrossed (pos H) cs) i ≡ 16 * H + 15
+ranks-half : (H : ℕ) (cs : List ℤ) (i : ℕ) → H ≤ 64 → All (Range H) cs → 0 < length cs → i + length cs ≤ 8
+    → lowest cs i + highest (acrossed (pos H) cs) i ≡ 16 * H + 15
 ranks-half H [] i s r l k = absurd (omega arith)
-ranks-half H (c ∷ []) i s r l k = turn-one (rankOf c i) (rankOf (across (pos H) c) i) (16 * H + 15) (omega arith) (half H c (r .0) .rank i (omega arith))
-ranks-half H (c ∷ d ∷ cs) i s r l k = turn (lowest (d ∷ cs) (suc i)) (highest (acrossed (pos H) (d ∷ cs)) (suc i)) (rankOf c i) (rankOf (across (pos H) c) i) (16 * H + 15)
+ranks-half H (c ∷ []) i s r l k =
+    turn-one (rankOf c i) (rankOf (across (pos H) c) i) (16 * H + 15) (omega arith) (half H c (r .0) .rank i (omega arith))
+ranks-half H (c ∷ d ∷ cs) i s r l k =
+    turn (lowest (d ∷ cs) (suc i)) (highest (acrossed (pos H) (d ∷ cs)) (suc i)) (rankOf c i) (rankOf (across (pos H) c) i) (16 * H + 15)
     (ranks-half H (d ∷ cs) (suc i) s (r .1) (omega arith) (omega arith)) (half H c (r .0) .rank i (omega arith))
 
 -- the highest rank passes 16·H + 15 no more than the others do
@@ -152,7 +169,8 @@ members-changed by top i [] l p t = go (placeOf top - i)
 members-changed by top i (c ∷ cs) l p t = go (eqb (rankOf c i) top) refl (members-changed by top (suc i) cs (omega arith))
   where
     go : (s : Bool) → eqb (rankOf c i) top ≡ s
-        → (suc i ≤ placeOf top → top ≡ rankOf (getD cs (placeOf top - suc i) (pos 0)) (placeOf top) → members by (pos 0) top (suc i) cs ≡ changed by cs (placeOf top - suc i))
+        → (suc i ≤ placeOf top → top ≡ rankOf (getD cs (placeOf top - suc i) (pos 0)) (placeOf top)
+        → members by (pos 0) top (suc i) cs ≡ changed by cs (placeOf top - suc i))
         → across (cond s by (pos 0)) c ∷ members by (pos 0) top (suc i) cs ≡ changed by (c ∷ cs) (placeOf top - i)
     go true e w =
         let here : placeOf top ≡ i = sym (ap placeOf (eqb-true (rankOf c i) top e)) ∙ ranked (ltZ c (pos 0)) (natAbs c) i (omega arith) .place in
@@ -173,7 +191,8 @@ members-changed by top i (c ∷ cs) l p t = go (eqb (rankOf c i) top) refl (memb
 across-back : (H : ℕ) (by c : ℤ) → Range H c → across (pos H -ℤ by) c ≡ across by (across (pos H) c)
 across-back H by c r = go c (ltZ c (pos 0)) refl r
   where
-    go : (c : ℤ) (t : Bool) → ltZ c (pos 0) ≡ t → Range H c → cond t (c +ℤ (pos H -ℤ by)) (c -ℤ (pos H -ℤ by)) ≡ across by (cond t (c +ℤ pos H) (c -ℤ pos H))
+    go : (c : ℤ) (t : Bool) → ltZ c (pos 0) ≡ t → Range H c
+        → cond t (c +ℤ (pos H -ℤ by)) (c -ℤ (pos H -ℤ by)) ≡ across by (cond t (c +ℤ pos H) (c -ℤ pos H))
     go (pos a) true l r = absurd (omega (arith, ltb-true a 0 l))
     go (pos a) false l r =
         let e : pos a -ℤ pos H ≡ negsuc (H - suc a) = eq! (# a ⊖ # H) (` (negsuc (H - suc a))) (omega (arith, r .high)) in
@@ -181,7 +200,8 @@ across-back H by c r = go c (ltZ c (pos 0)) refl r
     go (negsuc a) true l r =
         let n : ℕ = H - suc a in
         let e : negsuc a +ℤ pos H ≡ pos n = eq! (` (negsuc a) ⊕ # H) (# n) (omega (arith, r .low)) in
-        eq! (` (negsuc a) ⊕ (# H ⊖ ` by)) (# n ⊖ ` by) (omega (arith, r .low)) ∙ sym (ap (across by) e ∙ ap (λ t. cond t (pos n +ℤ by) (pos n -ℤ by)) (le-ltb n 0 (omega arith)))
+        eq! (` (negsuc a) ⊕ (# H ⊖ ` by)) (# n ⊖ ` by) (omega (arith, r .low))
+        ∙ sym (ap (across by) e ∙ ap (λ t. cond t (pos n +ℤ by) (pos n -ℤ by)) (le-ltb n 0 (omega arith)))
     go (negsuc a) false l r = absurd (true≢false l)
 
 eqb-turn : (n m t u K : ℕ) → n + m ≡ K → t + u ≡ K → eqb n t ≡ eqb m u
@@ -191,10 +211,14 @@ eqb-turn n m t u K a b = go (eqb n t) refl
     go true e = sym (eq-eqb m u (omega (arith, eqb-true n t e)))
     go false e = sym (ne-eqb m u (λ q. eqb-false n t e (omega (arith, q))))
 
-members-half : (H : ℕ) (by : ℤ) (t u i : ℕ) (cs : List ℤ) → All (Range H) cs → t + u ≡ 16 * H + 15 → i + length cs ≤ 8 → members (pos H -ℤ by) (pos H) t i cs ≡ members by (pos 0) u i (acrossed (pos H) cs)
+-- the candidate of the half part: H across 0, and back at the coordinate to change
+members-half : (H : ℕ) (by : ℤ) (t u i : ℕ) (cs : List ℤ) → All (Range H) cs → t + u ≡ 16 * H + 15 → i + length cs ≤ 8
+    → members (pos H -ℤ by) (pos H) t i cs ≡ members by (pos 0) u i (acrossed (pos H) cs)
 members-half H by t u i [] r e l = refl
 members-half H by t u i (c ∷ cs) r e l =
-    ap₂ _∷_ (go (eqb (rankOf c i) t) (eqb (rankOf (across (pos H) c) i) u) (eqb-turn (rankOf c i) (rankOf (across (pos H) c) i) t u (16 * H + 15) (half H c (r .0) .rank i (omega arith)) e))
+    let n : ℕ = rankOf c i in
+    let m : ℕ = rankOf (across (pos H) c) i in
+    ap₂ _∷_ (go (eqb n t) (eqb m u) (eqb-turn n m t u (16 * H + 15) (half H c (r .0) .rank i (omega arith)) e))
     (members-half H by t u (suc i) cs (r .1) e (omega arith))
   where
     one : (p : Bool) → across (cond p (pos H -ℤ by) (pos H)) c ≡ across (cond p by (pos 0)) (across (pos H) c)
@@ -208,12 +232,49 @@ pub members-length : (at elsewhere : ℤ) (t i : ℕ) (cs : List ℤ) → length
 members-length at elsewhere t i [] = refl
 members-length at elsewhere t i (c ∷ cs) = ap suc (members-length at elsewhere t (suc i) cs)
 
-pub members-at : (at elsewhere : ℤ) (t i : ℕ) (cs : List ℤ) (j : ℕ) → j < length cs → getD (members at elsewhere t i cs) j (pos 0) ≡ memberOf at elsewhere t (getD cs j (pos 0)) (j + i)
+pub members-at : (at elsewhere : ℤ) (t i : ℕ) (cs : List ℤ) (j : ℕ) → j < length cs
+    → getD (members at elsewhere t i cs) j (pos 0) ≡ memberOf at elsewhere t (getD cs j (pos 0)) (j + i)
 members-at at elsewhere t i [] j l = absurd (omega arith)
 members-at at elsewhere t i (c ∷ cs) zero l = ap (memberOf at elsewhere t c) {x = i} {y = 0 + i} (omega arith)
-members-at at elsewhere t i (c ∷ cs) (suc j) l = members-at at elsewhere t (suc i) cs j (omega arith) ∙ ap (memberOf at elsewhere t (getD cs j (pos 0))) {x = j + suc i} {y = suc j + i} (omega arith)
+members-at at elsewhere t i (c ∷ cs) (suc j) l =
+    members-at at elsewhere t (suc i) cs j (omega arith) ∙ ap (memberOf at elsewhere t (getD cs j (pos 0))) {x = j + suc i} {y = suc j + i} (omega arith)
 
--- ---- the two parts of a block of at most eight
+-- ---- the two candidates
+
+-- M where a sum is an odd multiple of it, and 0 where it is an even one
+abbrev pub left : ℕ → Bool → ℤ
+left H odd = pos (bit odd * (2 * H))
+
+-- what the code compares: a candidate's energy over that of the rounded block rs, divided by M, and the sizes
+abbrev pub wholeCost : ℕ → Bool → List ℤ → ℕ
+wholeCost H odd rs = sizes rs + bit odd * (2 * H - 2 * (highest rs 0 / 16))
+
+abbrev pub halfCost : ℕ → Bool → List ℤ → ℕ
+halfCost H odd rs = 4 * H + bit odd * (2 * (lowest rs 0 / 16))
+
+-- the candidates and their first coordinates
+abbrev pub wholePart : ℕ → Bool → List ℤ → List ℤ
+wholePart H odd rs = members (left H odd) (pos 0) (highest rs 0) 0 rs
+
+abbrev pub halfPart : ℕ → Bool → List ℤ → List ℤ
+halfPart H odd rs = members (pos H -ℤ left H odd) (pos H) (lowest rs 0) 0 rs
+
+abbrev pub wholeHead : ℕ → Bool → List ℤ → ℤ
+wholeHead H odd rs = memberOf (left H odd) (pos 0) (highest rs 0) (getD rs 0 (pos 0)) 0
+
+abbrev pub halfHead : ℕ → Bool → List ℤ → ℤ
+halfHead H odd rs = memberOf (pos H -ℤ left H odd) (pos H) (lowest rs 0) (getD rs 0 (pos 0)) 0
+
+-- what is known of the two candidates of a block xs that is rounded to rs: the sums of what came off, the ranks, and which of the two is the least block
+pub record Two (H : ℕ) (xs rs : List ℤ) : Type 0 where
+  pub odd : Bool
+  pub half-odd : Bool
+  pub odd-left : pos (modZ (off H xs) (2 * (2 * H))) ≡ left H odd
+  pub half-left : pos (modZ (floors H xs) (2 * (2 * H))) ≡ left H half-odd
+  pub top-low : highest rs 0 ≤ 16 * H + 15
+  pub low-low : lowest rs 0 ≤ 16 * H + 15
+  pub least : (t : Bool) → t ≡ wholeFirst (pos (wholeCost H odd rs)) (wholeHead H odd rs) (pos (halfCost H half-odd rs)) (halfHead H half-odd rs)
+      → cond t (wholePart H odd rs) (halfPart H half-odd rs) ≡ leastBlock H xs
 
 -- more and less by M times as much
 compare : (M e f a b c d : ℕ) → 0 < M → a + c ≡ d + M * e → b + c ≡ d + M * f → (leb a b ≡ leb e f) × (ltb a b ≡ ltb e f)
@@ -228,88 +289,105 @@ compare M e f a b c d m p q = (first (leb e f) refl, second (ltb e f) refl)
     second false g = le-ltb a b (omega (arith, p, q, mul-le-mul-left M (ltb-false e f g)))
 
 module _ (H : ℕ) (xs : List ℤ) (h : 0 < H) (s : H ≤ 64) (l : length xs ≡ 8) where
+  abbrev M : ℕ
+  M = 2 * H
+
+  -- the block rounded, and the same for the half part; the highest ranks of both
   abbrev rs : List ℤ
   rs = rounded H xs
+
+  abbrev ds : List ℤ
+  ds = acrossed (pos H) rs
+
+  abbrev top : ℕ
+  top = highest rs 0
+
+  abbrev half-top : ℕ
+  half-top = highest ds 0
+
+  -- the best by whole vectors, and by halves of odd numbers
+  abbrev a : List ℤ
+  a = best M false xs
+
+  abbrev b : List ℤ
+  b = best M false (lowered (pos H) xs)
 
   eight : length rs ≡ 8
   eight = rounded-length H xs ∙ l
 
+  half-eight : length ds ≡ 8
+  half-eight = sym (ap length (rounded-half H xs h)) ∙ rounded-length H (lowered (pos H) xs) ∙ lowered-length (pos H) xs ∙ l
+
   r : All (Range H) rs
   r = ranged H xs h
 
-  pub turned : lowest rs 0 + highest (acrossed (pos H) rs) 0 ≡ 16 * H + 15
-  turned = ranks-half H rs 0 s r (omega (arith, eight)) (omega (arith, eight))
+  ranks : lowest rs 0 + half-top ≡ 16 * H + 15
+  ranks = ranks-half H rs 0 s r (omega (arith, eight)) (omega (arith, eight))
 
-  pub whole : Mended H xs rs (off H xs) (highest rs 0)
-  whole = mended H xs rs (off H xs) (highest rs 0) h (omega arith) (passed H xs 0 h (omega arith))
+  whole : Mended H xs rs (off H xs) top
+  whole = mended H xs rs (off H xs) top h (omega arith) (passed H xs 0 h (omega arith))
 
-  pub halved : Mended H (lowered (pos H) xs) (acrossed (pos H) rs) (floors H xs) (highest (acrossed (pos H) rs) 0)
+  halved : Mended H (lowered (pos H) xs) ds (floors H xs) half-top
   halved =
-      let e = rounded-half H xs h in
-      let n : length (lowered (pos H) xs) ≡ 8 = lowered-length (pos H) xs ∙ l in
-      mended H (lowered (pos H) xs) (acrossed (pos H) rs) (floors H xs) (highest (acrossed (pos H) rs) 0) h (omega (arith, n))
-      (subst (λ (t : ℤ). Passed H (lowered (pos H) xs) (acrossed (pos H) rs) t (highest (acrossed (pos H) rs) 0) 0) (off-half H xs)
-      (subst (λ (cs : List ℤ). Passed H (lowered (pos H) xs) cs (off H (lowered (pos H) xs)) (highest cs 0) 0) e (passed H (lowered (pos H) xs) 0 h (omega (arith, n)))))
+      let ys : List ℤ = lowered (pos H) xs in
+      let n : length ys ≡ 8 = lowered-length (pos H) xs ∙ l in
+      mended H ys ds (floors H xs) half-top h (omega (arith, n))
+      (subst (λ (t : ℤ). Passed H ys ds t half-top 0) (off-half H xs)
+      (subst (λ (cs : List ℤ). Passed H ys cs (off H ys) (highest cs 0) 0) (rounded-half H xs h) (passed H ys 0 h (omega (arith, n)))))
 
-  acrossed-eight : length (acrossed (pos H) rs) ≡ 8
-  acrossed-eight = sym (ap length (rounded-half H xs h)) ∙ rounded-length H (lowered (pos H) xs) ∙ lowered-length (pos H) xs ∙ l
-
-  -- what the code compares
-  abbrev pub whole-cost : ℕ
-  whole-cost = sizes rs + bit (whole .odd) * (2 * H - 2 * (highest rs 0 / 16))
-
-  abbrev pub half-cost : ℕ
-  half-cost = 2 * H + 2 * H + bit (halved .odd) * (2 * (lowest rs 0 / 16))
-
-  whole-energy : energy (best (2 * H) false xs) + 2 * H * sizes rs ≡ energy rs + 2 * H * whole-cost
+  -- the energies, by the costs
+  whole-energy : energy a + M * sizes rs ≡ energy rs + M * wholeCost H (whole .odd) rs
   whole-energy = go (whole .odd) (whole .cost)
     where
-      go : (q : Bool) → energy (best (2 * H) false xs) + bit q * (2 * (2 * H * (highest rs 0 / 16))) ≡ energy rs + bit q * (2 * H * (2 * H))
-          → energy (best (2 * H) false xs) + 2 * H * sizes rs ≡ energy rs + 2 * H * (sizes rs + bit q * (2 * H - 2 * (highest rs 0 / 16)))
+      go : (q : Bool) → energy a + bit q * (2 * (M * (top / 16))) ≡ energy rs + bit q * (M * M)
+          → energy a + M * sizes rs ≡ energy rs + M * wholeCost H q rs
       go false e = omega (arith, e)
       go true e =
-          let t : ℕ = highest rs 0 / 16 in
-          let g : 2 * H - 2 * t + 2 * t ≡ 2 * H = omega (arith, highest-low H rs 0 r (omega (arith, eight))) in
-          omega (arith, e, ap (λ (n : ℕ). 2 * H * n) g)
+          let g : M - 2 * (top / 16) + 2 * (top / 16) ≡ M = omega (arith, highest-low H rs 0 r (omega (arith, eight))) in
+          omega (arith, e, ap (λ (n : ℕ). M * n) g)
 
-  half-energy : energy (best (2 * H) false (lowered (pos H) xs)) + 2 * H * sizes rs ≡ energy rs + 2 * H * half-cost
+  half-energy : energy b + M * sizes rs ≡ energy rs + M * halfCost H (halved .odd) rs
   half-energy = go (halved .odd) (halved .cost)
     where
-      g : highest (acrossed (pos H) rs) 0 / 16 + lowest rs 0 / 16 ≡ H
-      g = omega (arith, turned)
+      g : half-top / 16 + lowest rs 0 / 16 ≡ H
+      g = omega (arith, ranks)
 
-      go : (q : Bool) → energy (best (2 * H) false (lowered (pos H) xs)) + bit q * (2 * (2 * H * (highest (acrossed (pos H) rs) 0 / 16))) ≡ energy (acrossed (pos H) rs) + bit q * (2 * H * (2 * H))
-          → energy (best (2 * H) false (lowered (pos H) xs)) + 2 * H * sizes rs ≡ energy rs + 2 * H * (2 * H + 2 * H + bit q * (2 * (lowest rs 0 / 16)))
+      go : (q : Bool) → energy b + bit q * (2 * (M * (half-top / 16))) ≡ energy ds + bit q * (M * M)
+          → energy b + M * sizes rs ≡ energy rs + M * halfCost H q rs
       go false e = omega (arith, e, energy-half H rs r, ap (λ (n : ℕ). n * (H * H)) eight)
-      go true e = omega (arith, e, energy-half H rs r, ap (λ (n : ℕ). n * (H * H)) eight, ap (λ (n : ℕ). 2 * H * n) g)
+      go true e = omega (arith, e, energy-half H rs r, ap (λ (n : ℕ). n * (H * H)) eight, ap (λ (n : ℕ). M * n) g)
 
-  -- the candidates
-  abbrev pub odd : ℤ
-  odd = pos (bit (whole .odd) * (2 * H))
+  -- the candidates are the best of their parts
+  whole-is : wholePart H (whole .odd) rs ≡ a
+  whole-is = members-changed (left H (whole .odd)) top 0 rs (omega (arith, eight)) (omega arith) (whole .taken) ∙ whole .is
 
-  abbrev pub half-odd : ℤ
-  half-odd = pos (bit (halved .odd) * (2 * H))
-
-  whole-is : members odd (pos 0) (highest rs 0) 0 rs ≡ best (2 * H) false xs
-  whole-is = members-changed odd (highest rs 0) 0 rs (omega (arith, eight)) (omega arith) (whole .taken) ∙ whole .is
-
-  half-is : members (pos H -ℤ half-odd) (pos H) (lowest rs 0) 0 rs ≡ best (2 * H) false (lowered (pos H) xs)
+  half-is : halfPart H (halved .odd) rs ≡ b
   half-is =
-      let top : ℕ = highest (acrossed (pos H) rs) 0 in
-      members-half H half-odd (lowest rs 0) top 0 rs r turned (omega (arith, eight))
-      ∙ members-changed half-odd top 0 (acrossed (pos H) rs) (omega (arith, acrossed-eight)) (omega arith) (halved .taken) ∙ halved .is
+      let by : ℤ = left H (halved .odd) in
+      members-half H by (lowest rs 0) half-top 0 rs r ranks (omega (arith, eight))
+      ∙ members-changed by half-top 0 ds (omega (arith, half-eight)) (omega arith) (halved .taken) ∙ halved .is
 
-  -- the first by cost and first coordinate is the least block
-  pub chosen-is : (t : Bool) → t ≡ wholeFirst (pos whole-cost) (memberOf odd (pos 0) (highest rs 0) (getD rs 0 (pos 0)) 0) (pos half-cost) (memberOf (pos H -ℤ half-odd) (pos H) (lowest rs 0) (getD rs 0 (pos 0)) 0)
-      → cond t (members odd (pos 0) (highest rs 0) 0 rs) (members (pos H -ℤ half-odd) (pos H) (lowest rs 0) 0 rs) ≡ leastBlock H xs
-  chosen-is t e =
-      let a : List ℤ = best (2 * H) false xs in
-      let b : List ℤ = best (2 * H) false (lowered (pos H) xs) in
-      let c : getD a 0 (pos 0) ≡ memberOf odd (pos 0) (highest rs 0) (getD rs 0 (pos 0)) 0 =
-      ap (λ v. getD v 0 (pos 0)) (sym whole-is) ∙ members-at odd (pos 0) (highest rs 0) 0 rs 0 (omega (arith, eight)) in
-      let d : getD b 0 (pos 0) ≡ memberOf (pos H -ℤ half-odd) (pos H) (lowest rs 0) (getD rs 0 (pos 0)) 0 =
-      ap (λ v. getD v 0 (pos 0)) (sym half-is) ∙ members-at (pos H -ℤ half-odd) (pos H) (lowest rs 0) 0 rs 0 (omega (arith, eight)) in
-      let g = compare (2 * H) whole-cost half-cost (energy a) (energy b) (2 * H * sizes rs) (energy rs) (omega arith) whole-energy half-energy in
-      let f : wholeFirst (pos (energy a)) (getD a 0 (pos 0)) (pos (energy b)) (getD b 0 (pos 0)) ≡ t =
-      (λ j. cond (ltZ (c j) (d j)) (g .0 j) (g .1 j)) ∙ sym e in
-      ap₂ (cond t) whole-is half-is ∙ ap (λ u. cond u a b) (sym f) ∙ least-is H xs (energy a) (energy b) h (omega arith) refl refl
+  whole-head : getD a 0 (pos 0) ≡ wholeHead H (whole .odd) rs
+  whole-head = ap (λ v. getD v 0 (pos 0)) (sym whole-is) ∙ members-at (left H (whole .odd)) (pos 0) top 0 rs 0 (omega (arith, eight))
+
+  half-head : getD b 0 (pos 0) ≡ halfHead H (halved .odd) rs
+  half-head =
+      ap (λ v. getD v 0 (pos 0)) (sym half-is)
+      ∙ members-at (pos H -ℤ left H (halved .odd)) (pos H) (lowest rs 0) 0 rs 0 (omega (arith, eight))
+
+  pub two : Two H xs rs
+  two = record {
+    odd = whole .odd;
+    half-odd = halved .odd;
+    odd-left = ap pos (whole .left);
+    half-left = ap pos (halved .left);
+    top-low = highest-low H rs 0 r (omega (arith, eight));
+    low-low = omega (arith, ranks);
+    least = λ t e.
+        let e₁ : ℕ = wholeCost H (whole .odd) rs in
+        let e₂ : ℕ = halfCost H (halved .odd) rs in
+        let g = compare M e₁ e₂ (energy a) (energy b) (M * sizes rs) (energy rs) (omega arith) whole-energy half-energy in
+        let f : wholeFirst (pos (energy a)) (getD a 0 (pos 0)) (pos (energy b)) (getD b 0 (pos 0)) ≡ t =
+        (λ j. cond (ltZ (whole-head j) (half-head j)) (g .0 j) (g .1 j)) ∙ sym e in
+        ap₂ (cond t) whole-is half-is ∙ ap (λ u. cond u a b) (sym f) ∙ least-is H xs (energy a) (energy b) h (omega arith) refl refl;
+  }

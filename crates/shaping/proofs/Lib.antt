@@ -1,3 +1,3 @@
-pub mod Passing
+pub mod Mending
 pub mod Halving
 pub mod Figures

@@ -1,4 +1,5 @@
--- A block rounded coordinate by coordinate, and the candidates for its least member: each coordinate rounded, and the one first in rank changed where the sum is odd.
+-- A block rounded coordinate by coordinate, and the candidates for its least member: each coordinate rounded, and where the sum is odd the one of highest
+-- rank changed.
 -- Clients need none of it; the contracts of private functions cite it. M = 2·H. Assumes nothing.
 use mathlib.Core.Path.{_≡_}
 use mathlib.Core.Bool.{Bool, cond}
@@ -14,7 +15,7 @@ use Rattle.e8.specs.Least.{cent}
 abbrev pub across : ℤ → ℤ → ℤ
 across m c = cond (ltZ c (pos 0)) (c +ℤ m) (c -ℤ m)
 
--- cost e with first coordinate c comes before cost f with first coordinate d, where c and d differ
+-- the whole part, of cost e and first coordinate c, comes before the half part, of cost f and first coordinate d, where c and d differ
 abbrev pub wholeFirst : ℤ → ℤ → ℤ → ℤ → Bool
 wholeFirst e c f d = cond (ltZ c d) (leZ e f) (ltZ e f)
 
@@ -52,14 +53,15 @@ abbrev pub lowest : List ℤ → ℕ → ℕ
 lowest [] i = 1039
 lowest (c ∷ cs) i = cond (ltb (lowest cs (suc i)) (rankOf c i)) (lowest cs (suc i)) (rankOf c i)
 
--- rs is xs rounded, from place i on, and the figures are its own
-pub record Rounded (H : ℕ) (xs rs : List ℤ) (s t n u v : ℤ) (i : ℕ) : Type 0 where
+-- rs is xs rounded, from place i on, and the figures are its own: the sums of what comes off in the whole part and in the half part, the sum of the
+-- sizes, the highest rank and the lowest
+pub record Rounded (H : ℕ) (xs rs : List ℤ) (sum halves total most least : ℤ) (i : ℕ) : Type 0 where
   pub block : rs ≡ rounded H xs
-  pub whole : s ≡ off H xs
-  pub half : t ≡ floors H xs
-  pub size : n ≡ pos (sizes rs)
-  pub top : u ≡ pos (highest rs i)
-  pub low : v ≡ pos (lowest rs i)
+  pub whole : sum ≡ off H xs
+  pub half : halves ≡ floors H xs
+  pub size : total ≡ pos (sizes rs)
+  pub top : most ≡ pos (highest rs i)
+  pub low : least ≡ pos (lowest rs i)
 
 -- coordinate c at place i, across 0 by `at` where its rank is t, and by `elsewhere` where it is not
 abbrev pub memberOf : ℤ → ℤ → ℕ → ℤ → ℕ → ℤ

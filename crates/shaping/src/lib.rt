@@ -1,4 +1,5 @@
-// Shaping one block of eight coordinates: the least member of its class.
+// Shaping one block of eight coordinates: the least member of its class. Each coordinate is rounded, and where the sum is odd one is changed; the half
+// part is the same block, H across 0. Why that is least is said in proofs/Mending and proofs/Halving.
 ghost use mathlib.Core.Path.{_≡_};
 ghost use mathlib.Core.Bool.{cond};
 ghost use Prim.Native.Nat.{_^_, _<_, _≤_};
@@ -8,18 +9,21 @@ ghost use Rattle.e8.specs.Energy.{Within};
 ghost use Rattle.e8.specs.Least.{leastBlock};
 ghost use Rattle.shaping.specs.Rounded.{across, wholeFirst, rankOf, memberOf, members, Rounded};
 
+// The larger of two.
 fn larger(a: i32, b: i32) -> i32
     ensures { λ r. ⌜ r ≡ cond (ltZ a b) b a ⌝ }
 {
     if a < b { b } else { a }
 }
 
+// The smaller of two.
 fn smaller(a: i32, b: i32) -> i32
     ensures { λ r. ⌜ r ≡ cond (ltZ a b) a b ⌝ }
 {
     if a < b { a } else { b }
 }
 
+// One of two numbers.
 fn choose(t: bool, a: i32, b: i32) -> i32
     ensures { λ r. ⌜ r ≡ cond t a b ⌝ }
 {
@@ -34,7 +38,8 @@ fn across(m: i32, c: i32) -> i32
     if c < 0 { c + m } else { c - m }
 }
 
-// The rank of a coordinate as the one to change: the larger first, of equals those that are not negative from the first on, then the negative ones from the last on.
+// The rank of a coordinate as the one to change: the larger first; of equals those that are not negative, from the first on, then the negative ones,
+// from the last on.
 fn rank(c: i32, i: usize) -> i32
     requires { ⌜ (natAbs c ≤ 2 ^ 7) × (i < 8) ⌝ }
     ensures { λ r. ⌜ r ≡ pos (rankOf c i) ⌝ }
@@ -66,7 +71,7 @@ fn half_cost(h: i32, odd: i32, low: i32) -> i32
     4 * h + cost(odd, 2 * (low >> 4))
 }
 
-// Does a block of cost e and first coordinate c come before one of cost f and first coordinate d?
+// Does the whole part, of cost e and first coordinate c, come before the half part, of cost f and first coordinate d? The two coordinates differ.
 fn whole_first(e: i32, c: i32, f: i32, d: i32) -> bool
     ensures { λ r. ⌜ r ≡ wholeFirst e c f d ⌝ }
 {
@@ -83,7 +88,8 @@ struct Quantized {
     low: i32,
 }
 
-// Every coordinate rounded to the nearest to 0 of its class modulo M, for h = 2^k and M = 2h; of h and -h the latter.
+// Every coordinate rounded to the nearest to 0 of its class modulo M, for h = 2^k and M = 2h; of h and -h the latter. No rank passes 1039, 16 times the
+// largest h and 15, so the lowest begins there.
 fn quantize(k: u32, h: i32, x: [i32; 8]) -> Quantized
     requires { ⌜ (k ≤ 6) × (h ≡ pos (2 ^ k)) × Within (2 ^ 24) x ⌝ }
     ensures { λ r. ⌜ Rounded (2 ^ k) x (r .block) (r .sum) (r .halves) (r .sizes) (r .top) (r .low) 0 ⌝ }

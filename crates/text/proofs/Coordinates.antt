@@ -1,7 +1,7 @@
 -- Laws of the text of coordinates. Assumes nothing.
 use Prim.Native.Nat.{ℕ, suc, _+_, _^_, _≤_, _<_}
 use native.Mathlib.Omega.{arith}
-use mathlib.Core.Path.{_≡_, refl, sym, ap, _∙_}
+use mathlib.Core.Path.{_≡_, refl, ap, _∙_}
 use mathlib.Core.List.{List, [], _∷_, _++_, append-assoc, append-nil}
 use lib.IntN.{ℤ, pos, negsuc, natAbs}
 use lib.ListN.{length, take, getD}
@@ -23,7 +23,7 @@ coordinate-short z f = length-signed 9 z (small z f)
 coordinates-append : (s t : List ℤ) → coordinatesOf (s ++ t) ≡ coordinatesOf s ++ coordinatesOf t
 unfolding coordinatesOf
 coordinates-append [] t = refl
-coordinates-append (z ∷ s) t = ap (λ (l : List ℕ). 32 ∷ signedOf z ++ l) (coordinates-append s t) ∙ sym (append-assoc (32 ∷ signedOf z) (coordinatesOf s) (coordinatesOf t))
+coordinates-append (z ∷ s) t = simp (coordinates-append s t, append-assoc)
 
 -- one coordinate more
 pub coordinates-suc : (s : List ℤ) (i : ℕ) → i < length s → coordinatesOf (take (suc i) s) ≡ coordinatesOf (take i s) ++ (32 ∷ signedOf (getD s i (pos 0)))

@@ -62,7 +62,8 @@ pub fn put_signed(out: &mut [u8], at: usize, z: i32) -> usize
 // A space and a coordinate.
 fn put_coordinate(out: &mut [u8], at: usize, z: i32) -> usize
     requires { ⌜ at + 12 ≤ length (now out) ⌝ }
-    ensures { λ r. ⌜ Put (now (out .entry)) at (32 ∷ signedOf z) r (now (out .exit)) × (r ≤ at + 12) ⌝ }
+    ensures text { λ r. ⌜ Put (now (out .entry)) at (32 ∷ signedOf z) r (now (out .exit)) ⌝ }
+    ensures short { λ r. ⌜ r ≤ at + 12 ⌝ }
 {
     let a = put_byte(out, at, b' ');
     put_signed(out, a, z)
@@ -71,7 +72,8 @@ fn put_coordinate(out: &mut [u8], at: usize, z: i32) -> usize
 // Coordinates, each after a space.
 fn put_coordinates(out: &mut [u8], at: usize, frame: &[i32]) -> usize
     requires { ⌜ at + 12 * length (now frame) ≤ length (now out) ⌝ }
-    ensures { λ r. ⌜ Put (now (out .entry)) at (coordinatesOf (now (frame .entry))) r (now (out .exit)) × (r ≤ at + 12 * length (now (frame .entry))) ⌝ }
+    ensures text { λ r. ⌜ Put (now (out .entry)) at (coordinatesOf (now (frame .entry))) r (now (out .exit)) ⌝ }
+    ensures short { λ r. ⌜ r ≤ at + 12 * length (now (frame .entry)) ⌝ }
 {
     let mut a = at;
     let mut i: usize = 0;
@@ -93,7 +95,8 @@ pub fn put_header(out: &mut [u8], at: usize) -> usize
 // A frame's line. It has at most 29 bytes, and 12 for each coordinate: 413 for 32 coordinates.
 pub fn put_line(out: &mut [u8], at: usize, kind: u8, grade: u8, energy: u64, frame: &[i32]) -> usize
     requires { ⌜ at + 29 + 12 * length (now frame) ≤ length (now out) ⌝ }
-    ensures { λ r. ⌜ Put (now (out .entry)) at (lineOf kind grade energy (now (frame .entry))) r (now (out .exit)) × (r ≤ at + 29 + 12 * length (now (frame .entry))) ⌝ }
+    ensures text { λ r. ⌜ Put (now (out .entry)) at (lineOf kind grade energy (now (frame .entry))) r (now (out .exit)) ⌝ }
+    ensures short { λ r. ⌜ r ≤ at + 29 + 12 * length (now (frame .entry)) ⌝ }
 {
     let a = put_decimal(out, at, kind as u64);
     let b = put_byte(out, a, b' ');
@@ -107,7 +110,8 @@ pub fn put_line(out: &mut [u8], at: usize, kind: u8, grade: u8, energy: u64, fra
 // A refused record's line, of at most 12 bytes.
 pub fn put_refused(out: &mut [u8], at: usize, number: u8) -> usize
     requires { ⌜ at + 12 ≤ length (now out) ⌝ }
-    ensures { λ r. ⌜ Put (now (out .entry)) at (refusedText number) r (now (out .exit)) × (r ≤ at + 12) ⌝ }
+    ensures text { λ r. ⌜ Put (now (out .entry)) at (refusedText number) r (now (out .exit)) ⌝ }
+    ensures short { λ r. ⌜ r ≤ at + 12 ⌝ }
 {
     let a = put_text(out, at, b"refused ");
     let b = put_decimal(out, a, number as u64);

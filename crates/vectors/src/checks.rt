@@ -37,6 +37,13 @@ fn begins_bytes(x: &[u8; 32], y: &[u8]) -> bool {
     true
 }
 
+// The energies of a vector: of the sent frame, and of the frames that it becomes with a point of the lattice added.
+pub struct Energies {
+    pub sent: u64,
+    pub whole: u64,
+    pub half: u64,
+}
+
 // A frame of marks: no sent frame has one of their size.
 fn marks() -> [i32; 32]
     ensures { λ r. ⌜ length r ≡ 32 ⌝ }
@@ -68,23 +75,6 @@ fn sends(kind: u8, grade: u8, message: &[u8], frame: &[i32], energy: u64) -> boo
     begins(&out, frame)
 }
 
-// Sending to n coordinates answers the number, and leaves them as they were.
-pub fn refuses(kind: u8, grade: u8, message: &[u8], n: usize, number: u8) -> bool {
-    let mut out = marks();
-    let as_lent = marks();
-    if 32 < n {
-        return false;
-    }
-    let r = sending::send(kind, grade, message, &mut out[0..n]);
-    if r.number != number {
-        return false;
-    }
-    if r.energy != 0 {
-        return false;
-    }
-    begins(&out, &as_lent)
-}
-
 fn read(strict: bool, kind: u8, grade: u8, frame: &[i32], message: &mut [u8]) -> reading::Reading {
     if strict {
         return reading::read_strict(kind, grade, frame, message);
@@ -92,16 +82,8 @@ fn read(strict: bool, kind: u8, grade: u8, frame: &[i32], message: &mut [u8]) ->
     reading::read_open(kind, grade, frame, message)
 }
 
-// The frame is read as the message, with an energy from `least` to `most`.
-pub fn reads(
-    strict: bool,
-    kind: u8,
-    grade: u8,
-    frame: &[i32],
-    message: &[u8],
-    least: u64,
-    most: u64,
-) -> bool {
+// The frame is read as the message, with the energy.
+fn reads(strict: bool, kind: u8, grade: u8, frame: &[i32], message: &[u8], energy: u64) -> bool {
     let n = message.len();
     let mut out = mark_bytes();
     if 32 < n {
@@ -111,17 +93,14 @@ pub fn reads(
     if r.number != 0 {
         return false;
     }
-    if r.energy < least {
-        return false;
-    }
-    if most < r.energy {
+    if r.energy != energy {
         return false;
     }
     begins_bytes(&out, message)
 }
 
 // The reading answers the number; where that is a refusal, the n bytes stay as they were.
-pub fn answers(strict: bool, kind: u8, grade: u8, frame: &[i32], n: usize, number: u8) -> bool {
+fn answers(strict: bool, kind: u8, grade: u8, frame: &[i32], n: usize, number: u8) -> bool {
     let mut out = mark_bytes();
     let as_lent = mark_bytes();
     if 32 < n {
@@ -200,9 +179,9 @@ fn coordinate(z: i32, p: usize, a: usize, e: usize, by: u8) -> i32 {
     sum(z, by)
 }
 
-// Another frame of the sent frame's class: the open reading gives the message, with no less energy, and the strict reading 9.
+// Another frame of the sent frame's class: the open reading gives the message, with the energy, and the strict reading 9.
 fn equivalent(kind: u8, grade: u8, frame: &[i32], message: &[u8], energy: u64) -> bool {
-    if !reads(false, kind, grade, frame, message, energy, u64::MAX) {
+    if !reads(false, kind, grade, frame, message, energy) {
         return false;
     }
     answers(true, kind, grade, frame, message.len(), 9)
@@ -215,8 +194,8 @@ fn hold_points(
     grade: u8,
     message: &[u8],
     frame: &[i32],
-    energy: u64,
-    tally: &mut [u64; 10],
+    energies: Energies,
+    tally: &mut [u64; 9],
 )
     requires { ⌜ (8 ≤ length (now frame)) × (length (now frame) ≤ 32) ⌝ }
 {
@@ -227,19 +206,19 @@ fn hold_points(
         tally,
         v,
         tally::WHOLE,
-        equivalent(kind, grade, &whole[0..n], message, energy),
+        equivalent(kind, grade, &whole[0..n], message, energies.whole),
     );
     let half = moved(frame, n - 8, n, m / 2);
     judge(
         tally,
         v,
         tally::HALF,
-        equivalent(kind, grade, &half[0..n], message, energy),
+        equivalent(kind, grade, &half[0..n], message, energies.half),
     );
 }
 
 // The frame with its first coordinate moved out of the coding set: by 1, and by 2 where there is a level 1.
-fn hold_broken(v: u64, kind: u8, grade: u8, message: &[u8], frame: &[i32], tally: &mut [u64; 10])
+fn hold_broken(v: u64, kind: u8, grade: u8, message: &[u8], frame: &[i32], tally: &mut [u64; 9])
     requires { ⌜ length (now frame) ≤ 32 ⌝ }
 {
     let n = frame.len();
@@ -268,26 +247,26 @@ pub fn hold(
     grade: u8,
     message: &[u8],
     frame: &[i32],
-    energy: u64,
-    tally: &mut [u64; 10],
+    energies: Energies,
+    tally: &mut [u64; 9],
 ) {
     judge(
         tally,
         v,
         tally::SENT,
-        sends(kind, grade, message, frame, energy),
+        sends(kind, grade, message, frame, energies.sent),
     );
     judge(
         tally,
         v,
         tally::OPEN,
-        reads(false, kind, grade, frame, message, energy, energy),
+        reads(false, kind, grade, frame, message, energies.sent),
     );
     judge(
         tally,
         v,
         tally::STRICT,
-        reads(true, kind, grade, frame, message, energy, energy),
+        reads(true, kind, grade, frame, message, energies.sent),
     );
     if frame.len() < 8 {
         return;
@@ -295,6 +274,6 @@ pub fn hold(
     if 32 < frame.len() {
         return;
     }
-    hold_points(v, kind, grade, message, frame, energy, tally);
+    hold_points(v, kind, grade, message, frame, energies, tally);
     hold_broken(v, kind, grade, message, frame, tally);
 }

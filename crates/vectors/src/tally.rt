@@ -1,5 +1,6 @@
 // How many passed each check. A check is a place of the tally; the last place counts the differences.
-use libc::STDOUT_FILENO;
+use fields::write;
+use fields::write_number;
 
 pub const RECORD: usize = 0;
 
@@ -17,20 +18,10 @@ pub const ONE: usize = 6;
 
 pub const TWO: usize = 7;
 
-pub const CASE: usize = 8;
+pub const DIFFERENT: usize = 8;
 
-pub const DIFFERENT: usize = 9;
-
-pub fn zeros() -> [u64; 10] {
-    [0; 10]
-}
-
-fn write(text: &[u8]) {
-    io::write_all(STDOUT_FILENO, text);
-}
-
-fn write_number(n: u64) {
-    io::print_decimal(STDOUT_FILENO, n);
+pub fn zeros() -> [u64; 9] {
+    [0; 9]
 }
 
 fn write_name(check: usize) {
@@ -43,21 +34,20 @@ fn write_name(check: usize) {
         HALF => write(b"moved by a half point"),
         ONE => write(b"moved by one"),
         TWO => write(b"moved by two"),
-        CASE => write(b"further cases"),
         _ => write(b"different"),
     }
 }
 
-fn raise(tally: &mut [u64; 10], check: usize) {
-    if check < 10 {
+fn raise(tally: &mut [u64; 9], check: usize) {
+    if check < 9 {
         if tally[check] < 1000000 {
             tally[check] += 1;
         }
     }
 }
 
-// Counts a check that passed. One that did not is a difference, and has a line with the number of its vector or case.
-pub fn judge(tally: &mut [u64; 10], number: u64, check: usize, passed: bool) {
+// Counts a check that passed. One that did not is a difference, and has a line with the number of its vector.
+pub fn judge(tally: &mut [u64; 9], number: u64, check: usize, passed: bool) {
     if passed {
         raise(tally, check);
         return;
@@ -71,9 +61,9 @@ pub fn judge(tally: &mut [u64; 10], number: u64, check: usize, passed: bool) {
 }
 
 // A line for each check.
-pub fn print(tally: &[u64; 10]) {
+pub fn print(tally: &[u64; 9]) {
     let mut check: usize = 0;
-    while check < 10 {
+    while check < 9 {
         write_name(check);
         write(b" ");
         write_number(tally[check]);

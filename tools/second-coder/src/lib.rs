@@ -3,6 +3,8 @@
 //! It is slow and plain on purpose: codewords come from the definition by masks, and the sent
 //! frame from a search of the leader's class that keeps every member of least energy.
 
+pub mod account;
+pub mod calls;
 pub mod class;
 pub mod code;
 pub mod frame;

@@ -4,18 +4,17 @@ use std::io::{Read, Write};
 use std::path::{Path, PathBuf};
 use std::process::{Command, ExitCode, Stdio};
 
-use second_coder::{random::Random, sheet, vectors};
+use second_coder::{calls, random::Random, sheet, vectors};
 
-/// Where the vectors and the sheets stand: the first beside the program that holds the library to them.
-fn data(name: &str) -> PathBuf {
-    let folder = if name == "vectors.bin" { "../../crates/vectors/data" } else { "out" };
-    Path::new(env!("CARGO_MANIFEST_DIR")).join(folder).join(name)
+/// Where a file for a crate stands: beside the program that holds the library to it.
+fn crates(name: &str) -> PathBuf {
+    Path::new(env!("CARGO_MANIFEST_DIR")).join("../../crates").join(name)
 }
 
-/// Writes the vectors and the sheets, and prints how many have ties.
-fn write_vectors() -> std::io::Result<()> {
+/// Writes the files for the crates, and prints what is in them.
+fn write_files() -> std::io::Result<()> {
     let (file, counts) = vectors::vectors();
-    std::fs::write(data("vectors.bin"), &file)?;
+    std::fs::write(crates("vectors/data/vectors.bin"), &file)?;
     println!("| kind | grade | vectors | with ties | most frames of least energy |");
     println!("|---|---|---|---|---|");
     for count in &counts {
@@ -25,8 +24,32 @@ fn write_vectors() -> std::io::Result<()> {
     let tied: usize = counts.iter().map(|count| count.tied).sum();
     println!("\nvectors.bin: {vectors} vectors, {tied} with ties, {} bytes", file.len());
     let sheets = vectors::sheet_file();
-    std::fs::write(data("sheets.bin"), &sheets)?;
-    println!("sheets.bin: {} sheets, {} bytes", vectors::sheets().len(), sheets.len());
+    std::fs::write(crates("sheets/data/sheets.bin"), &sheets)?;
+    let count = vectors::sheets().len();
+    println!("sheets.bin: {count} sheets, {} bytes", sheets.len());
+    let mut printed = String::new();
+    for (name, sheet) in vectors::files() {
+        std::fs::write(crates("sheets/data").join(name), &sheet)?;
+        println!("{name}: {} bytes", sheet.len());
+        printed += &sheet::listing(&sheet);
+    }
+    std::fs::write(crates("sheets/stdout"), format!("{printed}sheets {count}\ndifferent 0\n"))?;
+    let (calls, functions, numbers) = calls::call_file();
+    std::fs::write(crates("calls/data/calls.bin"), &calls)?;
+    println!(
+        "calls.bin: {functions:?} calls of each function, {numbers:?} answered by each number, {} bytes",
+        calls.len()
+    );
+    let names = ["sending", "open reading", "strict reading", "sending with an account", "beginning of an account"];
+    let mut printed: String = names.iter().zip(functions).map(|(name, count)| format!("{name} {count}\n")).collect();
+    // Every call but the beginning of an account is made of an exported function too.
+    printed += &format!("exported {}\ndifferent 0\n", functions[..4].iter().sum::<usize>());
+    std::fs::write(crates("calls/stdout"), printed)?;
+    let sheet = vectors::program_sheet();
+    let listing = sheet::listing(&sheet);
+    std::fs::write(crates("sheet/stdin"), &sheet)?;
+    std::fs::write(crates("sheet/stdout"), &listing)?;
+    println!("sheet/stdin: {} bytes; sheet/stdout: {} lines", sheet.len(), listing.lines().count());
     Ok(())
 }
 
@@ -68,24 +91,28 @@ fn judge(program: &str, sheets: impl Iterator<Item = (Vec<u8>, String)>) -> std:
 /// Fresh sheets, with what this coder lists for them.
 fn compare(program: &str, count: u64, seed: u64) -> std::io::Result<u64> {
     let mut random = Random::new(seed);
-    judge(program, (0..count).map(|_| {
-        let sheet = vectors::random_sheet(&mut random);
-        let listing = sheet::listing(&sheet);
-        (sheet, listing)
-    }))
+    judge(
+        program,
+        (0..count).map(|_| {
+            let sheet = vectors::random_sheet(&mut random);
+            let listing = sheet::listing(&sheet);
+            (sheet, listing)
+        }),
+    )
 }
 
 /// The sheets of sheets.bin, with the listings that stand there.
 fn stored(program: &str) -> std::io::Result<u64> {
-    let file = std::fs::read(data("sheets.bin"))?;
+    let file = std::fs::read(crates("sheets/data/sheets.bin"))?;
     let mut rest = &file[..];
-    let mut piece = || {
-        let (length, after) = rest.split_first_chunk::<4>()?;
-        let (piece, after) = after.split_at(u32::from_le_bytes(*length) as usize);
+    let sheets = std::iter::from_fn(|| {
+        let (head, after) = rest.split_first_chunk::<12>()?;
+        let length = |i: usize| u32::from_le_bytes(head[i..i + 4].try_into().unwrap()) as usize;
+        let (sheet, after) = after.split_at(length(0));
+        let (listing, after) = after.split_at(length(8));
         rest = after;
-        Some(piece.to_vec())
-    };
-    let sheets = std::iter::from_fn(|| Some((piece()?, String::from_utf8_lossy(&piece()?).into_owned())));
+        Some((sheet.to_vec(), String::from_utf8_lossy(listing).into_owned()))
+    });
     judge(program, sheets)
 }
 
@@ -93,7 +120,7 @@ fn main() -> ExitCode {
     let arguments: Vec<String> = std::env::args().skip(1).collect();
     let words: Vec<&str> = arguments.iter().map(String::as_str).collect();
     let result = match words[..] {
-        ["vectors"] => write_vectors().map(|()| 0),
+        ["vectors"] => write_files().map(|()| 0),
         ["listing"] => {
             let mut bytes = Vec::new();
             std::io::stdin()
@@ -106,7 +133,9 @@ fn main() -> ExitCode {
             _ => Err(std::io::Error::other("COUNT and SEED are numbers")),
         },
         ["sheets", program] => stored(program),
-        _ => Err(std::io::Error::other("usage: second-coder vectors | listing | sheets PROGRAM | compare PROGRAM COUNT SEED")),
+        _ => Err(std::io::Error::other(
+            "usage: second-coder vectors | listing | sheets PROGRAM | compare PROGRAM COUNT SEED",
+        )),
     };
     match result {
         Ok(0) => ExitCode::SUCCESS,

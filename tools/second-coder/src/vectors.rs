@@ -1,9 +1,12 @@
 //! Vectors and sheets for checking the library and the sheet program, the same on every run.
 
 use std::collections::HashSet;
+use std::ops::Range;
 
-use crate::frame::{send, Format};
+use crate::class::{twice_e8, Block};
+use crate::frame::{read_open, read_strict, send, Format};
 use crate::random::Random;
+use crate::refusal;
 use crate::sheet::{listing, LONGEST, MARK};
 
 /// How many messages of each sort a kind and grade gets, besides each single bit and all zeros.
@@ -69,6 +72,32 @@ pub fn edge(format: &Format, random: &mut Random) -> Vec<u8> {
     with_bits(format, &places)
 }
 
+/// A frame with a random point of the lattice, not all zeros, added in one of its blocks.
+pub fn moved_by_point(format: &Format, frame: &[i64], random: &mut Random) -> Vec<i64> {
+    let block = 8 * random.below(format.length() as u64 / 8) as usize;
+    let odd = random.below(2) as i64;
+    let mut w: Block = [0; 8];
+    while w == [0; 8] {
+        w = std::array::from_fn(|_| 2 * (random.below(9) as i64 - 4) + odd);
+        w[7] += if twice_e8(&w) { 0 } else { 2 };
+    }
+    let mut moved = frame.to_vec();
+    for (x, w) in moved[block..].iter_mut().zip(w) {
+        *x += format.scale() / 2 * w;
+    }
+    moved
+}
+
+/// The energy that the open reading gives of a frame with a point of the lattice added: so much at these places.
+fn energy_moved(kind: u8, grade: u8, message: &[u8], frame: &[i64], places: Range<usize>, by: i64) -> u64 {
+    let mut moved = frame.to_vec();
+    moved[places].iter_mut().for_each(|x| *x += by);
+    let (read, energy) = read_open(kind, grade, &moved).unwrap();
+    assert_eq!(read, message);
+    assert_eq!(read_strict(kind, grade, &moved), Err(refusal::UNSHAPED));
+    energy
+}
+
 /// The messages of a kind and grade, no two the same.
 fn messages(kind: u8, grade: u8, random: &mut Random) -> Vec<Vec<u8>> {
     let format = Format::new(kind, grade).unwrap();
@@ -125,6 +154,11 @@ pub fn vectors() -> (Vec<u8>, Vec<Count>) {
                     file.extend((*x as i32).to_le_bytes());
                 }
                 file.extend(sent.energy.to_le_bytes());
+                // M at two places of the first block; M/2 at each place of the last.
+                let (n, scale) = (sent.frame.len(), Format::new(kind, grade).unwrap().scale());
+                for (places, by) in [(0..2, scale), (n - 8..n, scale / 2)] {
+                    file.extend(energy_moved(kind, grade, &message, &sent.frame, places, by).to_le_bytes());
+                }
                 count.vectors += 1;
                 count.tied += (sent.least > 1) as usize;
                 count.most = count.most.max(sent.least);
@@ -233,6 +267,27 @@ pub fn sheets() -> Vec<Vec<u8>> {
     all.push([longest, record(random)].concat());
     all.push(vec![0; LONGEST]);
     all.push(vec![0x4C; LONGEST + 1]);
+    // Longer than the library's caller may think of: good records throughout.
+    for length in [40_000, 65_536] {
+        all.push(full(length, random));
+    }
+    // A record refused by each number, with good records after it wherever one might go on.
+    let after = records(3, random);
+    for bad in
+        [&[0x4C, 0x43, 6, 1][..], &[0x4C, 0x43, 2, 1], &[0x4C, 0x43, 3, 5], &[0x4C, 0x43, 4, 0], &[0x4C, 0x44, 3, 1]]
+    {
+        for filler in [0, 2] {
+            all.push([&records(1, random), bad, &[0, 0][..filler], &after].concat());
+        }
+    }
+    for bad in [&[0x4C, 0x43, 3, 1, 0, 0x80][..], &[0x4C, 0x44, 3, 1, 0, 0], &[0x4D, 0x43, 3, 1, 0, 0], &[0]] {
+        all.push([bad, &after].concat());
+    }
+    // Cut short, with bytes in its message that would be good records.
+    for count in 1..=2 {
+        let inner: Vec<u8> = (0..count).flat_map(|_| record_of(3, 1, random)).collect();
+        all.push([record(random), vec![0x4C, 0x43, 5, 4], inner].concat());
+    }
     // Random bytes, and good sheets with one byte changed.
     for length in [1, 2, 3, 5, 16, 100, 1000] {
         all.push((0..length).map(|_| random.byte()).collect());
@@ -246,15 +301,31 @@ pub fn sheets() -> Vec<Vec<u8>> {
     all
 }
 
-/// All sheets with their listings, in the format of README.md.
+/// The sheet that the sheet program is run on: the longest there may be, good records of every kind and grade and at last one with a
+/// spare bit set.
+pub fn program_sheet() -> Vec<u8> {
+    let mut random = Random::new(5);
+    [full(LONGEST - 6, &mut random), vec![0x4C, 0x43, 3, 1, 0, 0x10]].concat()
+}
+
+/// Sheets that are printed from files of their own: nothing, and longer than a sheet may be.
+pub fn files() -> [(&'static str, Vec<u8>); 3] {
+    let mut random = Random::new(6);
+    let mut file = |name, length| (name, full(length, &mut random));
+    [file("empty.bin", 0), file("long.bin", LONGEST + 1), file("longer.bin", 40_000)]
+}
+
+/// All sheets with the places from which their records are listed and their listings, in the format of README.md.
 pub fn sheet_file() -> Vec<u8> {
     let mut file = Vec::new();
     for sheet in sheets() {
         let text = listing(&sheet);
-        for part in [&sheet[..], text.as_bytes()] {
-            file.extend((part.len() as u32).to_le_bytes());
-            file.extend(part);
+        let start = if sheet.len() > LONGEST { sheet.len() } else { 0 };
+        for number in [sheet.len(), start, text.len()] {
+            file.extend((number as u32).to_le_bytes());
         }
+        file.extend(&sheet);
+        file.extend(text.as_bytes());
     }
     file
 }

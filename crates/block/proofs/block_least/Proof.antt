@@ -1,7 +1,7 @@
 -- `block_least`: each test that is not passed refuses; past them all, the least member is written. Assumes nothing.
 use Prim.Native.Nat.{ℕ, _^_, _≤_, _<_}
-use mathlib.Core.Path.{_≡_, sym, ap, _∙_, subst}
-use mathlib.Core.Bool.{Bool, true, false, cond}
+use mathlib.Core.Path.{_≡_, refl, sym, ap, _∙_, subst}
+use mathlib.Core.Bool.{Bool, true, false}
 use mathlib.Core.List.{List}
 use native.Mathlib.Omega.{arith}
 use lib.IntN.{ℤ}
@@ -49,11 +49,8 @@ module _ (s : tie.Start) where
   abbrev answer : Bool
   answer = shapeable k x (length lent)
 
-  refused : answer ≡ false → (false ≡ answer) × (lent ≡ cond answer (leastBlock (2 ^ k) x) lent)
-  refused e = (sym e, sym (ap (λ (t : Bool). cond t (leastBlock (2 ^ k) x) lent) e))
-
-  written : (z : List ℤ) → answer ≡ true → z ≡ leastBlock (2 ^ k) x → (true ≡ answer) × (z ≡ cond answer (leastBlock (2 ^ k) x) lent)
-  written z e h = (sym e, h ∙ sym (ap (λ (t : Bool). cond t (leastBlock (2 ^ k) x) lent) e))
+  refused : answer ≡ false → (false ≡ answer) × (lent ≡ lent)
+  refused e = (sym e, refl)
 
 returns : tie.Need-returns
 returns c = let s = c .before in refused s (by-scale (k s) (x s) (length (lent s)) (c .if1 .taken))
@@ -62,7 +59,9 @@ returns-2 : tie.Need-returns-2
 returns-2 c = let s = c .before .before in refused s (by-block (k s) (x s) (length (lent s)) (c .before .if1 .left) (c .if2 .taken))
 
 returns-3 : tie.Need-returns-3
-returns-3 c = let s = c .before .before .before in refused s (by-lent (k s) (x s) (length (lent s)) (c .before .before .if1 .left) (c .before .if2 .left) (c .if3 .taken))
+returns-3 c =
+    let s = c .before .before .before in
+    refused s (by-lent (k s) (x s) (length (lent s)) (c .before .before .if1 .left) (c .before .if2 .left) (c .if3 .taken))
 
 within-requires : tie.Need-within-requires
 within-requires c κs = omega arith
@@ -103,7 +102,7 @@ returns-5 c =
     let y = w .before .before in
     let e = y .before .before in
     let s = start (e .before) in
-    written s (w .store .last .1 .0) (range-decides (e .before) ∙ passed e) (w .store .ensures ∙ y .least .ensures ∙ ap (leastBlock (2 ^ k s)) (y .before .load .ensures))
+    (sym (range-decides (e .before) ∙ passed e), w .store .ensures ∙ y .least .ensures ∙ ap (leastBlock (2 ^ k s)) (y .before .load .ensures))
 
 pub block-least-spec : {M : Type 1} → statement M
 block-least-spec =

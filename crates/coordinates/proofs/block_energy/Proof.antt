@@ -13,16 +13,19 @@ use Rattle.coordinates.proofs.block_energy.Statement.{statement}
 use Rattle.coordinates.proofs.block_energy.Tie as tie
 
 abbrev Inv-loop : tie.InvT-loop
-Inv-loop part sum₀ i₀ sum i = (i ≤ 8) × ((sum + energy (drop i part) ≡ energy part) × (sum ≤ 2 ^ 20 * i))
+Inv-loop part sum₀ n₀ sum n = (n ≤ 8) × ((sum + energy (drop n part) ≡ energy part) × (sum ≤ 2 ^ 20 * n))
 
 abbrev μ-loop : tie.MeasureT-loop
-μ-loop part sum₀ i₀ sum i = 8 - i
+μ-loop part sum₀ n₀ sum n = 8 - n
 
 module _ (s : tie.Start Inv-loop μ-loop) where
   eight : length (s .args .part .now) ≡ 8
   eight = s .pre .0
 
-  small : (i : ℕ) → natAbs (getD (s .args .part .now) i (pos 0)) ≤ 2 ^ 10
+  abbrev at : ℕ → ℤ
+  at i = getD (s .args .part .now) i (pos 0)
+
+  small : (i : ℕ) → natAbs (at i) ≤ 2 ^ 10
   small i = within-at (2 ^ 10) (s .args .part .now) i (s .pre .1)
 
 module _ (c : tie.After-square Inv-loop μ-loop) where
@@ -30,14 +33,14 @@ module _ (c : tie.After-square Inv-loop μ-loop) where
   l = c .before .before .before
 
   abbrev z : ℤ
-  z = getD (l .before .args .part .now) (l .loop .i) (pos 0)
+  z = at (l .before) (l .loop .n)
 
   square-is : c .square .result ≡ sq z
-  square-is = c .square .ensures ∙ ap sq (plain z (omega (arith, small (l .before) (l .loop .i))))
+  square-is = c .square .ensures ∙ ap sq (plain z (omega (arith, small (l .before) (l .loop .n))))
 
   square-low : c .square .result ≤ 2 ^ 20
   unfolding sq
-  square-low = subst (λ (n : ℕ). n ≤ 2 ^ 20) (sym square-is) (sq-le (natAbs z) (2 ^ 10) (small (l .before) (l .loop .i)))
+  square-low = subst (λ (n : ℕ). n ≤ 2 ^ 20) (sym square-is) (sq-le (natAbs z) (2 ^ 10) (small (l .before) (l .loop .n)))
 
 loop-holds : tie.Need-loop-holds Inv-loop μ-loop
 loop-holds c = (omega arith, (omega arith, omega arith))
@@ -49,13 +52,15 @@ shared-slice-copy-out-z : tie.Need-shared-slice-copy-out-z Inv-loop μ-loop
 shared-slice-copy-out-z c = search needs
 
 square-requires : tie.Need-square-requires Inv-loop μ-loop
-square-requires c κs = let l = c .before .before in plain-size (getD (l .before .args .part .now) (l .loop .i) (pos 0)) (2 ^ 10) (small (l .before) (l .loop .i)) (omega arith)
+square-requires c κs =
+    let l = c .before .before in
+    plain-size (at (l .before) (l .loop .n)) (2 ^ 10) (small (l .before) (l .loop .n)) (omega arith)
 
 add-sum : tie.Need-add-sum Inv-loop μ-loop
 add-sum c = record { fits = omega (arith, square-low c, l c .loop .inv .1 .1, c .before .before .loop-test .taken) }
 
-add-i : tie.Need-add-i Inv-loop μ-loop
-add-i c = search needs
+add-n : tie.Need-add-n Inv-loop μ-loop
+add-n c = search needs
 
 loop-less : tie.Need-loop-less Inv-loop μ-loop
 loop-less c = search needs
@@ -63,7 +68,9 @@ loop-less c = search needs
 loop-again : tie.Need-loop-again Inv-loop μ-loop
 loop-again c =
     let p = l c in
-    (omega (arith, c .before .before .loop-test .taken), (omega (arith, energy-drop (p .before .args .part .now) (p .loop .i) (omega (arith, eight (p .before), c .before .before .loop-test .taken)), square-is c, p .loop .inv .1 .0), omega (arith, square-low c, p .loop .inv .1 .1)))
+    let t = c .before .before .loop-test .taken in
+    let e = energy-drop (p .before .args .part .now) (p .loop .n) (omega (arith, eight (p .before), t)) in
+    (omega (arith, t), (omega (arith, e, square-is c, p .loop .inv .1 .0), omega (arith, square-low c, p .loop .inv .1 .1)))
 
 cast-result : tie.Need-cast-result Inv-loop μ-loop
 cast-result c = search needs
@@ -71,9 +78,10 @@ cast-result c = search needs
 returns : tie.Need-returns Inv-loop μ-loop
 unfolding energy
 returns c =
-    let x = c .before .before .args .part .now in
-    let e : energy (drop (c .before .loop .i) x) ≡ 0 = ap energy (drop-of-length-le x {i = c .before .loop .i} (omega (arith, eight (c .before .before), c .loop-test .left))) in
-    omega (arith, e, c .before .loop .inv .1 .0)
+    let l = c .before in
+    let x = l .before .args .part .now in
+    let e : energy (drop (l .loop .n) x) ≡ 0 = ap energy (drop-of-length-le x {i = l .loop .n} (omega (arith, eight (l .before), c .loop-test .left))) in
+    omega (arith, e, l .loop .inv .1 .0)
 
 pub block-energy-spec : {M : Type 1} → statement M
 block-energy-spec =
@@ -86,7 +94,7 @@ block-energy-spec =
     shared-slice-copy-out-z
     square-requires
     add-sum
-    add-i
+    add-n
     loop-less
     loop-again
     cast-result

@@ -24,7 +24,9 @@ shl-result : tie.Need-shl-result
 shl-result c = search needs
 
 returns : tie.Need-returns
-returns c = ap (λ (y : ℤ). toZ w32 (ofZ w32 (shrZ y (2 ^ c .args .k)) * 2 ^ c .args .k % 4294967296)) (tz refl (c .fits .z)) ∙ shifted-quotient (c .args .k) (c .args .z) (c .pre .0) (c .pre .1)
+returns c =
+    let k = c .args .k in
+    ap (λ (y : ℤ). toZ w32 (ofZ w32 (shrZ y (2 ^ k)) * 2 ^ k % 4294967296)) (tz refl (c .fits .z)) ∙ shifted-quotient k (c .args .z) (c .pre .0) (c .pre .1)
 
 pub floor-spec : {M : Type 1} → statement M
 floor-spec = tie.close (tie.spec cast-result shr-result cast-result-2 shl-result returns)

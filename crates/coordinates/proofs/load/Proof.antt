@@ -43,7 +43,9 @@ loop-again c =
     (s .pre, filled-next (s .args .part .now) (l .r) (l .j) _ (l .inv .1) (omega (arith, s .pre)) (tz refl (record { sfits = c .z .given })))
 
 returns : tie.Need-returns Inv-loop μ-loop
-returns c = filled-all (c .before .before .args .part .now) (c .before .loop .r) (c .before .loop .j) (c .before .loop .inv .1) (omega (arith, c .before .before .pre))
+returns c =
+    let l = c .before in
+    filled-all (l .before .args .part .now) (l .loop .r) (l .loop .j) (l .loop .inv .1) (omega (arith, l .before .pre))
 
 pub load-spec : {M : Type 1} → statement M
 load-spec =

@@ -1,7 +1,7 @@
 -- `remainder` meets its contract: z less the multiple of 2^k next below
-use mathlib.Core.Path.{_≡_, refl, _∙_, ap₂}
+use mathlib.Core.Path.{_≡_, refl, _∙_, ap, ap₂}
 use Prim.Native.Nat.{_^_}
-use lib.IntN.{pos, _-ℤ_}
+use lib.IntN.{ℤ, pos, _-ℤ_}
 use borrow.Author.Needs.{needs}
 use Rattle.integers.specs.Integer.{modZ}
 use Rattle.integers.proofs.Zed.{tz, sfits-to}
@@ -13,7 +13,8 @@ use Rattle.coordinates.proofs.remainder.Tie as tie
 rest : (c : tie.After-floor) → read (c .before .args .z) -ℤ read (c .floor .result) ≡ pos (modZ (c .before .args .z) (2 ^ c .before .args .k))
 rest c =
     let s = c .before in
-    ap₂ _-ℤ_ (tz refl (s .fits .z)) (tz (c .floor .ensures ∙ ap₂ (λ a b. a -ℤ pos (modZ b (2 ^ s .args .k))) (tz refl (s .fits .z)) (tz refl (s .fits .z))) (floor-fits (s .args .k) (s .args .z) (s .pre .0) (s .pre .1)))
+    let e : read (s .args .z) ≡ s .args .z = tz refl (s .fits .z) in
+    ap₂ _-ℤ_ e (tz (c .floor .ensures ∙ ap (λ (a : ℤ). a -ℤ pos (modZ a (2 ^ s .args .k))) e) (floor-fits (s .args .k) (s .args .z) (s .pre .0) (s .pre .1)))
     ∙ remainder-is (s .args .k) (s .args .z) (s .pre .0) (s .pre .1)
 
 floor-requires : tie.Need-floor-requires

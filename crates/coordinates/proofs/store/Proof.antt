@@ -49,7 +49,9 @@ same-length : tie.Need-same-length Inv-loop μ-loop
 same-length c = search needs
 
 returns : tie.Need-returns Inv-loop μ-loop
-returns c = filled-all (c .before .before .args .t1) (c .before .loop .part) (c .before .loop .p) (c .before .loop .inv .1) (omega (arith, eight (c .before .before)))
+returns c =
+    let l = c .before in
+    filled-all (l .before .args .t1) (l .loop .part) (l .loop .p) (l .loop .inv .1) (omega (arith, eight (l .before)))
 
 pub store-spec : {M : Type 1} → statement M
 store-spec =

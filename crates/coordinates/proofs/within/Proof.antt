@@ -1,6 +1,6 @@
 -- `within`: `out` is 0 where the coordinates below q are within the bound. Assumes nothing.
-use Prim.Native.Nat.{ℕ, _-_, _^_, _≤_}
-use mathlib.Core.Path.{_≡_, refl, sym, ap, ap₂, _∙_, subst}
+use Prim.Native.Nat.{ℕ, _-_, _≤_}
+use mathlib.Core.Path.{_≡_, refl, ap, ap₂, _∙_}
 use mathlib.Core.Bool.{cond}
 use native.Mathlib.Omega.{arith}
 use lib.Bits.{bitOr}
@@ -10,11 +10,9 @@ use lib.ListN.{length, take, getD}
 use lib.Seq.{take-all}
 use mir.Syntax.{w32}
 use mir.Val.{toZ, ofZ}
-use mir.Facts.{toZ-pos}
 use borrow.Author.Needs.{needs}
 use Rattle.integers.proofs.Zed.{tz}
 use Rattle.e8.specs.Energy.{isWithin}
-use Rattle.coordinates.proofs.Size.{fits}
 use Rattle.coordinates.proofs.Range.{all-passed, range-more}
 use Rattle.coordinates.proofs.within.Statement.{statement}
 use Rattle.coordinates.proofs.within.Tie as tie

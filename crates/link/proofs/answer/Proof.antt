@@ -17,20 +17,21 @@ use Rattle.link.proofs.answer.Tie as tie
 small : (n : ℕ) → n < 256 → toZ w64 n ≡ pos n
 small n h = toZ-pos w64 {n = n} (omega arith)
 
-minus-fits : (n : ℕ) → n < 256 → SFits w64 (pos 0 -ℤ toZ w64 n)
-minus-fits n h = subst (λ (z : ℤ). SFits w64 (pos 0 -ℤ z)) (sym (small n h)) (sfits! w64 (# 0 ⊖ # n) (omega arith) (omega arith))
+minus-fits : (m n : ℕ) → m < 256 → n < 256 → SFits w64 (pos m -ℤ toZ w64 n)
+minus-fits m n l h = subst (λ (z : ℤ). SFits w64 (pos m -ℤ z)) (sym (small n h)) (sfits! w64 (# m ⊖ # n) (omega arith) (omega arith))
 
 cast-result : tie.Need-cast-result
 cast-result c = search needs
 
 sub-result : tie.Need-sub-result
-sub-result c = minus-fits (c .before .args .number) (c .before .fits .number .fits)
+sub-result c = minus-fits _ (c .before .args .number) (omega arith) (c .before .fits .number .fits)
 
 returns : tie.Need-returns
 unfolding answerOf
 returns c =
     let n = c .before .args .number in
-    toZ-ofZ (minus-fits n (c .before .fits .number .fits)) ∙ ap (λ (z : ℤ). pos 0 -ℤ z) (small n (c .before .fits .number .fits)) ∙ +ℤ-idl (negℤ (pos n)) ∙ sym (simp (ne-eqb _ _ (c .if1 .taken)))
+    let h = c .before .fits .number .fits in
+    toZ-ofZ (minus-fits 0 n (omega arith) h) ∙ ap (λ (z : ℤ). pos 0 -ℤ z) (small n h) ∙ +ℤ-idl (negℤ (pos n)) ∙ sym (simp (ne-eqb _ _ (c .if1 .taken)))
 
 cast-result-2 : tie.Need-cast-result-2
 cast-result-2 c = search needs

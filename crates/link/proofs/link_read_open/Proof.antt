@@ -1,11 +1,13 @@
 -- `link_read_open` meets its contract: what the reading ensures, in one number. Assumes nothing.
-use mathlib.Core.Path.{ap₂, _∙_}
+use Prim.Native.Nat.{ℕ}
+use mathlib.Core.Path.{ap, _∙_}
 use native.Mathlib.Omega.{arith}
 use lib.ListN.{length}
 use mir.Facts.{toZ-ofZ}
 use borrow.Author.Needs.{needs}
+use Rattle.frames.specs.Reading.{messageAfter}
 use Rattle.link.specs.Answer.{answerOf}
-use Rattle.link.proofs.Bounds.{open-fits}
+use Rattle.link.proofs.Bounds.{open-fits, open-answer}
 use Rattle.link.proofs.link_read_open.Statement.{statement}
 use Rattle.link.proofs.link_read_open.Tie as tie
 
@@ -15,15 +17,21 @@ read-open-requires c κs = search needs
 answer-requires : tie.Need-answer-requires
 answer-requires c κs =
     let s = c .before .before .before .before .before .args in
-    omega (arith, c .before .before .read-open .ensures .1 .1, open-fits (s .kind) (s .grade) (s .frame .now) (length (s .message .now)))
+    let e = c .before .before .read-open .ensures in
+    omega (arith, e .1 .1, open-fits (c .before .before .read-open .result .number) (s .kind) (s .grade) (s .frame .now) (length (s .message .now)) (e .0))
 
 same-length : tie.Need-same-length
 same-length c = search needs
 
 returns : tie.Need-returns
 returns c =
+    let s = c .before .before .before .before .before .before .args in
+    let r = c .before .before .before .read-open .result .number in
     let e = c .before .before .before .read-open .ensures in
-    (toZ-ofZ (record { sfits = c .answer .ok }) ∙ c .answer .ensures ∙ ap₂ answerOf (e .0) (e .1 .1), e .1 .0)
+    let l = open-answer r (s .kind) (s .grade) (s .frame .now) (length (s .message .now)) (e .0) in (
+      toZ-ofZ (record { sfits = c .answer .ok }) ∙ c .answer .ensures ∙ ap (answerOf r) (e .1 .1) ∙ l,
+      e .1 .0 ∙ ap (λ (n : ℕ). messageAfter n (s .kind) (s .grade) (s .frame .now) (s .message .now)) (e .0),
+    )
 
 pub link-read-open-spec : {M : Type 1} → statement M
 link-read-open-spec = tie.close (tie.spec read-open-requires answer-requires same-length returns)

@@ -16,7 +16,7 @@ returns c =
     let s = c .before .before .before .args in
     let o = s .out .now in
     let r = no-beginning (length o) (s .sheet .now) (c .if1 .taken) in
-    ((subst (λ (x : List ℕ). Put o 0 x 0 o) (r .0) (put-none o 0), omega arith), r .1)
+    (subst (λ (x : List ℕ). Put o 0 x 0 o) (r .0) (put-none o 0), (omega arith, r .1))
 
 header-requires : tie.Need-header-requires
 header-requires c κs = search needs
@@ -32,7 +32,9 @@ returns-2 c =
     let o = s .out .now in
     let r = a-beginning (length o) (s .sheet .now) (d .if1 .left) in
     let e = l .header .ensures in
-    ((subst (λ (x : List ℕ). Put o 0 x (l .header .result .length) (l .header .last .1 .0)) (r .0) (e .0 .0), omega (arith, e .0 .1, d .if1 .left)), e .1 ∙ r .1)
+    let n = l .header .result .length in
+    let w = l .header .last .1 .0 in
+    (subst (λ (x : List ℕ). Put o 0 x n w) (r .0) (e .0 .0), (omega (arith, e .0 .1, d .if1 .left), e .1 ∙ r .1))
 
 pub begin-spec : {M : Type 1} → statement M
 begin-spec = tie.close (tie.spec returns header-requires same-length returns-2)

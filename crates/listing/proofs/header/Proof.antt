@@ -12,7 +12,8 @@ use Rattle.listing.proofs.header.Statement.{statement}
 use Rattle.listing.proofs.header.Tie as tie
 
 -- the header is put
-header : (c : tie.After-put-header) → Within (c .before .before .before .before .args .out .now) 0 24 headerText (c .put-header .result) (c .put-header .last .0)
+header : (c : tie.After-put-header) → Within (c .before .before .before .before .args .out .now) 0 24 headerText (c .put-header .result)
+    (c .put-header .last .0)
 header c =
     let s = c .before .before .before .before in
     within-more 24 (within-none (s .args .out .now) 0) (c .put-header .ensures) (omega (arith, header-length)) (omega (arith, s .pre))
@@ -33,8 +34,14 @@ returns c =
     let s = h .before .before .before .before in
     let b = begins-long (s .args .sheet .now) (c .before .before .before .before .if1 .taken) in
     let e = c .before .before .put-refused .ensures in
-    let w = header h in
-    ((subst (λ (t : List ℕ). Put (s .args .out .now) 0 t (c .before .before .put-refused .result) (c .before .before .put-refused .last .0)) (b .0) (put-more (w .put) (e .0) (omega (arith, w .most, s .pre))), omega (arith, w .most, e .1)), b .1)
+    let w = header h in (
+      (
+        subst (λ (t : List ℕ). Put (s .args .out .now) 0 t (c .before .before .put-refused .result) (c .before .before .put-refused .last .0)) (b .0)
+            (put-more (w .put) (e .0) (omega (arith, w .most, s .pre))),
+        omega (arith, w .most, e .1),
+      ),
+      b .1,
+    )
 
 same-length-2 : tie.Need-same-length-2
 same-length-2 c = search needs

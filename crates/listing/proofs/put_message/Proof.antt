@@ -10,8 +10,8 @@ use Rattle.frames.specs.Frame.{sentFrame}
 use Rattle.frames.specs.Sending.{sendRefusal}
 use Rattle.frames.proofs.Demands.{sent-length}
 use Rattle.frames.proofs.Rows.{grade-low}
-use Rattle.kind_table.proofs.Each.{size}
-use Rattle.sending.proofs.Answers.{accepted}
+use Rattle.frames.proofs.Limits.{few-positions}
+use Rattle.frames.proofs.Accepted.{all-passed}
 use Rattle.text.specs.Text.{Put}
 use Rattle.text.specs.Line.{lineOf}
 use Rattle.listing.specs.Listing.{sentLine}
@@ -26,7 +26,7 @@ room = replicate 32 (pos 0)
 
 -- at most 32 coordinates are lent to sending, and as many as the kind has
 few : (c : tie.After-positions) → c .positions .result ≤ 32
-few c = let s = c .before .before .before in omega (arith, c .positions .ensures, size (s .args .kind) (s .pre .0) .positions)
+few c = let s = c .before .before .before in omega (arith, c .positions .ensures, few-positions (s .args .kind) (s .pre .0))
 
 room-long : (c : tie.After-positions) → length (take (c .positions .result) room) ≡ c .positions .result
 room-long c = length-take-le (c .positions .result) room (few c)
@@ -55,13 +55,13 @@ sent c =
     let p = c .before .before .before .before .before in
     let s = p .before .before .before .args in
     let e = c .before .before .before .send .ensures in
-    sent-shown (s .kind) (s .grade) (s .message .now) (take (p .positions .result) room) (no-refusal c) (written c) (c .before .before .before .send .result .energy) (e .1 .0) (e .1 .1 .0)
+    sent-shown (s .kind) (s .grade) (s .message .now) (take (p .positions .result) room) (c .before .before .before .send .result .number) (c .if1 .left) (written c) (c .before .before .before .send .result .energy) (e .1 .0) (e .1 .1 .0)
 
 written-long : (c : tie.Else1) → length (written c) ≡ c .before .before .before .before .before .positions .result
 written-long c =
     let p = c .before .before .before .before .before in
     let s = p .before .before .before .args in
-    let a = accepted (s .kind) (s .grade) (s .message .now) (length (take (p .positions .result) room)) (no-refusal c) in
+    let a = all-passed (s .kind) (s .grade) (s .message .now) (length (take (p .positions .result) room)) (no-refusal c) in
     ap length (sent c .0) ∙ sent-length (s .kind) (s .grade) (a .kind) (grade-low (s .grade) (a .grade)) (s .message .now) ∙ sym (p .positions .ensures)
 
 -- and it is read there again

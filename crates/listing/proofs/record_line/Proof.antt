@@ -26,14 +26,16 @@ record-ends c = omega (arith, whole (c .before .before .before) .ends, c .messag
 
 -- the number of a whole record is that of sending its message
 number : (c : tie.After-put-message)
-    → let s = c .before .before .before .before .before .before .before .before .before .before .args in recordNumber (s .sheet .now) (s .p) ≡ c .put-message .result .number
+    → let s = c .before .before .before .before .before .before .before .before .before .before .args in
+    recordNumber (s .sheet .now) (s .p) ≡ c .put-message .result .number
 number c =
     let b = c .before .before .before in
     let d = b .before .before .before in
     let s = d .before .before .before .before .args in
     let l = s .sheet .now in
     number-sent l (s .p) (sym (d .before .test-record .ensures) ∙ d .if1 .left)
-    ∙ sym (c .put-message .ensures .0 ∙ ap (λ (x : List ℕ). sendRefusal (kindAt l (s .p)) (gradeAt l (s .p)) x (2 ^ kindAt l (s .p))) (message-is l (s .p) (b .message-bytes .result) (b .message-bytes .ensures)))
+    ∙ sym (c .put-message .ensures .0 ∙ ap (λ (x : List ℕ). sendRefusal (kindAt l (s .p)) (gradeAt l (s .p)) x (2 ^ kindAt l (s .p)))
+    (message-is l (s .p) (b .message-bytes .result) (b .message-bytes .ensures)))
 
 test-record-requires : tie.Need-test-record-requires
 test-record-requires c κs = search needs
@@ -50,9 +52,16 @@ returns c =
     let s = t .before .before .before in
     let l = s .args .sheet .now in
     let e = c .before .before .put-refused .ensures in
-    let q : recordNumber l (s .args .p) ≡ t .test-record .result = number-refused l (s .args .p) (λ z. c .before .before .before .before .if1 .taken (t .test-record .ensures ∙ z)) ∙ sym (t .test-record .ensures) in
-    let r = refused-line l (s .args .p) (λ z. c .before .before .before .before .if1 .taken (sym q ∙ z)) in
-    ((subst (λ (x : List ℕ). Put (s .args .out .now) 0 x (c .before .before .put-refused .result) (c .before .before .put-refused .last .0)) (ap refusedText (sym q) ∙ r .0) (e .0), omega (arith, e .1)), (r .1, s .pre .0, omega arith))
+    let q : recordNumber l (s .args .p) ≡ t .test-record .result =
+    number-refused l (s .args .p) (λ z. c .before .before .before .before .if1 .taken (t .test-record .ensures ∙ z)) ∙ sym (t .test-record .ensures) in
+    let r = refused-line l (s .args .p) (λ z. c .before .before .before .before .if1 .taken (sym q ∙ z)) in (
+      (
+        subst (λ (x : List ℕ). Put (s .args .out .now) 0 x (c .before .before .put-refused .result) (c .before .before .put-refused .last .0))
+            (ap refusedText (sym q) ∙ r .0) (e .0),
+        omega (arith, e .1),
+      ),
+      (r .1, s .pre .0, omega arith),
+    )
 
 add-kind : tie.Need-add-kind
 add-kind c = search needs
@@ -88,7 +97,8 @@ part-put-message-end : tie.Need-part-put-message-end
 part-put-message-end c = let h = record-ends c in search needs
 
 put-message-requires : tie.Need-put-message-requires
-put-message-requires c κs = (whole (c .before .before .before .before .before) .kind, c .before .before .before .before .before .before .before .before .before .pre .1)
+put-message-requires c κs =
+    (whole (c .before .before .before .before .before) .kind, c .before .before .before .before .before .before .before .before .before .pre .1)
 
 same-length-2 : tie.Need-same-length-2
 same-length-2 c = search needs
@@ -101,8 +111,14 @@ returns-2 c =
     let e = m .put-message .ensures in
     let q : recordNumber l (s .args .p) ≡ m .put-message .result .number = number m in
     let n : recordNumber l (s .args .p) ≡ 0 → ⊥ = λ z. c .if2 .taken (sym q ∙ z) in
-    let r = refused-line l (s .args .p) n in
-    ((subst (λ (x : List ℕ). Put (s .args .out .now) 0 x (m .put-message .result .length) (m .put-message .last .1 .1 .1 .0)) (ap refusedText (sym q) ∙ r .0) (e .1 .1 .0 (c .if2 .taken)), e .1 .1 .1), (r .1, s .pre .0, omega arith))
+    let r = refused-line l (s .args .p) n in (
+      (
+        subst (λ (x : List ℕ). Put (s .args .out .now) 0 x (m .put-message .result .length) (m .put-message .last .1 .1 .1 .0))
+            (ap refusedText (sym q) ∙ r .0) (e .1 .1 .0 (c .if2 .taken)),
+        e .1 .1 .1,
+      ),
+      (r .1, s .pre .0, omega arith),
+    )
 
 same-length-3 : tie.Need-same-length-3
 same-length-3 c = search needs
@@ -117,8 +133,14 @@ returns-3 c =
     let r = sent-line l (s .args .p) (number m ∙ c .if2 .left) in
     let k = kindAt l (s .args .p) in
     let g = gradeAt l (s .args .p) in
-    let q : b .message-bytes .result ≡ messageBytes k g = b .message-bytes .ensures in
-    ((subst (λ (x : List ℕ). Put (s .args .out .now) 0 x (m .put-message .result .length) (m .put-message .last .1 .1 .1 .0)) (ap (sentLine k g) (message-is l (s .args .p) (b .message-bytes .result) q) ∙ r .0) (e .1 .0 (c .if2 .left)), e .1 .1 .1), (ap (λ (x : ℕ). s .args .p + 4 + x) q ∙ r .1, omega arith, record-ends b))
+    let q : b .message-bytes .result ≡ messageBytes k g = b .message-bytes .ensures in (
+      (
+        subst (λ (x : List ℕ). Put (s .args .out .now) 0 x (m .put-message .result .length) (m .put-message .last .1 .1 .1 .0))
+            (ap (sentLine k g) (message-is l (s .args .p) (b .message-bytes .result) q) ∙ r .0) (e .1 .0 (c .if2 .left)),
+        e .1 .1 .1,
+      ),
+      (ap (λ (x : ℕ). s .args .p + 4 + x) q ∙ r .1, omega arith, record-ends b),
+    )
 
 pub record-line-spec : {M : Type 1} → statement M
 record-line-spec =

@@ -6,7 +6,7 @@ use mathlib.Core.Bool.{true}
 use lib.ListN.{length}
 use borrow.Author.Tests.{not-true, not-false}
 use Rattle.frames.specs.Kind.{isKind}
-use Rattle.frames.specs.Sending.{isGrade}
+use Rattle.frames.specs.Kind.{isGrade}
 use Rattle.frames.proofs.Rows.{grade-high}
 use Rattle.listing.specs.Record.{marked, kindAt, gradeAt}
 use Rattle.listing.proofs.Tests.{no-mark, no-kind-byte, no-kind, no-grade-byte, no-grade, cut-message, whole}
@@ -60,7 +60,8 @@ returns-3 : tie.Need-returns-3
 returns-3 c =
     let s = c .before .before .before .before .before .before .before .args in
     let d = c .before .before .before in
-    no-kind (s .sheet .now) (s .p) (has-mark (d .before)) (has-kind-byte d) (sym (c .before .is-kind .ensures) ∙ not-true (c .before .is-kind .result) (c .if3 .taken))
+    no-kind (s .sheet .now) (s .p) (has-mark (d .before)) (has-kind-byte d)
+    (sym (c .before .is-kind .ensures) ∙ not-true (c .before .is-kind .result) (c .if3 .taken))
 
 returns-4 : tie.Need-returns-4
 returns-4 c =
@@ -82,7 +83,8 @@ returns-5 c =
     let s = c .before .before .before .before .before .before .before .before .before .before .before .args in
     let e = c .before .before .before in
     let d = e .before .before .before .before in
-    no-grade (s .sheet .now) (s .p) (has-mark (d .before)) (has-kind-byte d) (has-kind (e .before)) (has-grade-byte e) (sym (c .before .is-grade .ensures) ∙ not-true (c .before .is-grade .result) (c .if5 .taken))
+    no-grade (s .sheet .now) (s .p) (has-mark (d .before)) (has-kind-byte d) (has-kind (e .before)) (has-grade-byte e)
+    (sym (c .before .is-grade .ensures) ∙ not-true (c .before .is-grade .result) (c .if5 .taken))
 
 cast-message-bytes : tie.Need-cast-message-bytes
 cast-message-bytes c = omega (arith, grade-high _ (has-grade c))
@@ -96,7 +98,8 @@ returns-6 c =
     let f = c .before .before in
     let e = f .before .before .before in
     let d = e .before .before .before .before in
-    cut-message (s .args .sheet .now) (s .args .p) (has-mark (d .before)) (has-kind-byte d) (has-kind (e .before)) (has-grade-byte e) (has-grade f) (omega (arith, c .if6 .taken, c .before .message-bytes .ensures, has-grade-byte e))
+    cut-message (s .args .sheet .now) (s .args .p) (has-mark (d .before)) (has-kind-byte d) (has-kind (e .before)) (has-grade-byte e) (has-grade f)
+    (omega (arith, c .if6 .taken, c .before .message-bytes .ensures, has-grade-byte e))
 
 returns-7 : tie.Need-returns-7
 returns-7 c =
@@ -104,7 +107,8 @@ returns-7 c =
     let f = c .before .before in
     let e = f .before .before .before in
     let d = e .before .before .before .before in
-    whole (s .args .sheet .now) (s .args .p) (has-mark (d .before)) (has-kind-byte d) (has-kind (e .before)) (has-grade-byte e) (has-grade f) (omega (arith, c .if6 .left, c .before .message-bytes .ensures, has-grade-byte e))
+    whole (s .args .sheet .now) (s .args .p) (has-mark (d .before)) (has-kind-byte d) (has-kind (e .before)) (has-grade-byte e) (has-grade f)
+    (omega (arith, c .if6 .left, c .before .message-bytes .ensures, has-grade-byte e))
 
 pub test-record-spec : {M : Type 1} → statement M
 test-record-spec =

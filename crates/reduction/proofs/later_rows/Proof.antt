@@ -1,20 +1,19 @@
--- `later_rows` meets its contract
+-- `later_rows` meets its contract. Before place i the loop has written the remainders, and q is what came off the last place (`Rows`, of Reducing)
 use mathlib.Core.Path.{_≡_, refl, sym, _∙_, ap, ap₂, subst}
-use Prim.Native.Nat.{ℕ, _+_, _*_, _-_, _^_, _<_, _≤_}
+use Prim.Native.Nat.{ℕ, _*_, _-_, _^_, _<_, _≤_}
 use native.Mathlib.Omega.{arith}
-use lib.Pow.{pow-mono, pow-pos}
 use lib.IntN.{ℤ, pos, _+ℤ_, _-ℤ_, natAbs}
 use lib.ListN.{length, getD}
 use mir.Syntax.{w32}
 use mir.Val.{SFits, toZ}
 use borrow.Author.Needs.{needs}
 use Rattle.integers.specs.Integer.{modZ}
-use Rattle.integers.proofs.Zed.{`_, #_, _⊕_, _⊖_, tz, sfits-to, abs-ud}
+use Rattle.integers.proofs.Zed.{tz, sfits-to}
 use Rattle.integers.proofs.Floor.{modZ-lt}
 use Rattle.e8.proofs.Within.{within-at}
-use Rattle.coordinates.proofs.Size.{fits, abs! }
-use Rattle.coordinates.proofs.Rest.{double}
-use Rattle.coordinates.proofs.Reading.{read}
+use Rattle.coordinates.proofs.Size.{fits, less-abs, sum-abs}
+use Rattle.coordinates.proofs.Rest.{double, quadruple, Scale, scale}
+use Rattle.coordinates.proofs.Reading.{read, plain, plain-size}
 use Rattle.reduction.proofs.Reducing.{Rows, rows-none, rows-next, rows-last}
 use Rattle.reduction.proofs.later_rows.Statement.{statement}
 use Rattle.reduction.proofs.later_rows.Tie as tie
@@ -25,12 +24,17 @@ Inv-loop k y r₀ q₀ i₀ r q i = (1 ≤ i) × ((i ≤ 7) × Rows (2 ^ k) y r 
 abbrev μ-loop : tie.MeasureT-loop
 μ-loop k y r₀ q₀ i₀ r q i = 7 - i
 
+-- ---- the block that came
+
 module _ (s : tie.Start Inv-loop μ-loop) where
+  abbrev h : ℕ
+  h = 2 ^ s .args .k
+
+  h-scale : Scale h
+  h-scale = scale (s .args .k) (s .pre .0)
+
   eight : length (s .args .t2) ≡ 8
   eight = search needs
-
-  height : 2 ^ s .args .k ≤ 2 ^ 6
-  height = pow-mono {j = 6} (s .pre .0)
 
   abbrev at : ℕ → ℤ
   at i = getD (s .args .t2) i (pos 0)
@@ -39,63 +43,76 @@ module _ (s : tie.Start Inv-loop μ-loop) where
   small i = within-at (2 ^ 26) (s .args .t2) i (s .pre .1)
 
   is : (i : ℕ) → read (at i) ≡ at i
-  is i = tz refl (fits (at i) (omega (arith, small i)))
+  is i = plain (at i) (omega (arith, small i))
 
-  near : (i : ℕ) → natAbs (read (at i)) ≤ 2 ^ 30
-  near i = subst (λ (z : ℤ). natAbs z ≤ 2 ^ 30) (sym (is i)) (omega (arith, small i))
+-- ---- one place: its remainder, what is taken off, and the sum of that
 
-  quad : 2 ^ (s .args .k + 2) ≡ 4 * 2 ^ s .args .k
-  quad = ap (λ (n : ℕ). 2 ^ n) {x = s .args .k + 2} {y = s .args .k + 1 + 1} (omega arith) ∙ double (s .args .k + 1) ∙ omega (arith, double (s .args .k))
-
--- one place: its remainder, what is taken off, and the sum of that
 module _ (c : tie.After-remainder Inv-loop μ-loop) where
-  abbrev start : tie.Start Inv-loop μ-loop
-  start = c .before .before .before .before
+  abbrev at-loop : tie.At-loop Inv-loop μ-loop
+  at-loop = c .before .before .before
 
-  abbrev h : ℕ
-  h = 2 ^ start .args .k
+  abbrev start : tie.Start Inv-loop μ-loop
+  start = at-loop .before
+
+  abbrev i : ℕ
+  i = at-loop .loop .i
 
   abbrev z : ℤ
-  z = at start (c .before .before .before .loop .i)
+  z = at start i
 
   abbrev q : ℤ
-  q = toZ w32 (c .before .before .before .loop .q)
+  q = toZ w32 (at-loop .loop .q)
 
-  rest : read (c .remainder .result) ≡ pos (modZ z (2 * h))
-  rest = tz refl (record { sfits = c .remainder .ok }) ∙ c .remainder .ensures ∙ ap₂ (λ a n. pos (modZ a n)) (is start (c .before .before .before .loop .i)) (double (start .args .k))
+  abbrev m : ℕ
+  m = modZ z (2 * h start)
 
-  taken : read z -ℤ read (c .remainder .result) ≡ z -ℤ pos (modZ z (2 * h))
-  taken = ap₂ _-ℤ_ (is start (c .before .before .before .loop .i)) rest
+  rest : read (c .remainder .result) ≡ pos m
+  rest =
+      tz refl (record { sfits = c .remainder .ok }) ∙ c .remainder .ensures
+      ∙ ap₂ (λ a n. pos (modZ a n)) (is start i) (double (start .args .k))
 
-  taken-size : natAbs (z -ℤ pos (modZ z (2 * h))) ≤ 2 ^ 27
+  taken : read z -ℤ read (c .remainder .result) ≡ z -ℤ pos m
+  taken = ap₂ _-ℤ_ (is start i) rest
+
+  taken-size : natAbs (z -ℤ pos m) ≤ 2 ^ 27
   taken-size =
-      let lt : modZ z (2 * h) < 2 * h = modZ-lt z (2 * h) (omega (arith, pow-pos (start .args .k))) in
-      abs! (` z ⊖ # (modZ z (2 * h))) (2 ^ 27) (omega (arith, lt, height start, abs-ud z, small start (c .before .before .before .loop .i))) (omega (arith, lt, height start, abs-ud z, small start (c .before .before .before .loop .i)))
+      let p : 0 < 2 * h start = omega (arith, h-scale start .some) in
+      let low : m ≤ 2 ^ 7 = omega (arith, modZ-lt z (2 * h start) p, h-scale start .small) in
+      omega (arith, less-abs z (pos m) (2 ^ 26) (2 ^ 7) (small start i) low)
 
-  taken-fits : SFits w32 (z -ℤ pos (modZ z (2 * h)))
-  taken-fits = fits (z -ℤ pos (modZ z (2 * h))) (omega (arith, taken-size))
+  taken-fits : SFits w32 (z -ℤ pos m)
+  taken-fits = fits (z -ℤ pos m) (omega (arith, taken-size))
 
-  sum : q +ℤ read (read z -ℤ read (c .remainder .result)) ≡ q +ℤ (z -ℤ pos (modZ z (2 * h)))
+  sum : q +ℤ read (read z -ℤ read (c .remainder .result)) ≡ q +ℤ (z -ℤ pos m)
   sum = ap (λ (a : ℤ). q +ℤ a) (tz taken taken-fits)
 
-  sum-fits : SFits w32 (q +ℤ (z -ℤ pos (modZ z (2 * h))))
-  sum-fits =
-      let a : ℤ = z -ℤ pos (modZ z (2 * h)) in
-      fits (q +ℤ a) (abs! (` q ⊕ ` a) (2 ^ 30) (omega (arith, abs-ud q, abs-ud a, taken-size, c .before .before .before .loop .inv .1 .1 .size)) (omega (arith, abs-ud q, abs-ud a, taken-size, c .before .before .before .loop .inv .1 .1 .size)))
+  sum-fits : SFits w32 (q +ℤ (z -ℤ pos m))
+  sum-fits = fits (q +ℤ (z -ℤ pos m)) (omega (arith, sum-abs q (z -ℤ pos m) (i * 2 ^ 27) (2 ^ 27) (at-loop .loop .inv .1 .1 .size) taken-size))
 
--- the last place
+-- ---- the last place
+
 module _ (c : tie.After-z2 Inv-loop μ-loop) where
-  last : read (at (c .before .before .before) 7) -ℤ toZ w32 (c .before .before .loop .q) ≡ at (c .before .before .before) 7 -ℤ toZ w32 (c .before .before .loop .q)
-  last = ap (λ (a : ℤ). a -ℤ toZ w32 (c .before .before .loop .q)) (is (c .before .before .before) 7)
+  abbrev ended : tie.At-loop Inv-loop μ-loop
+  ended = c .before .before
 
-  last-size : natAbs (at (c .before .before .before) 7 -ℤ toZ w32 (c .before .before .loop .q)) ≤ 2 ^ 30
+  abbrev off : ℤ
+  off = toZ w32 (ended .loop .q)
+
+  abbrev y : ℤ
+  y = at (ended .before) 7
+
+  last : read y -ℤ off ≡ y -ℤ off
+  last = ap (λ (a : ℤ). a -ℤ off) (is (ended .before) 7)
+
+  last-size : natAbs (y -ℤ off) ≤ 2 ^ 30
   last-size =
-      let a : ℤ = at (c .before .before .before) 7 in
-      let b : ℤ = toZ w32 (c .before .before .loop .q) in
-      abs! (` a ⊖ ` b) (2 ^ 30) (omega (arith, abs-ud a, abs-ud b, small (c .before .before .before) 7, c .before .before .loop .inv .1 .1 .size)) (omega (arith, abs-ud a, abs-ud b, small (c .before .before .before) 7, c .before .before .loop .inv .1 .1 .size))
+      let e = ended .loop .inv .1 in
+      omega (arith, less-abs y off (2 ^ 26) (ended .loop .i * 2 ^ 27) (small (ended .before) 7) (e .1 .size), e .0)
 
-  last-fits : SFits w32 (at (c .before .before .before) 7 -ℤ toZ w32 (c .before .before .loop .q))
-  last-fits = fits (at (c .before .before .before) 7 -ℤ toZ w32 (c .before .before .loop .q)) last-size
+  last-fits : SFits w32 (y -ℤ off)
+  last-fits = fits (y -ℤ off) last-size
+
+-- ---- the needs
 
 loop-holds : tie.Need-loop-holds Inv-loop μ-loop
 loop-holds c = (omega arith, (omega arith, rows-none (2 ^ c .args .k) (c .args .t2) (eight c)))
@@ -110,7 +127,10 @@ add-remainder : tie.Need-add-remainder Inv-loop μ-loop
 add-remainder c = search needs
 
 remainder-requires : tie.Need-remainder-requires Inv-loop μ-loop
-remainder-requires c κs = let s = c .before .before .before in (omega (arith, s .pre .0), near s (c .before .before .loop .i))
+remainder-requires c κs =
+    let l = c .before .before in
+    let s = l .before in
+    (omega (arith, s .pre .0), plain-size (at s (l .loop .i)) (2 ^ 30) (omega (arith, small s (l .loop .i))) (omega arith))
 
 mul-r : tie.Need-mul-r Inv-loop μ-loop
 mul-r c = search needs
@@ -132,13 +152,13 @@ loop-less c = omega arith
 
 loop-again : tie.Need-loop-again Inv-loop μ-loop
 loop-again c =
-    let l = c .before .before .before in
+    let l = at-loop c in
     let s = l .before in (
       omega arith,
       (
         omega arith,
-        rows-next (2 ^ s .args .k) (s .args .t2) (l .loop .r) (toZ w32 (l .loop .q)) (l .loop .i) (pow-pos (s .args .k)) (height s) (eight s) (l .loop .inv .1 .1) _ _
-            (omega arith) (small s (l .loop .i)) (rest c) (tz (sum c) (sum-fits c) ∙ ap (λ (z : ℤ). toZ w32 (l .loop .q) +ℤ (at s (l .loop .i) -ℤ z)) (sym (rest c))),
+        rows-next (h-scale s) (eight s) (l .loop .inv .1 .1) _ _ (omega arith) (small s (i c)) (rest c)
+            (tz (sum c) (sum-fits c) ∙ ap (λ (a : ℤ). q c +ℤ (z c -ℤ a)) (sym (rest c))),
       ),
     )
 
@@ -161,11 +181,12 @@ array-set-from-r-2 c = search needs
 
 returns : tie.Need-returns Inv-loop μ-loop
 returns c =
-    let z = c .before in
-    let l = z .before .before in
+    let p = c .before in
+    let l = ended p in
     let s = l .before in
-    rows-last (2 ^ s .args .k) (s .args .t2) (l .loop .r) (toZ w32 (l .loop .q)) (l .loop .i) (pow-pos (s .args .k)) (height s) (eight s) (l .loop .inv .1 .1) _ (omega arith)
-    (tz refl (record { sfits = c .remainder2 .ok }) ∙ c .remainder2 .ensures ∙ ap₂ (λ a n. pos (modZ a n)) (tz (last z) (last-fits z)) (quad s))
+    rows-last (h-scale s) (eight s) (l .loop .inv .1 .1) _ (omega arith)
+    (tz refl (record { sfits = c .remainder2 .ok }) ∙ c .remainder2 .ensures
+    ∙ ap₂ (λ a n. pos (modZ a n)) (tz (last p) (last-fits p)) (quadruple (s .args .k)))
 
 pub later-rows-spec : {M : Type 1} → statement M
 later-rows-spec =

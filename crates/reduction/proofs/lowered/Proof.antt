@@ -1,7 +1,7 @@
 -- `lowered` meets its contract
 use mathlib.Core.Path.{_≡_, refl, sym, _∙_, ap, ap₂}
 use mathlib.Core.List.{List}
-use Prim.Native.Nat.{ℕ, _-_, _^_, _≤_}
+use Prim.Native.Nat.{ℕ, _-_, _^_, _<_, _≤_}
 use native.Mathlib.Omega.{arith}
 use lib.IntN.{ℤ, pos, _-ℤ_, natAbs}
 use lib.ListN.{length, getD}
@@ -13,7 +13,7 @@ use Rattle.e8.specs.Least.{lowered}
 use Rattle.e8.proofs.Within.{within-at}
 use Rattle.e8.proofs.Rows.{lowered-length}
 use Rattle.coordinates.proofs.Size.{lowered-at, less-abs, fits}
-use Rattle.coordinates.proofs.Reading.{read}
+use Rattle.coordinates.proofs.Reading.{read, plain}
 use Rattle.coordinates.proofs.Filled.{Filled, filled-none, filled-next, filled-all}
 use Rattle.reduction.proofs.lowered.Statement.{statement}
 use Rattle.reduction.proofs.lowered.Tie as tie
@@ -37,15 +37,21 @@ module _ (s : tie.Start Inv-loop μ-loop) where
   height : read (s .args .h) ≡ s .args .h
   height = tz refl (s .fits .h)
 
-  small : (i : ℕ) → natAbs (getD (s .args .t2) i (pos 0)) ≤ 2 ^ 24
+  abbrev at : ℕ → ℤ
+  at i = getD (s .args .t2) i (pos 0)
+
+  small : (i : ℕ) → natAbs (at i) ≤ 2 ^ 24
   small i = within-at (2 ^ 24) (s .args .t2) i (s .pre .1)
 
   -- one coordinate
-  one : (i : ℕ) → read (getD (s .args .t2) i (pos 0)) -ℤ read (s .args .h) ≡ getD (s .args .t2) i (pos 0) -ℤ s .args .h
-  one i = ap₂ _-ℤ_ (tz refl (fits (getD (s .args .t2) i (pos 0)) (omega (arith, small i)))) height
+  one : (i : ℕ) → read (at i) -ℤ read (s .args .h) ≡ at i -ℤ s .args .h
+  one i = ap₂ _-ℤ_ (plain (at i) (omega (arith, small i))) height
 
-  one-fits : (i : ℕ) → SFits w32 (getD (s .args .t2) i (pos 0) -ℤ s .args .h)
-  one-fits i = fits (getD (s .args .t2) i (pos 0) -ℤ s .args .h) (omega (arith, less-abs (getD (s .args .t2) i (pos 0)) (s .args .h) (2 ^ 24) (2 ^ 25) (small i) (s .pre .0)))
+  one-fits : (i : ℕ) → SFits w32 (at i -ℤ s .args .h)
+  one-fits i = fits (at i -ℤ s .args .h) (omega (arith, less-abs (at i) (s .args .h) (2 ^ 24) (2 ^ 25) (small i) (s .pre .0)))
+
+  target-at : (i : ℕ) → i < 8 → getD target i (pos 0) ≡ at i -ℤ s .args .h
+  target-at i l = lowered-at (read (s .args .h)) (s .args .t2) i (omega (arith, eight)) ∙ ap (λ (z : ℤ). at i -ℤ z) height
 
 loop-holds : tie.Need-loop-holds Inv-loop μ-loop
 loop-holds c = (omega arith, filled-none (target c) (c .args .t2) (sym (lowered-length (read (c .args .h)) (c .args .t2))))
@@ -78,13 +84,14 @@ loop-again c =
     let i = l .loop .i in (
       omega arith,
       filled-next (target s) (l .loop .r) i _ (l .loop .inv .1) (omega (arith, long s))
-          (tz (one s i) (one-fits s i) ∙ ap (λ (z : ℤ). getD (s .args .t2) i (pos 0) -ℤ z) (sym (height s)) ∙ sym (lowered-at (read (s .args .h)) (s .args .t2) i (omega (arith, eight s)))),
+          (tz (one s i) (one-fits s i) ∙ sym (target-at s i (omega arith))),
     )
 
 returns : tie.Need-returns Inv-loop μ-loop
 returns c =
-    let s = c .before .before in
-    filled-all (target s) (c .before .loop .r) (c .before .loop .i) (c .before .loop .inv .1) (omega (arith, long s)) ∙ ap (λ (z : ℤ). lowered z (s .args .t2)) (height s)
+    let l = c .before in
+    let s = l .before in
+    filled-all (target s) (l .loop .r) (l .loop .i) (l .loop .inv .1) (omega (arith, long s)) ∙ ap (λ (z : ℤ). lowered z (s .args .t2)) (height s)
 
 pub lowered-spec : {M : Type 1} → statement M
 lowered-spec =

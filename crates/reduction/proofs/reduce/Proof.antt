@@ -1,20 +1,21 @@
 -- `reduce` meets its contract
 use mathlib.Core.Path.{_≡_, refl, sym, _∙_, ap, ap₂, subst}
-use Prim.Native.Nat.{ℕ, _+_, _^_, _<_, _≤_}
+use Prim.Native.Nat.{ℕ, _+_, _^_, _≤_}
 use native.Mathlib.Omega.{arith}
-use lib.Pow.{pow-mono, pow-pos}
+use lib.Pow.{pow-pos}
 use lib.IntN.{ℤ, pos, _-ℤ_, natAbs}
 use lib.ListN.{length, getD}
 use mir.Syntax.{w32}
 use mir.Val.{SFits}
 use borrow.Author.Needs.{needs}
 use Rattle.integers.specs.Integer.{modZ}
-use Rattle.integers.proofs.Zed.{`_, #_, _⊖_, tz, sfits-to, abs-ud}
+use Rattle.integers.proofs.Zed.{tz, sfits-to}
 use Rattle.integers.proofs.Floor.{modZ-lt}
 use Rattle.e8.specs.Energy.{Within}
 use Rattle.e8.specs.Least.{lowered}
 use Rattle.e8.proofs.Within.{within-at, within-to}
-use Rattle.coordinates.proofs.Size.{fits, abs!, lowered-within}
+use Rattle.coordinates.proofs.Size.{fits, less-abs, lowered-within}
+use Rattle.coordinates.proofs.Rest.{scale}
 use Rattle.coordinates.proofs.Reading.{read}
 use Rattle.reduction.proofs.Reducing.{result, first-row}
 use Rattle.reduction.proofs.reduce.Statement.{statement}
@@ -49,9 +50,9 @@ module _ (c : tie.After-remainder) where
 
   off-size : natAbs (x start -ℤ pos n) ≤ 2 ^ 25
   off-size =
-      let lt : n < 2 ^ start .args .k = modZ-lt (x start) (2 ^ start .args .k) (pow-pos (start .args .k)) in
-      let le : 2 ^ start .args .k ≤ 2 ^ 6 = pow-mono {j = 6} (start .pre .0) in
-      abs! (` (x start) ⊖ # n) (2 ^ 25) (omega (arith, lt, le, abs-ud (x start), small start)) (omega (arith, lt, le, abs-ud (x start), small start))
+      let h-scale = scale (start .args .k) (start .pre .0) in
+      let le : n ≤ 2 ^ 6 = omega (arith, modZ-lt (x start) (2 ^ start .args .k) (h-scale .some), h-scale .small) in
+      omega (arith, less-abs (x start) (pos n) (2 ^ 24) (2 ^ 6) (small start) le)
 
   off-fits : SFits w32 (x start -ℤ pos n)
   off-fits = fits (x start -ℤ pos n) (omega (arith, off-size))
@@ -77,18 +78,17 @@ lowered-requires c κs = (off-within c, c .before .before .pre .1)
 later-rows-requires : tie.Need-later-rows-requires
 later-rows-requires c κs =
     let s = c .before .before .before in
-    let d : ℤ = read (read (x s) -ℤ read (c .before .remainder .result)) in (
-      s .pre .0,
-      subst (Within (2 ^ 26)) (sym (c .lowered .ensures))
-          (within-to (2 ^ 24 + 2 ^ 25) (2 ^ 26) (lowered d (s .args .t2)) (omega arith) (lowered-within d (s .args .t2) (2 ^ 24) (2 ^ 25) (off-within (c .before)) (s .pre .1))),
-    )
+    let d : ℤ = read (read (x s) -ℤ read (c .before .remainder .result)) in
+    let w = lowered-within d (s .args .t2) (2 ^ 24) (2 ^ 25) (off-within (c .before)) (s .pre .1) in
+    (s .pre .0, subst (Within (2 ^ 26)) (sym (c .lowered .ensures)) (within-to (2 ^ 24 + 2 ^ 25) (2 ^ 26) (lowered d (s .args .t2)) (omega arith) w))
 
 returns : tie.Need-returns
 returns c =
     let r = c .before .before in
     let s = r .before .before in
     c .later-rows .ensures ∙ ap (result (2 ^ s .args .k)) (c .before .lowered .ensures)
-    ∙ first-row (2 ^ s .args .k) (s .args .t2) _ (read (r .remainder .result)) (pow-pos (s .args .k)) (eight s) (rest r) (tz (ap (λ (z : ℤ). z -ℤ read (r .remainder .result)) (is s)) (fits-too r))
+    ∙ first-row (2 ^ s .args .k) (s .args .t2) _ (read (r .remainder .result)) (pow-pos (s .args .k)) (eight s) (rest r)
+    (tz (ap (λ (z : ℤ). z -ℤ read (r .remainder .result)) (is s)) (fits-too r))
 
 pub reduce-spec : {M : Type 1} → statement M
 reduce-spec =

@@ -1,5 +1,5 @@
 -- `coefficients`: the bits at the places of the masks, by the table of each length. Assumes nothing.
-use mathlib.Core.Path.{_≡_, _∙_}
+use mathlib.Core.Path.{_∙_}
 use borrow.Author.Needs.{needs}
 use Rattle.reed_muller.proofs.MaskTables.{right-8, right-16, right-32, places-within, by-places, last}
 use Rattle.reed_muller.proofs.coefficients.Statement.{statement}

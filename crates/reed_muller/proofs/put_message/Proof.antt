@@ -1,11 +1,11 @@
 -- `put_message`: the message bits put in a row. Assumes nothing.
-use Prim.Native.Nat.{ℕ, _+_, _*_, _%_, _≤_}
-use mathlib.Core.Path.{_≡_, ap, _∙_}
+use Prim.Native.Nat.{_+_, _*_, _%_, _≤_}
+use mathlib.Core.Path.{_∙_}
 use native.Mathlib.Omega.{arith}
 use lib.ListN.{length, getD}
 use borrow.Author.Needs.{needs}
-use Rattle.bits.specs.Message.{messageBit, bytesOf, withBits}
-use Rattle.bits.proofs.Digits.{digit, digit-small}
+use Rattle.bits.specs.Message.{messageBit}
+use Rattle.bits.proofs.Digits.{digit-small}
 use Rattle.bits.proofs.Bytewise.{put-number}
 use Rattle.reed_muller.specs.Level.{order, dimension}
 use Rattle.reed_muller.proofs.MaskTables.{few-bits}
@@ -38,9 +38,9 @@ returns c =
     let out = args .out .now in
     let message = read .message-held in
     put .ensures
-    ∙ ap (λ (n : ℕ). bytesOf (length out) (withBits (args .from) n (digit (message .result)) (messageBit out))) (read .before .dimension-of .ensures)
-    ∙ put-number (length out) (args .from) (dimension (args .r) (args .m)) (message .ensures)
-    (λ k l. digit-small (args .bits) (getD (order (args .m)) k 0)) (messageBit out)
+    ∙ rw (read .before .dimension-of .ensures)
+    (put-number (length out) (args .from) (dimension (args .r) (args .m)) (message .ensures)
+    (λ k l. digit-small (args .bits) (getD (order (args .m)) k 0)) (messageBit out))
 
 pub put-message-spec : {M : Type 1} → statement M
 put-message-spec = tie.close (tie.spec dimension-of-requires message-held-requires put-bits-requires same-length returns)

@@ -1,33 +1,22 @@
 -- `send` meets its contract: the definitions by its number, and the demands of what is sent. Assumes nothing.
 use Prim.Native.Nat.{ℕ, _≤_}
 use mathlib.Core.Path.{_≡_, sym, _∙_, subst}
-use mathlib.Core.Bool.{true, false}
+use mathlib.Core.Bool.{true}
 use mathlib.Core.List.{List}
 use native.Mathlib.Omega.{arith}
-use lib.Dec.{eqb}
 use lib.ListN.{length}
 use lib.IntN.{ℤ}
-use borrow.Author.Tests.{eq-eqb, ne-eqb}
 use Rattle.e8.specs.Energy.{energy}
 use Rattle.frames.specs.Kind.{isKind}
 use Rattle.frames.specs.Frame.{sentFrame}
-use Rattle.frames.specs.Sending.{frameAfter, energySent, LeastEnergy}
+use Rattle.frames.specs.Sending.{LeastEnergy}
+use Rattle.frames.proofs.Accepted.{sent-leaves, refused-leaves}
 use Rattle.frames.proofs.Rows.{grade-low, grade-high}
 use Rattle.frames.proofs.Demands.{sent-least, sent-within}
 use Rattle.sending.proofs.Answers.{Fits, fits}
 use borrow.Author.Needs.{needs}
 use Rattle.sending.proofs.send.Statement.{statement}
 use Rattle.sending.proofs.send.Tie as tie
-
--- what sending leaves, by its number
-module _ (number k b : ℕ) (m : List ℕ) (f : List ℤ) where
-  refused : (number ≡ 0 → ⊥) → (f ≡ frameAfter number k b m f) × (0 ≡ energySent number k b m)
-  unfolding energySent frameAfter
-  refused n = let e : eqb number 0 ≡ false = ne-eqb number 0 n in (simp e, simp e)
-
-  sent : number ≡ 0 → (sentFrame k b m ≡ frameAfter number k b m f) × (energy (sentFrame k b m) ≡ energySent number k b m)
-  unfolding energySent frameAfter
-  sent z = let e : eqb number 0 ≡ true = eq-eqb number 0 z in (simp e, simp e)
 
 -- what is written has the least energy of its class
 least : (k b : ℕ) (m : List ℕ) (f : List ℤ) (e : ℕ) → isKind k ≡ true → 1 ≤ b → f ≡ sentFrame k b m → e ≡ energy (sentFrame k b m) → LeastEnergy k b f e
@@ -44,8 +33,8 @@ refusal-requires c κs = search needs
 returns : tie.Need-returns
 returns c =
     let s = c .before .before .before .args in
-    let n = refused (c .before .refusal .result) (s .kind) (s .grade) (s .message .now) (s .frame .now) (λ e. omega (arith, e)) in
-    (c .before .refusal .ensures, (n .0, (n .1, (λ e. absurd (omega (arith, e))))))
+    let n = refused-leaves (c .before .refusal .result) (s .kind) (s .grade) (s .message .now) (s .frame .now) (λ e. omega (arith, e)) in
+    (c .before .refusal .ensures, (sym (n .0), (sym (n .1), (λ e. absurd (omega (arith, e))))))
 
 -- past the first four tests a frame can be written
 passed : (c : tie.Else1) → let s = c .before .before .before .args in Fits (s .kind) (s .grade) (s .message .now) (length (s .frame .now))
@@ -70,9 +59,16 @@ returns-2 c =
     let s = d .before .before .before .args in
     let a = passed d in
     let f = c .before .write-sent .ensures in
-    let t = sent (d .before .refusal .result) (s .kind) (s .grade) (s .message .now) (s .frame .now) (omega arith) in
-    (d .before .refusal .ensures, (f .0 ∙ t .0, (f .1 ∙ t .1,
-    (λ e. least (s .kind) (s .grade) (s .message .now) (c .before .write-sent .last .1 .1 .1 .0) (c .before .write-sent .result) (a .kind) (grade-low (s .grade) (a .grade)) (f .0) (f .1)))))
+    let t = sent-leaves (d .before .refusal .result) (s .kind) (s .grade) (s .message .now) (s .frame .now) (omega arith) in (
+      d .before .refusal .ensures,
+      (
+        f .0 ∙ sym (t .0),
+        (
+          f .1 ∙ sym (t .1),
+          (λ e. least (s .kind) (s .grade) (s .message .now) (c .before .write-sent .last .1 .1 .1 .0) (c .before .write-sent .result) (a .kind) (grade-low (s .grade) (a .grade)) (f .0) (f .1)),
+        ),
+      ),
+    )
 
 pub send-spec : {M : Type 1} → statement M
 send-spec = tie.close (tie.spec refusal-requires returns write-sent-requires same-length returns-2)

@@ -14,9 +14,8 @@ use Rattle.frames.specs.Kind.{isKind, scale, levels as levels-of}
 use Rattle.frames.specs.Message.{leader}
 use Rattle.frames.specs.Frame.{half, sentFrame}
 use Rattle.frames.proofs.One.{leader-length}
-use Rattle.frames.proofs.Bounds.{few-levels}
+use Rattle.frames.proofs.Limits.{few-levels, few-positions, some-block}
 use Rattle.frames.proofs.Demands.{sent-length, sent-within}
-use Rattle.kind_table.proofs.Each.{size}
 use Rattle.sending.proofs.Laid.{long, leader-within}
 use borrow.Author.Needs.{needs}
 use Rattle.sending.proofs.write_sent.Statement.{statement}
@@ -58,8 +57,9 @@ shape-requires c κs =
     let n = long k (s .args .grade) (s .pre .0) (s .args .message .now) in (
       omega (arith, few (c .before)),
       omega (arith, e, n),
-      omega (arith, e, leader-length k (s .args .grade) (s .args .message .now), size k (s .pre .0) .positions),
+      omega (arith, e, leader-length k (s .args .grade) (s .args .message .now), few-positions k (s .pre .0)),
       subst (Within (2 ^ 24)) (sym (l .write-leader .ensures)) (leader-within k (s .args .grade) (s .pre .0) (s .args .message .now) (s .pre .2)),
+      omega (arith, e, n, some-block k (s .pre .0)),
     )
 
 -- what is shaped is the sent frame, and small
@@ -81,7 +81,7 @@ shaped-energy-requires c κs =
     let k = s .args .kind in
     let e = ap length (shaped h) ∙ sent-length k (s .args .grade) (s .pre .0) (s .pre .1) (s .args .message .now) in (
       omega (arith, e, long k (s .args .grade) (s .pre .0) (s .args .message .now), leader-length k (s .args .grade) (s .args .message .now)),
-      omega (arith, e, size k (s .pre .0) .positions),
+      omega (arith, e, few-positions k (s .pre .0)),
       subst (Within (2 ^ 10)) (sym (shaped h)) (near k (s .args .grade) (s .args .message .now) (s .pre .0) (s .pre .1) (s .pre .2)),
     )
 

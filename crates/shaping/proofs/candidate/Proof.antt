@@ -1,5 +1,5 @@
 -- `candidate` meets its contract
-use mathlib.Core.Path.{_≡_, refl, sym, _∙_, ap, ap₂}
+use mathlib.Core.Path.{_≡_, refl, sym, _∙_, ap}
 use mathlib.Core.List.{List}
 use Prim.Native.Nat.{ℕ, _+_, _-_, _^_, _<_, _≤_}
 use native.Mathlib.Omega.{arith}
@@ -95,7 +95,8 @@ loop-again c =
     let e = plain (z s i) (omega (arith, small s i)) in (
       omega arith,
       filled-next (target s) (l .loop .r) i _ (l .loop .inv .1) (omega (arith, long s))
-          (tz refl (record { sfits = c .member .ok }) ∙ c .member .ensures ∙ ap (λ (y : ℤ). memberOf (at s) (elsewhere s) (n s) y i) e ∙ sym (target-at s i (omega arith))),
+          (tz refl (record { sfits = c .member .ok }) ∙ c .member .ensures ∙ ap (λ (y : ℤ). memberOf (at s) (elsewhere s) (n s) y i) e
+          ∙ sym (target-at s i (omega arith))),
     )
 
 returns : tie.Need-returns Inv-loop μ-loop

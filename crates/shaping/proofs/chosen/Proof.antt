@@ -79,7 +79,10 @@ loop-again c =
     )
 
 returns : tie.Need-returns Inv-loop μ-loop
-returns c = let s = c .before .before in filled-all (cond (s .args .t) (s .args .t2) (s .args .t3)) (c .before .loop .r) (c .before .loop .i) (c .before .loop .inv .1) (omega (arith, long s))
+returns c =
+    let l = c .before in
+    let s = l .before in
+    filled-all (cond (s .args .t) (s .args .t2) (s .args .t3)) (l .loop .r) (l .loop .i) (l .loop .inv .1) (omega (arith, long s))
 
 pub chosen-spec : {M : Type 1} → statement M
 chosen-spec =

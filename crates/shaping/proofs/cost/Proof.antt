@@ -8,7 +8,9 @@ use Rattle.shaping.proofs.cost.Statement.{statement}
 use Rattle.shaping.proofs.cost.Tie as tie
 
 returns : tie.Need-returns
-returns c = tz refl (c .before .fits .by) ∙ sym (ap (λ t. cond t (c .before .args .by) (pos 0)) (sym (ap (ltZ (pos 0)) (tz refl (c .before .fits .odd))) ∙ c .if1 .taken))
+returns c =
+    let s = c .before in
+    tz refl (s .fits .by) ∙ sym (ap (λ t. cond t (s .args .by) (pos 0)) (sym (ap (ltZ (pos 0)) (tz refl (s .fits .odd))) ∙ c .if1 .taken))
 
 returns-2 : tie.Need-returns-2
 returns-2 c = sym (ap (λ t. cond t (c .before .args .by) (pos 0)) (sym (ap (ltZ (pos 0)) (tz refl (c .before .fits .odd))) ∙ c .if1 .left))

@@ -53,7 +53,9 @@ module _ (c : tie.After-cost) where
   cost-size = where-abs (ltZ (pos 0) (s .args .odd)) (pos 2 *ℤ shrZ (low s) 16) (2 ^ 13) (twice-size s)
 
   cost-is : read (c .cost .result) ≡ cost
-  cost-is = tz (c .cost .ensures ∙ ap₂ (λ a b. cond (ltZ (pos 0) a) b (pos 0)) (tz refl (s .fits .odd)) (tz (twice s) (twice-fits s))) (fits cost (omega (arith, cost-size)))
+  cost-is =
+      tz (c .cost .ensures ∙ ap₂ (λ a b. cond (ltZ (pos 0) a) b (pos 0)) (tz refl (s .fits .odd)) (tz (twice s) (twice-fits s)))
+      (fits cost (omega (arith, cost-size)))
 
   total : read (pos 4 *ℤ read (h s)) +ℤ read (c .cost .result) ≡ pos 4 *ℤ h s +ℤ cost
   total = ap₂ _+ℤ_ (tz (four s) (four-fits s)) cost-is

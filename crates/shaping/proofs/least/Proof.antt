@@ -1,10 +1,12 @@
--- `least` meets its contract
+-- `least` meets its contract: the block is rounded once, both candidates are made of it, and the first of them by cost and first coordinate is taken.
+-- That at most one coordinate is changed, and which, is in Mending; the half part, the costs and their comparison are in Halving (`Two`).
+-- Here it is shown that the figures of the rounded block fit an i32 and what remainders and costs they make (`Known`), that each local is read as its
+-- figure (the facts after `remainder2`, where the last of them is known), and that each call then gives its part of `Two`. H = 2^k and M = 2·H
 use mathlib.Core.Path.{_≡_, refl, sym, _∙_, ap, ap₂, subst}
 use mathlib.Core.Bool.{Bool, true, false, cond}
 use mathlib.Core.List.{List}
 use Prim.Native.Nat.{ℕ, _+_, _*_, _-_, _^_, _/_, _<_, _≤_}
 use native.Mathlib.Omega.{arith}
-use lib.Pow.{pow-mono, pow-pos}
 use lib.IntN.{ℤ, pos, _+ℤ_, _-ℤ_, _*ℤ_, natAbs}
 use lib.ListN.{length, getD}
 use lib.Signed.{ltZ, shrZ}
@@ -14,320 +16,327 @@ use Rattle.integers.specs.Integer.{modZ}
 use Rattle.integers.proofs.Zed.{#_, _⊖_, _⊗_, eq!, tz, sfits-to}
 use Rattle.e8.specs.Energy.{Within}
 use Rattle.e8.specs.Lattice.{bit}
-use Rattle.e8.specs.Least.{leastBlock}
 use Rattle.e8.proofs.Within.{within-at}
-use Rattle.coordinates.proofs.Size.{fits, abs!, less-abs}
-use Rattle.coordinates.proofs.Rest.{double}
+use Rattle.coordinates.proofs.Size.{fits, abs! }
+use Rattle.coordinates.proofs.Rest.{quadruple, Scale, scale}
 use Rattle.coordinates.proofs.Reading.{read, plain, plain-size, power-read, power-size}
-use Rattle.shaping.proofs.Halving.{whole, halved, odd as whole-odd, half-odd as halved-odd, whole-cost, half-cost, turned, ranged, rounded-length, highest-low, chosen-is}
+use Rattle.shaping.specs.Rounded.{wholeFirst, memberOf, members, sizes, highest, lowest, Rounded}
+use Rattle.shaping.specs.declared.Quantized.{Quantized}
+use Rattle.shaping.proofs.Halving.{left, wholeCost, halfCost, wholePart, halfPart, wholeHead, halfHead, Two, two}
 use Rattle.shaping.proofs.Figures.{off-size, floors-size, sizes-low, rounded-within}
-use Rattle.shaping.specs.Rounded.{wholeFirst, rounded, sizes, highest, lowest, memberOf, members, Rounded}
 use Rattle.shaping.proofs.least.Statement.{statement}
 use Rattle.shaping.proofs.least.Tie as tie
 
--- a cost where the sum is odd
-costed : (q : Bool) (M y : ℕ) (z : ℤ) → 0 < M → z ≡ pos y → cond (ltZ (pos 0) (pos (bit q * M))) z (pos 0) ≡ pos (bit q * y)
-costed false M y z m e = ap (λ (n : ℕ). cond (ltZ (pos 0) (pos n)) z (pos 0)) {x = 0 * M} {y = 0} (omega arith) ∙ ap pos {x = 0} {y = 0 * y} (omega arith)
-costed true M y z m e = ap (λ t. cond t z (pos 0)) (lt-ltb 0 (1 * M) (omega arith)) ∙ e ∙ ap pos {x = y} {y = 1 * y} (omega arith)
+-- ---- the rounded block and its figures
 
--- what the code computes from the rounded block and its figures
-module _ {k : ℕ} {x rs : List ℤ} {s t n u v : ℤ} (low : k ≤ 6) (w : Within (2 ^ 24) x) (eight : length x ≡ 8) (q : Rounded (2 ^ k) x rs s t n u v 0) where
+abbrev wholeRemainder : ℕ → Quantized → ℤ
+wholeRemainder k q = pos (modZ (q .sum) (2 ^ (k + 2)))
+
+abbrev halfRemainder : ℕ → Quantized → ℤ
+halfRemainder k q = pos (modZ (q .halves) (2 ^ (k + 2)))
+
+record Known (k : ℕ) (x : List ℤ) (q : Quantized) : Type 0 where
+  -- the figures are small
+  sum-size : natAbs (q .sum) ≤ 2 ^ 28
+  halves-size : natAbs (q .halves) ≤ 2 ^ 28
+  sizes-size : natAbs (q .sizes) ≤ 2 ^ 10
+  top-size : natAbs (q .top) ≤ 2 ^ 12
+  low-size : natAbs (q .low) ≤ 2 ^ 12
+  block-size : Within (2 ^ 7) (q .block)
+  -- the ranks
+  top-is : q .top ≡ pos (highest (q .block) 0)
+  low-is : q .low ≡ pos (lowest (q .block) 0)
+  -- what the sums leave is 0 or M, and back across 0 is H or −H
+  two : Two (2 ^ k) x (q .block)
+  odd-is : wholeRemainder k q ≡ left (2 ^ k) (two .odd)
+  half-odd-is : halfRemainder k q ≡ left (2 ^ k) (two .half-odd)
+  odd-size : natAbs (left (2 ^ k) (two .odd)) ≤ 2 ^ 7
+  back-size : natAbs (pos (2 ^ k) -ℤ left (2 ^ k) (two .half-odd)) ≤ 2 ^ 7
+  -- the costs as the code makes them
+  whole-cost : q .sizes +ℤ cond (ltZ (pos 0) (left (2 ^ k) (two .odd))) (pos 2 *ℤ (pos (2 ^ k) -ℤ shrZ (q .top) 16)) (pos 0)
+      ≡ pos (wholeCost (2 ^ k) (two .odd) (q .block))
+  half-cost : pos 4 *ℤ pos (2 ^ k) +ℤ cond (ltZ (pos 0) (left (2 ^ k) (two .half-odd))) (pos 2 *ℤ shrZ (q .low) 16) (pos 0)
+      ≡ pos (halfCost (2 ^ k) (two .half-odd) (q .block))
+
+-- what is added where the sum is odd
+added : (odd : Bool) (M y : ℕ) (z : ℤ) → 0 < M → z ≡ pos y → cond (ltZ (pos 0) (pos (bit odd * M))) z (pos 0) ≡ pos (bit odd * y)
+added false M y z m e = ap (λ (n : ℕ). cond (ltZ (pos 0) (pos n)) z (pos 0)) {x = 0 * M} {y = 0} (omega arith) ∙ ap pos {x = 0} {y = 0 * y} (omega arith)
+added true M y z m e = ap (λ t. cond t z (pos 0)) (lt-ltb 0 (1 * M) (omega arith)) ∙ e ∙ ap pos {x = y} {y = 1 * y} (omega arith)
+
+module _ (k : ℕ) (x : List ℤ) (q : Quantized) (low : k ≤ 6) (w : Within (2 ^ 24) x) (eight : length x ≡ 8)
+    (r : Rounded (2 ^ k) x (q .block) (q .sum) (q .halves) (q .sizes) (q .top) (q .low) 0) where
   abbrev H : ℕ
   H = 2 ^ k
 
-  H-pos : 0 < H
-  H-pos = pow-pos k
+  abbrev M : ℕ
+  M = 2 * H
 
-  H-small : H ≤ 2 ^ 6
-  H-small = pow-mono {j = 6} low
+  H-scale : Scale H
+  H-scale = scale k low
 
-  abbrev cs : List ℤ
-  cs = rounded H x
+  -- the modulus of the sums is 2M
+  twice : 2 ^ (k + 2) ≡ 2 * M
+  twice = quadruple k ∙ omega arith
 
-  abbrev odd : ℤ
-  odd = whole-odd H x H-pos H-small eight
+  both : Two H x (q .block)
+  both = subst (Two H x) (sym (r .block)) (two H x (H-scale .some) (H-scale .small) eight)
 
-  abbrev half-odd : ℤ
-  half-odd = halved-odd H x H-pos H-small eight
+  left-low : (odd : Bool) → natAbs (left H odd) ≤ 2 ^ 7
+  left-low false = omega arith
+  left-low true = omega (arith, H-scale .small)
 
-  top-is : u ≡ pos (highest cs 0)
-  top-is = q .top ∙ ap (λ l. pos (highest l 0)) (q .block)
+  back-low : (odd : Bool) → natAbs (pos H -ℤ left H odd) ≤ 2 ^ 7
+  back-low false = abs! (# H ⊖ # (0 * M)) (2 ^ 7) (omega (arith, H-scale .small)) (omega (arith, H-scale .small))
+  back-low true = abs! (# H ⊖ # (1 * M)) (2 ^ 7) (omega (arith, H-scale .small)) (omega (arith, H-scale .small))
 
-  low-is : v ≡ pos (lowest cs 0)
-  low-is = q .low ∙ ap (λ l. pos (lowest l 0)) (q .block)
+  -- a figure is as small as what it is
+  by : (z y : ℤ) (B : ℕ) → z ≡ y → natAbs y ≤ B → natAbs z ≤ B
+  by z y B e h = subst (λ (v : ℤ). natAbs v ≤ B) (sym e) h
 
-  sizes-is : n ≡ pos (sizes cs)
-  sizes-is = q .size ∙ ap (λ l. pos (sizes l)) (q .block)
+  known : Known k x q
+  known =
+      let top : ℕ = highest (q .block) 0 / 16 in
+      let bottom : ℕ = lowest (q .block) 0 / 16 in
+      record {
+        sum-size = by (q .sum) _ (2 ^ 28) (r .whole) (omega (arith, eight, off-size H-scale x w));
+        halves-size = by (q .halves) _ (2 ^ 28) (r .half) (omega (arith, eight, floors-size H-scale x w));
+        sizes-size = by (q .sizes) _ (2 ^ 10) (r .size ∙ ap (λ l. pos (sizes l)) (r .block)) (omega (arith, eight, sizes-low H-scale x));
+        top-size = by (q .top) _ (2 ^ 12) (r .top) (omega (arith, both .top-low, H-scale .small));
+        low-size = by (q .low) _ (2 ^ 12) (r .low) (omega (arith, both .low-low, H-scale .small));
+        block-size = subst (Within (2 ^ 7)) (sym (r .block)) (rounded-within H-scale x);
+        top-is = r .top;
+        low-is = r .low;
+        two = both;
+        odd-is = ap₂ (λ z m. pos (modZ z m)) (r .whole) twice ∙ both .odd-left;
+        half-odd-is = ap₂ (λ z m. pos (modZ z m)) (r .half) twice ∙ both .half-left;
+        odd-size = left-low (both .odd);
+        back-size = back-low (both .half-odd);
+        whole-cost =
+            (λ j. r .size j +ℤ cond (ltZ (pos 0) (left H (both .odd))) (pos 2 *ℤ (pos H -ℤ shrZ (r .top j) 16)) (pos 0))
+            ∙ ap (λ (z : ℤ). pos (sizes (q .block)) +ℤ z) (added (both .odd) M (M - 2 * top) (pos 2 *ℤ (pos H -ℤ pos top)) (omega (arith, H-scale .some))
+            (eq! (# 2 ⊗ (# H ⊖ # top)) (# (M - 2 * top)) (omega (arith, both .top-low))));
+        half-cost =
+            (λ j. pos 4 *ℤ pos H +ℤ cond (ltZ (pos 0) (left H (both .half-odd))) (pos 2 *ℤ shrZ (r .low j) 16) (pos 0))
+            ∙ ap₂ _+ℤ_ (eq! (# 4 ⊗ # H) (# (4 * H)) (omega arith)) (added (both .half-odd) M (2 * bottom) (pos 2 *ℤ pos bottom) (omega (arith, H-scale .some))
+            (eq! (# 2 ⊗ # bottom) (# (2 * bottom)) (omega arith)));
+      }
 
-  top-low : highest cs 0 ≤ 16 * H + 15
-  top-low = highest-low H cs 0 (ranged H x H-pos) (omega (arith, rounded-length H x, eight))
+-- ---- the facts after `quantize`
 
-  sum-size : natAbs s ≤ 2 ^ 28
-  sum-size = subst (λ (z : ℤ). natAbs z ≤ 2 ^ 28) (sym (q .whole)) (omega (arith, eight, off-size H H-pos H-small x w))
-
-  halves-size : natAbs t ≤ 2 ^ 28
-  halves-size = subst (λ (z : ℤ). natAbs z ≤ 2 ^ 28) (sym (q .half)) (omega (arith, eight, floors-size H H-pos H-small x w))
-
-  sizes-size : natAbs n ≤ 2 ^ 10
-  sizes-size = subst (λ (z : ℤ). natAbs z ≤ 2 ^ 10) (sym sizes-is) (omega (arith, eight, sizes-low H H-pos H-small x))
-
-  top-size : natAbs u ≤ 2 ^ 12
-  top-size = subst (λ (z : ℤ). natAbs z ≤ 2 ^ 12) (sym top-is) (omega (arith, top-low, H-small))
-
-  low-size : natAbs v ≤ 2 ^ 12
-  low-size = subst (λ (z : ℤ). natAbs z ≤ 2 ^ 12) (sym low-is) (omega (arith, turned H x H-pos H-small eight, H-small))
-
-  within : Within (2 ^ 7) rs
-  within = subst (Within (2 ^ 7)) (sym (q .block)) (rounded-within H H-pos H-small x)
-
-  quarter : 2 ^ (k + 2) ≡ 2 * (2 * H)
-  quarter = let e : k + 2 ≡ k + 1 + 1 = omega arith in ap (λ (m : ℕ). 2 ^ m) e ∙ double (k + 1) ∙ ap (λ (m : ℕ). 2 * m) (double k)
-
-  odd-is : pos (modZ s (2 ^ (k + 2))) ≡ odd
-  odd-is = ap₂ (λ z m. pos (modZ z m)) (q .whole) quarter ∙ ap pos (whole H x H-pos H-small eight .left)
-
-  half-odd-is : pos (modZ t (2 ^ (k + 2))) ≡ half-odd
-  half-odd-is = ap₂ (λ z m. pos (modZ z m)) (q .half) quarter ∙ ap pos (halved H x H-pos H-small eight .left)
-
-  bit-low : (b : Bool) → bit b * (2 * H) ≤ 2 ^ 7
-  bit-low false = omega arith
-  bit-low true = omega (arith, H-small)
-
-  whole-is : n +ℤ cond (ltZ (pos 0) odd) (pos 2 *ℤ (pos H -ℤ shrZ u 16)) (pos 0) ≡ pos (whole-cost H x H-pos H-small eight)
-  whole-is =
-      let a : ℕ = highest cs 0 / 16 in
-      ap₂ (λ (y z : ℤ). y +ℤ cond (ltZ (pos 0) odd) (pos 2 *ℤ (pos H -ℤ shrZ z 16)) (pos 0)) sizes-is top-is
-      ∙ ap (λ (z : ℤ). pos (sizes cs) +ℤ z) (costed (whole H x H-pos H-small eight .odd) (2 * H) (2 * H - 2 * a) (pos 2 *ℤ (pos H -ℤ pos a)) (omega (arith, H-pos)) (eq! (# 2 ⊗ (# H ⊖ # a)) (# (2 * H - 2 * a)) (omega (arith, top-low))))
-
-  half-is : pos 4 *ℤ pos H +ℤ cond (ltZ (pos 0) half-odd) (pos 2 *ℤ shrZ v 16) (pos 0) ≡ pos (half-cost H x H-pos H-small eight)
-  half-is =
-      let a : ℕ = lowest cs 0 / 16 in
-      ap (λ (z : ℤ). pos 4 *ℤ pos H +ℤ cond (ltZ (pos 0) half-odd) (pos 2 *ℤ shrZ z 16) (pos 0)) low-is
-      ∙ ap₂ _+ℤ_ (eq! (# 4 ⊗ # H) (# (2 * H + 2 * H)) (omega arith)) (costed (halved H x H-pos H-small eight .odd) (2 * H) (2 * a) (pos 2 *ℤ pos a) (omega (arith, H-pos)) (eq! (# 2 ⊗ # a) (# (2 * a)) (omega arith)))
-
-  -- across 0 and back by the one or the other
-  back-low : (b : Bool) → natAbs (pos H -ℤ pos (bit b * (2 * H))) ≤ 2 ^ 7
-  back-low false = omega (arith, less-abs (pos H) (pos (0 * (2 * H))) (2 ^ 6) 0 H-small (omega arith))
-  back-low true = abs! (# H ⊖ # (1 * (2 * H))) (2 ^ 7) (omega (arith, H-small)) (omega (arith, H-small))
-
-  -- the choice
-  least-is : (b : Bool) → b ≡ wholeFirst (pos (whole-cost H x H-pos H-small eight)) (memberOf odd (pos 0) (highest cs 0) (getD rs 0 (pos 0)) 0) (pos (half-cost H x H-pos H-small eight)) (memberOf (pos H -ℤ half-odd) (pos H) (lowest cs 0) (getD rs 0 (pos 0)) 0)
-      → cond b (members odd (pos 0) (highest cs 0) 0 rs) (members (pos H -ℤ half-odd) (pos H) (lowest cs 0) 0 rs) ≡ leastBlock H x
-  least-is b e = ap (λ l. cond b (members odd (pos 0) (highest cs 0) 0 l) (members (pos H -ℤ half-odd) (pos H) (lowest cs 0) 0 l)) (q .block)
-      ∙ chosen-is H x H-pos H-small eight b (e ∙ ap (λ l. wholeFirst (pos (whole-cost H x H-pos H-small eight)) (memberOf odd (pos 0) (highest cs 0) (getD l 0 (pos 0)) 0) (pos (half-cost H x H-pos H-small eight)) (memberOf (pos H -ℤ half-odd) (pos H) (lowest cs 0) (getD l 0 (pos 0)) 0)) (q .block))
-
--- the facts at a place after `quantize`
 module _ (c : tie.After-quantize) where
-  abbrev p : tie.After-power
-  p = c .before
+  abbrev start : tie.Start
+  start = c .before .before
 
-  abbrev st : tie.Start
-  st = p .before
+  abbrev q : Quantized
+  q = c .quantize .result
 
-  long : length (st .args .x) ≡ 8
+  long : length (start .args .x) ≡ 8
   long = search needs
 
-  abbrev M : ℕ
-  M = 2 ^ st .args .k
+  f : Known (start .args .k) (start .args .x) q
+  f = known (start .args .k) (start .args .x) q (start .pre .0) (start .pre .1) long (c .quantize .ensures)
 
-  height : read (p .power .result) ≡ pos M
-  height = power-read (st .args .k) (p .power .result) (st .pre .0) (p .power .ensures)
+  abbrev height : ℤ
+  height = read (c .before .power .result)
 
-  abbrev block : List ℤ
-  block = c .quantize .result .block
+  height-is : height ≡ pos (2 ^ start .args .k)
+  height-is = power-read (start .args .k) (c .before .power .result) (start .pre .0) (c .before .power .ensures)
 
-  abbrev hi : ℕ
-  hi = highest (rounded M (st .args .x)) 0
+  height-size : natAbs height ≤ 2 ^ 7
+  height-size = power-size (start .args .k) (c .before .power .result) (start .pre .0) (c .before .power .ensures)
 
-  abbrev lo : ℕ
-  lo = lowest (rounded M (st .args .x)) 0
+  sum-read : read (q .sum) ≡ q .sum
+  sum-read = plain (q .sum) (omega (arith, f .sum-size))
 
-  abbrev o : ℤ
-  o = odd (st .pre .0) (st .pre .1) long (c .quantize .ensures)
+  halves-read : read (q .halves) ≡ q .halves
+  halves-read = plain (q .halves) (omega (arith, f .halves-size))
 
-  abbrev ho : ℤ
-  ho = half-odd (st .pre .0) (st .pre .1) long (c .quantize .ensures)
+  sizes-read : read (q .sizes) ≡ q .sizes
+  sizes-read = plain (q .sizes) (omega (arith, f .sizes-size))
 
-  o-size : natAbs o ≤ 2 ^ 7
-  o-size = bit-low (st .pre .0) (st .pre .1) long (c .quantize .ensures) (whole M (st .args .x) (H-pos (st .pre .0) (st .pre .1) long (c .quantize .ensures)) (H-small (st .pre .0) (st .pre .1) long (c .quantize .ensures)) long .odd)
+  top-read : read (q .top) ≡ q .top
+  top-read = plain (q .top) (omega (arith, f .top-size))
 
-  abbrev we : ℤ
-  we = pos (whole-cost M (st .args .x) (H-pos (st .pre .0) (st .pre .1) long (c .quantize .ensures)) (H-small (st .pre .0) (st .pre .1) long (c .quantize .ensures)) long)
+  low-read : read (q .low) ≡ q .low
+  low-read = plain (q .low) (omega (arith, f .low-size))
 
-  abbrev he : ℤ
-  he = pos (half-cost M (st .args .x) (H-pos (st .pre .0) (st .pre .1) long (c .quantize .ensures)) (H-small (st .pre .0) (st .pre .1) long (c .quantize .ensures)) long)
+  head-read : read (getD (q .block) 0 (pos 0)) ≡ getD (q .block) 0 (pos 0)
+  head-read = plain (getD (q .block) 0 (pos 0)) (omega (arith, within-at (2 ^ 7) (q .block) 0 (f .block-size)))
 
-  sum-size-here : natAbs (c .quantize .result .sum) ≤ 2 ^ 28
-  sum-size-here = sum-size (st .pre .0) (st .pre .1) long (c .quantize .ensures)
+  head-size : natAbs (read (getD (q .block) 0 (pos 0))) ≤ 2 ^ 7
+  head-size = plain-size (getD (q .block) 0 (pos 0)) (2 ^ 7) (within-at (2 ^ 7) (q .block) 0 (f .block-size)) (omega arith)
 
-  halves-size-here : natAbs (c .quantize .result .halves) ≤ 2 ^ 28
-  halves-size-here = halves-size (st .pre .0) (st .pre .1) long (c .quantize .ensures)
+  -- a rank is read as the rank, which is not negative
+  top-rank : natAbs (read (q .top)) ≡ highest (q .block) 0
+  top-rank = ap natAbs (top-read ∙ f .top-is)
 
-  sizes-size-here : natAbs (c .quantize .result .sizes) ≤ 2 ^ 10
-  sizes-size-here = sizes-size (st .pre .0) (st .pre .1) long (c .quantize .ensures)
+  top-pos : read (q .top) ≡ pos (natAbs (read (q .top)))
+  top-pos = top-read ∙ f .top-is ∙ ap pos (sym top-rank)
 
-  top-size-here : natAbs (c .quantize .result .top) ≤ 2 ^ 12
-  top-size-here = top-size (st .pre .0) (st .pre .1) long (c .quantize .ensures)
+  low-rank : natAbs (read (q .low)) ≡ lowest (q .block) 0
+  low-rank = ap natAbs (low-read ∙ f .low-is)
 
-  low-size-here : natAbs (c .quantize .result .low) ≤ 2 ^ 12
-  low-size-here = low-size (st .pre .0) (st .pre .1) long (c .quantize .ensures)
+  low-pos : read (q .low) ≡ pos (natAbs (read (q .low)))
+  low-pos = low-read ∙ f .low-is ∙ ap pos (sym low-rank)
 
-  within-here : Within (2 ^ 7) block
-  within-here = within (st .pre .0) (st .pre .1) long (c .quantize .ensures)
-
-  sum-read : read (c .quantize .result .sum) ≡ c .quantize .result .sum
-  sum-read = plain (c .quantize .result .sum) (omega (arith, sum-size-here))
-
-  halves-read : read (c .quantize .result .halves) ≡ c .quantize .result .halves
-  halves-read = plain (c .quantize .result .halves) (omega (arith, halves-size-here))
-
-  sizes-read : read (c .quantize .result .sizes) ≡ c .quantize .result .sizes
-  sizes-read = plain (c .quantize .result .sizes) (omega (arith, sizes-size-here))
-
-  top-read : read (c .quantize .result .top) ≡ c .quantize .result .top
-  top-read = plain (c .quantize .result .top) (omega (arith, top-size-here))
-
-  low-read : read (c .quantize .result .low) ≡ c .quantize .result .low
-  low-read = plain (c .quantize .result .low) (omega (arith, low-size-here))
-
-  top-rank : read (c .quantize .result .top) ≡ pos hi
-  top-rank = top-read ∙ top-is (st .pre .0) (st .pre .1) long (c .quantize .ensures)
-
-  low-rank : read (c .quantize .result .low) ≡ pos lo
-  low-rank = low-read ∙ low-is (st .pre .0) (st .pre .1) long (c .quantize .ensures)
-
-  top-pos : read (c .quantize .result .top) ≡ pos (natAbs (read (c .quantize .result .top)))
-  top-pos = top-rank ∙ ap (λ (y : ℤ). pos (natAbs y)) (sym top-rank)
-
-  low-pos : read (c .quantize .result .low) ≡ pos (natAbs (read (c .quantize .result .low)))
-  low-pos = low-rank ∙ ap (λ (y : ℤ). pos (natAbs y)) (sym low-rank)
-
-  head-size : natAbs (getD block 0 (pos 0)) ≤ 2 ^ 7
-  head-size = within-at (2 ^ 7) block 0 within-here
-
-  head-read : read (getD block 0 (pos 0)) ≡ getD block 0 (pos 0)
-  head-read = plain (getD block 0 (pos 0)) (omega (arith, head-size))
-
-  h-size : natAbs (read (p .power .result)) ≤ 2 ^ 7
-  h-size = power-size (st .args .k) (p .power .result) (st .pre .0) (p .power .ensures)
-
-  abbrev ba : ℤ
-  ba = pos M -ℤ ho
-
-  ba-size : natAbs ba ≤ 2 ^ 7
-  ba-size = back-low (st .pre .0) (st .pre .1) long (c .quantize .ensures) (halved M (st .args .x) (H-pos (st .pre .0) (st .pre .1) long (c .quantize .ensures)) (H-small (st .pre .0) (st .pre .1) long (c .quantize .ensures)) long .odd)
-
-  odd-is-here : pos (modZ (c .quantize .result .sum) (2 ^ (st .args .k + 2))) ≡ o
-  odd-is-here = odd-is (st .pre .0) (st .pre .1) long (c .quantize .ensures)
-
-  half-odd-is-here : pos (modZ (c .quantize .result .halves) (2 ^ (st .args .k + 2))) ≡ ho
-  half-odd-is-here = half-odd-is (st .pre .0) (st .pre .1) long (c .quantize .ensures)
-
-  whole-is-here : c .quantize .result .sizes +ℤ cond (ltZ (pos 0) o) (pos 2 *ℤ (pos M -ℤ shrZ (c .quantize .result .top) 16)) (pos 0) ≡ we
-  whole-is-here = whole-is (st .pre .0) (st .pre .1) long (c .quantize .ensures)
-
-  half-is-here : pos 4 *ℤ pos M +ℤ cond (ltZ (pos 0) ho) (pos 2 *ℤ shrZ (c .quantize .result .low) 16) (pos 0) ≡ he
-  half-is-here = half-is (st .pre .0) (st .pre .1) long (c .quantize .ensures)
-
-  least-is-here : (b : Bool) → b ≡ wholeFirst we (memberOf o (pos 0) hi (getD block 0 (pos 0)) 0) he (memberOf ba (pos M) lo (getD block 0 (pos 0)) 0) → cond b (members o (pos 0) hi 0 block) (members ba (pos M) lo 0 block) ≡ leastBlock M (st .args .x)
-  least-is-here = least-is (st .pre .0) (st .pre .1) long (c .quantize .ensures)
-
-o-read : (c : tie.After-remainder) → read (c .remainder .result) ≡ o (c .before .before)
-o-read c = let z = c .before .before in tz refl (record { sfits = c .remainder .ok }) ∙ c .remainder .ensures ∙ ap (λ (y : ℤ). pos (modZ y (2 ^ (st z .args .k + 2)))) (sum-read z) ∙ odd-is-here z
+-- ---- the facts after `remainder2`, where all figures are there
 
 module _ (c : tie.After-remainder2) where
-  abbrev zz : tie.After-quantize
-  zz = c .before .before .before .before
+  abbrev at-remainder : tie.After-remainder
+  at-remainder = c .before .before
 
-  ho-read : read (c .remainder2 .result) ≡ ho zz
-  ho-read = tz refl (record { sfits = c .remainder2 .ok }) ∙ c .remainder2 .ensures ∙ ap (λ (y : ℤ). pos (modZ y (2 ^ (st zz .args .k + 2)))) (halves-read zz) ∙ half-odd-is-here zz
+  abbrev z : tie.After-quantize
+  z = at-remainder .before .before
 
-  back : read (p zz .power .result) -ℤ read (c .remainder2 .result) ≡ ba zz
-  back = ap₂ _-ℤ_ (height zz) ho-read
+  abbrev known-here : Known (start z .args .k) (start z .args .x) (q z)
+  known-here = f z
 
-  back-read : read (read (p zz .power .result) -ℤ read (c .remainder2 .result)) ≡ ba zz
-  back-read = tz back (fits (ba zz) (omega (arith, ba-size zz)))
+  abbrev H-here : ℕ
+  H-here = 2 ^ start z .args .k
 
-  back-size : natAbs (read (read (p zz .power .result) -ℤ read (c .remainder2 .result))) ≤ 2 ^ 7
-  back-size = subst (λ (y : ℤ). natAbs y ≤ 2 ^ 7) (sym back-read) (ba-size zz)
+  abbrev block : List ℤ
+  block = q z .block
 
-whole-block : (c : tie.After-candidate) → c .candidate .result ≡ members (o (c .before .before .before .before .before .before .before .before)) (pos 0) (hi (c .before .before .before .before .before .before .before .before)) 0 (block (c .before .before .before .before .before .before .before .before))
-whole-block c = let z = c .before .before .before .before .before .before .before .before in c .candidate .ensures ∙ (λ j. members (o-read (c .before .before .before .before .before .before) j) (pos 0) (natAbs (top-rank z j)) 0 (block z))
+  abbrev is-odd : Bool
+  is-odd = known-here .two .odd
 
-half-block : (c : tie.After-candidate2) → c .candidate2 .result ≡ members (ba (c .before .before .before .before .before .before .before .before .before .before)) (pos (M (c .before .before .before .before .before .before .before .before .before .before))) (lo (c .before .before .before .before .before .before .before .before .before .before)) 0 (block (c .before .before .before .before .before .before .before .before .before .before))
-half-block c = let z = c .before .before .before .before .before .before .before .before .before .before in c .candidate2 .ensures ∙ (λ j. members (back-read (c .before .before .before .before .before .before) j) (height z j) (natAbs (low-rank z j)) 0 (block z))
+  abbrev half-is-odd : Bool
+  half-is-odd = known-here .two .half-odd
 
-we-read : (c : tie.After-whole-cost) → read (c .whole-cost .result) ≡ we (c .before .before .before .before .before .before .before .before .before .before .before .before .before)
-we-read c =
-    let z = c .before .before .before .before .before .before .before .before .before .before .before .before .before in
+  abbrev odd : ℤ
+  odd = read (at-remainder .remainder .result)
+
+  abbrev half-odd : ℤ
+  half-odd = read (c .remainder2 .result)
+
+  abbrev back : ℤ
+  back = height z -ℤ half-odd
+
+  odd-read : odd ≡ left H-here is-odd
+  odd-read =
+      tz refl (record { sfits = at-remainder .remainder .ok }) ∙ at-remainder .remainder .ensures
+      ∙ ap (λ (y : ℤ). pos (modZ y (2 ^ (start z .args .k + 2)))) (sum-read z) ∙ known-here .odd-is
+
+  half-odd-read : half-odd ≡ left H-here half-is-odd
+  half-odd-read =
+      tz refl (record { sfits = c .remainder2 .ok }) ∙ c .remainder2 .ensures
+      ∙ ap (λ (y : ℤ). pos (modZ y (2 ^ (start z .args .k + 2)))) (halves-read z) ∙ known-here .half-odd-is
+
+  back-is : back ≡ pos H-here -ℤ left H-here half-is-odd
+  back-is = ap₂ _-ℤ_ (height-is z) half-odd-read
+
+  back-read : read back ≡ pos H-here -ℤ left H-here half-is-odd
+  back-read = tz back-is (fits (pos H-here -ℤ left H-here half-is-odd) (omega (arith, known-here .back-size)))
+
+  odd-low : natAbs odd ≤ 2 ^ 7
+  odd-low = subst (λ (y : ℤ). natAbs y ≤ 2 ^ 7) (sym odd-read) (known-here .odd-size)
+
+  back-low-here : natAbs (read back) ≤ 2 ^ 7
+  back-low-here = subst (λ (y : ℤ). natAbs y ≤ 2 ^ 7) (sym back-read) (known-here .back-size)
+
+-- ---- the later places, each by the one before it
+
+abbrev at-candidate : tie.After-candidate → tie.After-remainder2
+at-candidate c = c .before .before .before .before
+
+abbrev at-candidate2 : tie.After-candidate2 → tie.After-remainder2
+at-candidate2 c = at-candidate (c .before .before)
+
+abbrev at-whole-cost : tie.After-whole-cost → tie.After-remainder2
+at-whole-cost c = at-candidate2 (c .before .before .before)
+
+abbrev at-half-cost : tie.After-half-cost → tie.After-remainder2
+at-half-cost c = at-whole-cost (c .before .before)
+
+abbrev at-member : tie.After-member → tie.After-remainder2
+at-member c = at-half-cost (c .before .before)
+
+abbrev at-member2 : tie.After-member2 → tie.After-remainder2
+at-member2 c = at-member (c .before .before)
+
+-- what each call gives
+
+whole-part : (c : tie.After-candidate) → let d = at-candidate c in c .candidate .result ≡ wholePart (H-here d) (is-odd d) (block d)
+whole-part c = let d = at-candidate c in c .candidate .ensures ∙ (λ j. members (odd-read d j) (pos 0) (top-rank (z d) j) 0 (block d))
+
+half-part : (c : tie.After-candidate2) → let d = at-candidate2 c in c .candidate2 .result ≡ halfPart (H-here d) (half-is-odd d) (block d)
+half-part c = let d = at-candidate2 c in c .candidate2 .ensures ∙ (λ j. members (back-read d j) (height-is (z d) j) (low-rank (z d) j) 0 (block d))
+
+whole-cost-is : (c : tie.After-whole-cost) → let d = at-whole-cost c in read (c .whole-cost .result) ≡ pos (wholeCost (H-here d) (is-odd d) (block d))
+whole-cost-is c =
+    let d = at-whole-cost c in
+    let y = z d in
     tz refl (record { sfits = c .whole-cost .ok }) ∙ c .whole-cost .ensures
-    ∙ (λ j. sizes-read z j +ℤ cond (ltZ (pos 0) (o-read (c .before .before .before .before .before .before .before .before .before .before .before) j)) (pos 2 *ℤ (height z j -ℤ shrZ (top-read z j) 16)) (pos 0)) ∙ whole-is-here z
+    ∙ (λ j. sizes-read y j +ℤ cond (ltZ (pos 0) (odd-read d j)) (pos 2 *ℤ (height-is y j -ℤ shrZ (top-read y j) 16)) (pos 0)) ∙ known-here d .whole-cost
 
-he-read : (c : tie.After-half-cost) → read (c .half-cost .result) ≡ he (c .before .before .before .before .before .before .before .before .before .before .before .before .before .before .before)
-he-read c =
-    let z = c .before .before .before .before .before .before .before .before .before .before .before .before .before .before .before in
+half-cost-is : (c : tie.After-half-cost) → let d = at-half-cost c in read (c .half-cost .result) ≡ pos (halfCost (H-here d) (half-is-odd d) (block d))
+half-cost-is c =
+    let d = at-half-cost c in
+    let y = z d in
     tz refl (record { sfits = c .half-cost .ok }) ∙ c .half-cost .ensures
-    ∙ (λ j. pos 4 *ℤ height z j +ℤ cond (ltZ (pos 0) (ho-read (c .before .before .before .before .before .before .before .before .before .before .before) j)) (pos 2 *ℤ shrZ (low-read z j) 16) (pos 0)) ∙ half-is-here z
+    ∙ (λ j. pos 4 *ℤ height-is y j +ℤ cond (ltZ (pos 0) (half-odd-read d j)) (pos 2 *ℤ shrZ (low-read y j) 16) (pos 0)) ∙ known-here d .half-cost
 
-whole-head : (c : tie.After-member) → read (c .member .result) ≡ memberOf (o (c .before .before .before .before .before .before .before .before .before .before .before .before .before .before .before .before .before)) (pos 0) (hi (c .before .before .before .before .before .before .before .before .before .before .before .before .before .before .before .before .before)) (getD (block (c .before .before .before .before .before .before .before .before .before .before .before .before .before .before .before .before .before)) 0 (pos 0)) 0
+whole-head : (c : tie.After-member) → let d = at-member c in read (c .member .result) ≡ wholeHead (H-here d) (is-odd d) (block d)
 whole-head c =
-    let z = c .before .before .before .before .before .before .before .before .before .before .before .before .before .before .before .before .before in
-    tz refl (record { sfits = c .member .ok }) ∙ c .member .ensures ∙ (λ j. memberOf (o-read (c .before .before .before .before .before .before .before .before .before .before .before .before .before .before .before) j) (pos 0) (natAbs (top-rank z j)) (head-read z j) 0)
+    let d = at-member c in
+    tz refl (record { sfits = c .member .ok }) ∙ c .member .ensures ∙ (λ j. memberOf (odd-read d j) (pos 0) (top-rank (z d) j) (head-read (z d) j) 0)
 
-half-head : (c : tie.After-member2) → read (c .member2 .result) ≡ memberOf (ba (c .before .before .before .before .before .before .before .before .before .before .before .before .before .before .before .before .before .before .before)) (pos (M (c .before .before .before .before .before .before .before .before .before .before .before .before .before .before .before .before .before .before .before))) (lo (c .before .before .before .before .before .before .before .before .before .before .before .before .before .before .before .before .before .before .before)) (getD (block (c .before .before .before .before .before .before .before .before .before .before .before .before .before .before .before .before .before .before .before)) 0 (pos 0)) 0
+half-head : (c : tie.After-member2) → let d = at-member2 c in read (c .member2 .result) ≡ halfHead (H-here d) (half-is-odd d) (block d)
 half-head c =
-    let z = c .before .before .before .before .before .before .before .before .before .before .before .before .before .before .before .before .before .before .before in
-    tz refl (record { sfits = c .member2 .ok }) ∙ c .member2 .ensures ∙ (λ j. memberOf (back-read (c .before .before .before .before .before .before .before .before .before .before .before .before .before .before .before) j) (height z j) (natAbs (low-rank z j)) (head-read z j) 0)
+    let d = at-member2 c in
+    tz refl (record { sfits = c .member2 .ok }) ∙ c .member2 .ensures
+    ∙ (λ j. memberOf (back-read d j) (height-is (z d) j) (low-rank (z d) j) (head-read (z d) j) 0)
 
--- the choice
-choice : (c : tie.After-whole-first) → c .whole-first .result ≡ wholeFirst (we (c .before .before .before .before .before .before .before .before .before .before .before .before .before .before .before .before .before .before .before .before)) (memberOf (o (c .before .before .before .before .before .before .before .before .before .before .before .before .before .before .before .before .before .before .before .before)) (pos 0) (hi (c .before .before .before .before .before .before .before .before .before .before .before .before .before .before .before .before .before .before .before .before)) (getD (block (c .before .before .before .before .before .before .before .before .before .before .before .before .before .before .before .before .before .before .before .before)) 0 (pos 0)) 0) (he (c .before .before .before .before .before .before .before .before .before .before .before .before .before .before .before .before .before .before .before .before)) (memberOf (ba (c .before .before .before .before .before .before .before .before .before .before .before .before .before .before .before .before .before .before .before .before)) (pos (M (c .before .before .before .before .before .before .before .before .before .before .before .before .before .before .before .before .before .before .before .before))) (lo (c .before .before .before .before .before .before .before .before .before .before .before .before .before .before .before .before .before .before .before .before)) (getD (block (c .before .before .before .before .before .before .before .before .before .before .before .before .before .before .before .before .before .before .before .before)) 0 (pos 0)) 0)
-choice c = c .whole-first .ensures ∙ (λ j. wholeFirst (we-read (c .before .before .before .before .before .before .before) j) (whole-head (c .before .before .before) j) (he-read (c .before .before .before .before .before) j) (half-head (c .before) j))
+-- ---- the needs
 
 power-requires : tie.Need-power-requires
 power-requires c κs = search needs
 
 quantize-requires : tie.Need-quantize-requires
-quantize-requires c κs = (c .before .pre .0, power-read (c .before .args .k) (c .power .result) (c .before .pre .0) (c .power .ensures), c .before .pre .1)
+quantize-requires c κs = let s = c .before in (s .pre .0, power-read (s .args .k) (c .power .result) (s .pre .0) (c .power .ensures), s .pre .1)
 
 add-remainder : tie.Need-add-remainder
 add-remainder c = search needs
 
 remainder-requires : tie.Need-remainder-requires
-remainder-requires c κs = let z = c .before in (omega (arith, st z .pre .0), plain-size (z .quantize .result .sum) (2 ^ 30) (omega (arith, sum-size-here z)) (omega arith))
+remainder-requires c κs =
+    let y = c .before in
+    (omega (arith, start y .pre .0), plain-size (q y .sum) (2 ^ 30) (omega (arith, f y .sum-size)) (omega arith))
 
 add-remainder-2 : tie.Need-add-remainder-2
 add-remainder-2 c = search needs
 
 remainder-requires-2 : tie.Need-remainder-requires-2
-remainder-requires-2 c κs = let z = c .before .before .before in (omega (arith, st z .pre .0), plain-size (z .quantize .result .halves) (2 ^ 30) (omega (arith, halves-size-here z)) (omega arith))
+remainder-requires-2 c κs =
+    let y = c .before .before .before in
+    (omega (arith, start y .pre .0), plain-size (q y .halves) (2 ^ 30) (omega (arith, f y .halves-size)) (omega arith))
 
 sub-at : tie.Need-sub-at
-sub-at c = sfits-to (back c) (fits (ba (zz c)) (omega (arith, ba-size (zz c))))
+sub-at c = sfits-to (back-is c) (fits _ (omega (arith, known-here c .back-size)))
 
 array-copy-out-c : tie.Need-array-copy-out-c
 array-copy-out-c c = search needs
 
 candidate-requires : tie.Need-candidate-requires
-candidate-requires c κs = let z = c .before .before .before .before .before .before .before in (subst (λ (y : ℤ). natAbs y ≤ 2 ^ 7) (sym (o-read (c .before .before .before .before .before))) (o-size z), omega arith, top-pos z, within-here z)
+candidate-requires c κs = let d = c .before .before .before in (odd-low d, omega arith, top-pos (z d), known-here d .block-size)
 
 candidate-requires-2 : tie.Need-candidate-requires-2
-candidate-requires-2 c κs = let z = c .before .before .before .before .before .before .before .before .before in (back-size (c .before .before .before .before .before), h-size z, low-pos z, within-here z)
+candidate-requires-2 c κs = let d = at-candidate (c .before) in (back-low-here d, height-size (z d), low-pos (z d), known-here d .block-size)
 
 whole-cost-requires : tie.Need-whole-cost-requires
 whole-cost-requires c κs =
-    let z = c .before .before .before .before .before .before .before .before .before .before .before .before in
-    (h-size z, plain-size (z .quantize .result .sizes) (2 ^ 10) (sizes-size-here z) (omega arith), plain-size (z .quantize .result .top) (2 ^ 12) (top-size-here z) (omega arith))
+    let d = at-candidate2 (c .before .before) in
+    let u = plain-size (q (z d) .sizes) (2 ^ 10) (known-here d .sizes-size) (omega arith) in
+    (height-size (z d), u, plain-size (q (z d) .top) (2 ^ 12) (known-here d .top-size) (omega arith))
 
 half-cost-requires : tie.Need-half-cost-requires
-half-cost-requires c κs = let z = c .before .before .before .before .before .before .before .before .before .before .before .before .before .before in (h-size z, plain-size (z .quantize .result .low) (2 ^ 12) (low-size-here z) (omega arith))
+half-cost-requires c κs = let d = at-whole-cost (c .before) in (height-size (z d), plain-size (q (z d) .low) (2 ^ 12) (known-here d .low-size) (omega arith))
 
 member-requires : tie.Need-member-requires
-member-requires c κs =
-    let z = c .before .before .before .before .before .before .before .before .before .before .before .before .before .before .before .before in
-    (subst (λ (y : ℤ). natAbs y ≤ 2 ^ 7) (sym (o-read (c .before .before .before .before .before .before .before .before .before .before .before .before .before .before))) (o-size z), omega arith, top-pos z, plain-size (getD (block z) 0 (pos 0)) (2 ^ 7) (head-size z) (omega arith), omega arith)
+member-requires c κs = let d = at-half-cost (c .before) in (odd-low d, omega arith, top-pos (z d), head-size (z d), omega arith)
 
 member-requires-2 : tie.Need-member-requires-2
-member-requires-2 c κs = let z = c .before .before .before .before .before .before .before .before .before .before .before .before .before .before .before .before .before .before in (back-size (c .before .before .before .before .before .before .before .before .before .before .before .before .before .before), h-size z, low-pos z, plain-size (getD (block z) 0 (pos 0)) (2 ^ 7) (head-size z) (omega arith), omega arith)
+member-requires-2 c κs = let d = at-member (c .before) in (back-low-here d, height-size (z d), low-pos (z d), head-size (z d), omega arith)
 
 whole-first-requires : tie.Need-whole-first-requires
 whole-first-requires c κs = search needs
@@ -337,8 +346,16 @@ chosen-requires c κs = search needs
 
 returns : tie.Need-returns
 returns c =
-    let z = c .before .before .before .before .before .before .before .before .before .before .before .before .before .before .before .before .before .before .before .before .before in
-    c .chosen .ensures ∙ ap₂ (cond (c .before .whole-first .result)) (whole-block (c .before .before .before .before .before .before .before .before .before .before .before .before .before)) (half-block (c .before .before .before .before .before .before .before .before .before .before .before)) ∙ least-is-here z (c .before .whole-first .result) (choice (c .before))
+    let first = c .before in
+    let head2 = first .before in
+    let head = head2 .before .before in
+    let cost2 = head .before .before in
+    let cost = cost2 .before .before in
+    let half = cost .before .before .before in
+    let whole = half .before .before in
+    c .chosen .ensures ∙ ap₂ (cond (first .whole-first .result)) (whole-part whole) (half-part half)
+    ∙ known-here (at-candidate whole) .two .least (first .whole-first .result)
+    (first .whole-first .ensures ∙ (λ j. wholeFirst (whole-cost-is cost j) (whole-head head j) (half-cost-is cost2 j) (half-head head2 j)))
 
 pub least-spec : {M : Type 1} → statement M
 least-spec =

@@ -36,7 +36,8 @@ module _ (s : tie.Start) where
   c-size = plain-size c (2 ^ 8) (omega (arith, s .pre .3)) (omega arith)
 
   -- one of the two numbers, across 0
-  across-is : (b : Bool) (m z : ℤ) → same ≡ b → m ≡ cond b (s .args .at) (s .args .elsewhere) → z ≡ across m c → z ≡ across (cond same (s .args .at) (s .args .elsewhere)) c
+  across-is : (b : Bool) (m z : ℤ) → same ≡ b → m ≡ cond b (s .args .at) (s .args .elsewhere) → z ≡ across m c
+      → z ≡ across (cond same (s .args .at) (s .args .elsewhere)) c
   across-is b m z h e f = f ∙ ap (λ (y : ℤ). across y c) (e ∙ ap (λ t. cond t (s .args .at) (s .args .elsewhere)) (sym h))
 
 rank-requires : tie.Need-rank-requires

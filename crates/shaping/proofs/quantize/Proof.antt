@@ -1,9 +1,11 @@
--- `quantize` meets its contract
+-- `quantize` meets its contract. The loop goes from the last coordinate to the first: after it came to place i, the places from i on are rounded, and the
+-- figures are those of the coordinates from i on (`Rounded`), as `off`, `floors`, `sizes`, `highest` and `lowest` take one coordinate more in front.
+-- A turn: f is the multiple of M at v + H or next below, v − f is `cent H v`. H = 2^k and M = 2·H
 use mathlib.Core.Path.{_≡_, refl, sym, _∙_, ap, ap₂, subst}
 use mathlib.Core.Bool.{cond}
-use Prim.Native.Nat.{ℕ, _+_, _*_, _-_, _^_, _<_, _≤_}
+use mathlib.Core.List.{List}
+use Prim.Native.Nat.{ℕ, _+_, _*_, _-_, _^_, _≤_}
 use native.Mathlib.Omega.{arith}
-use lib.Pow.{pow-mono, pow-pos}
 use lib.IntN.{ℤ, pos, _+ℤ_, _-ℤ_, natAbs}
 use lib.ListN.{length, drop, getD, length-set, length-drop, drop-of-length-le}
 use lib.Signed.{ltZ}
@@ -16,147 +18,196 @@ use Rattle.e8.specs.Energy.{Within}
 use Rattle.e8.specs.Least.{cent}
 use Rattle.e8.proofs.Within.{within-at, within-drop}
 use Rattle.coordinates.proofs.Size.{fits, sum-abs}
-use Rattle.coordinates.proofs.Rest.{double}
+use Rattle.coordinates.proofs.Rest.{double, Scale, scale}
 use Rattle.coordinates.proofs.Reading.{read, power-read, plain}
-use Rattle.shaping.proofs.Figures.{rounded-turn, off-is, back, cent-low, off-one, floor-one, off-size, floors-size, sizes-low}
+use Rattle.shaping.proofs.Figures.{rounded-turn, off-floor, back, cent-low, off-one, floor-one, off-size, floors-size, sizes-low}
 use Rattle.shaping.specs.Rounded.{rankOf, sizes, Rounded}
 use Rattle.shaping.proofs.quantize.Statement.{statement}
 use Rattle.shaping.proofs.quantize.Tie as tie
 
 abbrev Inv-loop : tie.InvT-loop
 Inv-loop k h x r₀ sum₀ halves₀ sizes₀ top₀ low₀ i₀ r sum halves sizes top low i =
-    (i ≤ 8) × ((length r ≡ 8) × Rounded (2 ^ k) (drop i x) (drop i r) (toZ w32 sum) (toZ w32 halves) (toZ w32 sizes) (toZ w32 top) (toZ w32 low) i)
+    (i ≤ 8) × ((length r ≡ 8)
+    × Rounded (2 ^ k) (drop i x) (drop i r) (toZ w32 sum) (toZ w32 halves) (toZ w32 sizes) (toZ w32 top) (toZ w32 low) i)
 
 abbrev μ-loop : tie.MeasureT-loop
 μ-loop k h x r₀ sum₀ halves₀ sizes₀ top₀ low₀ i₀ r sum halves sizes top low i = i
+
+-- ---- the block that came
 
 module _ (s : tie.Start Inv-loop μ-loop) where
   abbrev H : ℕ
   H = 2 ^ s .args .k
 
-  H-pos : 0 < H
-  H-pos = pow-pos (s .args .k)
+  abbrev M : ℕ
+  M = 2 * H
 
-  H-small : H ≤ 2 ^ 6
-  H-small = pow-mono {j = 6} (s .pre .0)
+  -- the modulus as the code has it
+  M-is : 2 ^ (s .args .k + 1) ≡ M
+  M-is = double (s .args .k)
 
-  eight : length (s .args .t3) ≡ 8
+  abbrev block : List ℤ
+  block = s .args .t3
+
+  H-scale : Scale H
+  H-scale = scale (s .args .k) (s .pre .0)
+
+  eight : length block ≡ 8
   eight = search needs
 
+  -- coordinate i, and H more
   abbrev at : ℕ → ℤ
-  at i = getD (s .args .t3) i (pos 0)
+  at i = getD block i (pos 0)
 
   small : (i : ℕ) → natAbs (at i) ≤ 2 ^ 24
-  small i = within-at (2 ^ 24) (s .args .t3) i (s .pre .2)
+  small i = within-at (2 ^ 24) block i (s .pre .2)
 
-  is : (i : ℕ) → read (at i) ≡ at i
-  is i = plain (at i) (omega (arith, small i))
+  at-read : (i : ℕ) → read (at i) ≡ at i
+  at-read i = plain (at i) (omega (arith, small i))
 
   raised : (i : ℕ) → read (at i) +ℤ read (s .args .h) ≡ at i +ℤ pos H
-  raised i = ap₂ _+ℤ_ (is i) (power-read (s .args .k) (s .args .h) (s .pre .0) (s .pre .1))
+  raised i = ap₂ _+ℤ_ (at-read i) (power-read (s .args .k) (s .args .h) (s .pre .0) (s .pre .1))
 
   raised-size : (i : ℕ) → natAbs (at i +ℤ pos H) ≤ 2 ^ 25
-  raised-size i = omega (arith, sum-abs (at i) (pos H) (2 ^ 24) (2 ^ 6) (small i) H-small)
+  raised-size i = omega (arith, sum-abs (at i) (pos H) (2 ^ 24) (2 ^ 6) (small i) (H-scale .small))
 
   raised-fits : (i : ℕ) → SFits w32 (at i +ℤ pos H)
   raised-fits i = fits (at i +ℤ pos H) (omega (arith, raised-size i))
 
--- how large the figures are before a turn
+  raised-read : (i : ℕ) → read (read (at i) +ℤ read (s .args .h)) ≡ at i +ℤ pos H
+  raised-read i = tz (raised i) (raised-fits i)
+
+-- ---- the figures before a turn
+
 module _ (l : tie.At-loop Inv-loop μ-loop) where
-  abbrev left : Within (2 ^ 24) (drop (l .loop .i) (l .before .args .t3))
-  left = within-drop (2 ^ 24) (l .loop .i) (l .before .args .t3) (l .before .pre .2)
+  abbrev start : tie.Start Inv-loop μ-loop
+  start = l .before
 
-  long : length (drop (l .loop .i) (l .before .args .t3)) ≤ 8
-  long = simp length-drop (omega (arith, eight (l .before)))
+  abbrev sum : ℤ
+  sum = toZ w32 (l .loop .sum)
 
-  sum-size : natAbs (toZ w32 (l .loop .sum)) ≤ 2 ^ 28
-  sum-size = subst (λ (z : ℤ). natAbs z ≤ 2 ^ 28) (sym (l .loop .inv .1 .1 .whole)) (omega (arith, long, off-size (H (l .before)) (H-pos (l .before)) (H-small (l .before)) (drop (l .loop .i) (l .before .args .t3)) left))
+  abbrev halves : ℤ
+  halves = toZ w32 (l .loop .halves)
 
-  halves-size : natAbs (toZ w32 (l .loop .halves)) ≤ 2 ^ 28
-  halves-size = subst (λ (z : ℤ). natAbs z ≤ 2 ^ 28) (sym (l .loop .inv .1 .1 .half)) (omega (arith, long, floors-size (H (l .before)) (H-pos (l .before)) (H-small (l .before)) (drop (l .loop .i) (l .before .args .t3)) left))
+  abbrev total : ℤ
+  total = toZ w32 (l .loop .sizes)
 
-  sizes-size : natAbs (toZ w32 (l .loop .sizes)) ≤ 2 ^ 9
-  sizes-size = subst (λ (z : ℤ). natAbs z ≤ 2 ^ 9) (sym (l .loop .inv .1 .1 .size ∙ ap (λ cs. pos (sizes cs)) (l .loop .inv .1 .1 .block)))
-      (omega (arith, long, sizes-low (H (l .before)) (H-pos (l .before)) (H-small (l .before)) (drop (l .loop .i) (l .before .args .t3))))
+  abbrev top : ℤ
+  top = toZ w32 (l .loop .top)
 
--- one coordinate
+  abbrev low : ℤ
+  low = toZ w32 (l .loop .low)
+
+  abbrev so-far : Rounded (H start) (drop (l .loop .i) (block start)) (drop (l .loop .i) (l .loop .r)) sum halves total top low (l .loop .i)
+  so-far = l .loop .inv .1 .1
+
+  abbrev done : List ℤ
+  done = drop (l .loop .i) (block start)
+
+  done-within : Within (2 ^ 24) done
+  done-within = within-drop (2 ^ 24) (l .loop .i) (block start) (start .pre .2)
+
+  done-length : length done ≤ 8
+  done-length = simp length-drop (omega (arith, eight start))
+
+  sum-size : natAbs sum ≤ 2 ^ 28
+  sum-size = subst (λ (z : ℤ). natAbs z ≤ 2 ^ 28) (sym (so-far .whole)) (omega (arith, done-length, off-size (H-scale start) done done-within))
+
+  halves-size : natAbs halves ≤ 2 ^ 28
+  halves-size = subst (λ (z : ℤ). natAbs z ≤ 2 ^ 28) (sym (so-far .half)) (omega (arith, done-length, floors-size (H-scale start) done done-within))
+
+  total-size : natAbs total ≤ 2 ^ 9
+  total-size = subst (λ (z : ℤ). natAbs z ≤ 2 ^ 9) (sym (so-far .size ∙ ap (λ cs. pos (sizes cs)) (so-far .block)))
+      (omega (arith, done-length, sizes-low (H-scale start) done))
+
+-- ---- one coordinate
+
 module _ (c : tie.After-floor Inv-loop μ-loop) where
-  abbrev l : tie.At-loop Inv-loop μ-loop
-  l = c .before .before .before
+  abbrev at-loop : tie.At-loop Inv-loop μ-loop
+  at-loop = c .before .before .before
+
+  abbrev s : tie.Start Inv-loop μ-loop
+  s = at-loop .before
 
   abbrev i : ℕ
-  i = l .loop .i - 1
+  i = at-loop .loop .i - 1
 
-  abbrev x : ℤ
-  x = at (l .before) i
+  abbrev v : ℤ
+  v = at s i
 
-  abbrev m : ℤ
-  m = cent (H (l .before)) x
+  -- rounded, and what comes off
+  abbrev near : ℤ
+  near = cent (H s) v
 
-  off-read : read (c .floor .result) ≡ x -ℤ m
-  off-read = tz (c .floor .ensures ∙ ap (λ (y : ℤ). y -ℤ pos (modZ y (2 ^ (l .before .args .k + 1)))) (tz (raised (l .before) i) (raised-fits (l .before) i)) ∙ off-is (H (l .before)) (2 ^ (l .before .args .k + 1)) x (double (l .before .args .k)))
-      (fits (x -ℤ m) (omega (arith, off-one (H (l .before)) (H-pos (l .before)) (H-small (l .before)) x (small (l .before) i))))
+  near-low : natAbs near ≤ 2 ^ 6
+  near-low = cent-low (H-scale s) v
 
-  m-low : natAbs m ≤ 2 ^ 6
-  m-low = cent-low (H (l .before)) (H-pos (l .before)) (H-small (l .before)) x
+  near-fits : SFits w32 near
+  near-fits = fits near (omega (arith, near-low))
 
-  m-fits : SFits w32 m
-  m-fits = fits m (omega (arith, m-low))
+  off-low : natAbs (v -ℤ near) ≤ 2 ^ 25
+  off-low = off-one (H-scale s) v (small s i)
 
-  rounded : read x -ℤ read (c .floor .result) ≡ m
-  rounded = ap₂ _-ℤ_ (is (l .before) i) off-read ∙ back x m
+  off-read : read (c .floor .result) ≡ v -ℤ near
+  off-read = tz (c .floor .ensures ∙ ap (λ (y : ℤ). y -ℤ pos (modZ y (2 ^ (s .args .k + 1)))) (raised-read s i)
+      ∙ off-floor (H s) (2 ^ (s .args .k + 1)) v (M-is s)) (fits (v -ℤ near) (omega (arith, off-low)))
+
+  near-is : read v -ℤ read (c .floor .result) ≡ near
+  near-is = ap₂ _-ℤ_ (at-read s i) off-read ∙ back v near
 
   abbrev value : ℤ
-  value = read (read x -ℤ read (c .floor .result))
+  value = read (read v -ℤ read (c .floor .result))
 
-  value-is : value ≡ m
-  value-is = tz rounded m-fits
+  value-is : value ≡ near
+  value-is = tz near-is near-fits
 
   value-low : natAbs value ≤ 2 ^ 7
-  value-low = subst (λ (z : ℤ). natAbs z ≤ 2 ^ 7) (sym value-is) (omega (arith, m-low))
+  value-low = subst (λ (z : ℤ). natAbs z ≤ 2 ^ 7) (sym value-is) (omega (arith, near-low))
 
-  sum-is : toZ w32 (l .loop .sum) +ℤ read (c .floor .result) ≡ toZ w32 (l .loop .sum) +ℤ (x -ℤ m)
-  sum-is = ap (λ (z : ℤ). toZ w32 (l .loop .sum) +ℤ z) off-read
+  sum-is : sum at-loop +ℤ read (c .floor .result) ≡ sum at-loop +ℤ (v -ℤ near)
+  sum-is = ap (λ (z : ℤ). sum at-loop +ℤ z) off-read
 
-  sum-fits : SFits w32 (toZ w32 (l .loop .sum) +ℤ (x -ℤ m))
-  sum-fits = fits (toZ w32 (l .loop .sum) +ℤ (x -ℤ m))
-      (omega (arith, sum-abs (toZ w32 (l .loop .sum)) (x -ℤ m) (2 ^ 28) (2 ^ 25) (sum-size l) (off-one (H (l .before)) (H-pos (l .before)) (H-small (l .before)) x (small (l .before) i))))
+  sum-fits : SFits w32 (sum at-loop +ℤ (v -ℤ near))
+  sum-fits = fits _ (omega (arith, sum-abs (sum at-loop) (v -ℤ near) (2 ^ 28) (2 ^ 25) (sum-size at-loop) off-low))
 
 module _ (c : tie.After-floor2 Inv-loop μ-loop) where
   abbrev f : tie.After-floor Inv-loop μ-loop
   f = c .before
 
-  abbrev low : ℤ
-  low = x f -ℤ pos (modZ (x f) (2 * H (l f .before)))
+  -- what comes off in the half part
+  abbrev below : ℤ
+  below = v f -ℤ pos (modZ (v f) (M (s f)))
 
-  low-size : natAbs low ≤ 2 ^ 25
-  low-size = floor-one (H (l f .before)) (H-pos (l f .before)) (H-small (l f .before)) (x f) (small (l f .before) (i f))
+  below-low : natAbs below ≤ 2 ^ 25
+  below-low = floor-one (H-scale (s f)) (v f) (small (s f) (i f))
 
-  low-read : read (c .floor2 .result) ≡ low
-  low-read = tz (c .floor2 .ensures ∙ ap₂ (λ y n. y -ℤ pos (modZ y n)) (is (l f .before) (i f)) (double (l f .before .args .k))) (fits low (omega (arith, low-size)))
+  below-read : read (c .floor2 .result) ≡ below
+  below-read = tz (c .floor2 .ensures ∙ ap₂ (λ y n. y -ℤ pos (modZ y n)) (at-read (s f) (i f)) (M-is (s f))) (fits below (omega (arith, below-low)))
 
-  halves-is : toZ w32 (l f .loop .halves) +ℤ read (c .floor2 .result) ≡ toZ w32 (l f .loop .halves) +ℤ low
-  halves-is = ap (λ (z : ℤ). toZ w32 (l f .loop .halves) +ℤ z) low-read
+  halves-is : halves (at-loop f) +ℤ read (c .floor2 .result) ≡ halves (at-loop f) +ℤ below
+  halves-is = ap (λ (z : ℤ). halves (at-loop f) +ℤ z) below-read
 
-  halves-fits : SFits w32 (toZ w32 (l f .loop .halves) +ℤ low)
-  halves-fits = fits (toZ w32 (l f .loop .halves) +ℤ low) (omega (arith, sum-abs (toZ w32 (l f .loop .halves)) low (2 ^ 28) (2 ^ 25) (halves-size (l f)) low-size))
+  halves-fits : SFits w32 (halves (at-loop f) +ℤ below)
+  halves-fits = fits _ (omega (arith, sum-abs (halves (at-loop f)) below (2 ^ 28) (2 ^ 25) (halves-size (at-loop f)) below-low))
 
 module _ (c : tie.After-magnitude Inv-loop μ-loop) where
   abbrev g : tie.After-floor Inv-loop μ-loop
   g = c .before .before
 
-  sizes-is : toZ w32 (l g .loop .sizes) +ℤ read (c .magnitude .result) ≡ toZ w32 (l g .loop .sizes) +ℤ pos (natAbs (value g))
-  sizes-is = ap (λ (z : ℤ). toZ w32 (l g .loop .sizes) +ℤ z) (tz (c .magnitude .ensures) (fits (pos (natAbs (value g))) (omega (arith, value-low g))))
+  size-is : total (at-loop g) +ℤ read (c .magnitude .result) ≡ total (at-loop g) +ℤ pos (natAbs (value g))
+  size-is = ap (λ (z : ℤ). total (at-loop g) +ℤ z) (tz (c .magnitude .ensures) (fits (pos (natAbs (value g))) (omega (arith, value-low g))))
 
-  sizes-fits : SFits w32 (toZ w32 (l g .loop .sizes) +ℤ pos (natAbs (value g)))
-  sizes-fits = fits (toZ w32 (l g .loop .sizes) +ℤ pos (natAbs (value g))) (omega (arith, sum-abs (toZ w32 (l g .loop .sizes)) (pos (natAbs (value g))) (2 ^ 9) (2 ^ 7) (sizes-size (l g)) (value-low g)))
+  size-fits : SFits w32 (total (at-loop g) +ℤ pos (natAbs (value g)))
+  size-fits = fits _ (omega (arith, sum-abs (total (at-loop g)) (pos (natAbs (value g))) (2 ^ 9) (2 ^ 7) (total-size (at-loop g)) (value-low g)))
+
+-- ---- the needs
 
 loop-holds : tie.Need-loop-holds Inv-loop μ-loop
 loop-holds c = (
   omega arith,
   (
     eight c,
-    subst (λ xs. Rounded (H c) xs xs (pos 0) (pos 0) (pos 0) (pos 0) (pos 1039) 8) (sym (drop-of-length-le (c .args .t3) {i = 8} (omega (arith, eight c))))
+    subst (λ xs. Rounded (H c) xs xs (pos 0) (pos 0) (pos 0) (pos 0) (pos 1039) 8) (sym (drop-of-length-le (block c) {i = 8} (omega (arith, eight c))))
         (record { block = refl; whole = refl; half = refl; size = refl; top = refl; low = refl }),
   ),
 )
@@ -174,16 +225,19 @@ add-floor : tie.Need-add-floor Inv-loop μ-loop
 add-floor c = search needs
 
 add-floor-2 : tie.Need-add-floor-2 Inv-loop μ-loop
-add-floor-2 c = sfits-to (raised (c .before .before .before) (c .before .before .loop .i - 1)) (raised-fits (c .before .before .before) (c .before .before .loop .i - 1))
+add-floor-2 c =
+    let l = c .before .before in
+    sfits-to (raised (l .before) (l .loop .i - 1)) (raised-fits (l .before) (l .loop .i - 1))
 
 floor-requires : tie.Need-floor-requires Inv-loop μ-loop
 floor-requires c κs =
-    let s = c .before .before .before in
-    let i = c .before .before .loop .i - 1 in
-    (omega (arith, s .pre .0), subst (λ (z : ℤ). natAbs z ≤ 2 ^ 30) (sym (tz (raised s i) (raised-fits s i))) (omega (arith, raised-size s i)))
+    let l = c .before .before in
+    let s = l .before in
+    let i = l .loop .i - 1 in
+    (omega (arith, s .pre .0), subst (λ (z : ℤ). natAbs z ≤ 2 ^ 30) (sym (raised-read s i)) (omega (arith, raised-size s i)))
 
 sub-c : tie.Need-sub-c Inv-loop μ-loop
-sub-c c = sfits-to (rounded c) (m-fits c)
+sub-c c = sfits-to (near-is c) (near-fits c)
 
 mul-r : tie.Need-mul-r Inv-loop μ-loop
 mul-r c = search needs
@@ -199,7 +253,7 @@ add-floor-3 c = search needs
 
 floor-requires-2 : tie.Need-floor-requires-2 Inv-loop μ-loop
 floor-requires-2 c κs =
-    (omega (arith, l c .before .pre .0), subst (λ (z : ℤ). natAbs z ≤ 2 ^ 30) (sym (is (l c .before) (i c))) (omega (arith, small (l c .before) (i c))))
+    (omega (arith, s c .pre .0), subst (λ (z : ℤ). natAbs z ≤ 2 ^ 30) (sym (at-read (s c) (i c))) (omega (arith, small (s c) (i c))))
 
 add-halves : tie.Need-add-halves Inv-loop μ-loop
 add-halves c = sfits-to (halves-is c) (halves-fits c)
@@ -208,10 +262,10 @@ magnitude-requires : tie.Need-magnitude-requires Inv-loop μ-loop
 magnitude-requires c κs = omega (arith, value-low (c .before))
 
 add-sizes : tie.Need-add-sizes Inv-loop μ-loop
-add-sizes c = sfits-to (sizes-is c) (sizes-fits c)
+add-sizes c = sfits-to (size-is c) (size-fits c)
 
 rank-requires : tie.Need-rank-requires Inv-loop μ-loop
-rank-requires c κs = (value-low (c .before .before), omega (arith, c .before .before .before .before .before .loop .inv .0))
+rank-requires c κs = (value-low (g c), omega (arith, at-loop (g c) .loop .inv .0))
 
 larger-requires : tie.Need-larger-requires Inv-loop μ-loop
 larger-requires c κs = search needs
@@ -229,27 +283,27 @@ loop-again c =
     let a = k .before in
     let b = a .before in
     let f = b .before in
-    let p = l f in
-    let s = p .before in
+    let l = at-loop f in
     let n : read (k .rank .result) ≡ pos (rankOf (value f) (i f)) = tz refl (record { sfits = k .rank .ok }) ∙ k .rank .ensures in (
-      omega (arith, p .loop .inv .0),
+      omega (arith, l .loop .inv .0),
       (
-        length-set (p .loop .r) (i f) _ ∙ p .loop .inv .1 .0,
-        rounded-turn (H s) (s .args .t3) (p .loop .r) (toZ w32 (p .loop .sum)) (toZ w32 (p .loop .halves)) (toZ w32 (p .loop .sizes)) (toZ w32 (p .loop .top)) (toZ w32 (p .loop .low)) (x f) (value f)
-            _ _ _ _ _ (p .loop .i) (i f) (omega (arith, f .before .before .loop-test .taken)) (p .loop .inv .0) (eight s) (p .loop .inv .1 .0) refl (value-is f)
-            (tz (sum-is f) (sum-fits f) ∙ ap (λ (z : ℤ). toZ w32 (p .loop .sum) +ℤ (x f -ℤ z)) (sym (value-is f)))
-            (tz (halves-is b) (halves-fits b)) (tz (sizes-is a) (sizes-fits a))
-            (tz refl (record { sfits = t .larger .ok }) ∙ t .larger .ensures ∙ ap (λ (z : ℤ). cond (ltZ (toZ w32 (p .loop .top)) z) z (toZ w32 (p .loop .top))) n)
-            (tz refl (record { sfits = c .smaller .ok }) ∙ c .smaller .ensures ∙ ap (λ (z : ℤ). cond (ltZ (toZ w32 (p .loop .low)) z) (toZ w32 (p .loop .low)) z) n)
-            (p .loop .inv .1 .1),
+        length-set (l .loop .r) (i f) _ ∙ l .loop .inv .1 .0,
+        rounded-turn (H (s f)) (block (s f)) (l .loop .r) (sum l) (halves l) (total l) (top l) (low l) (v f) (value f) _ _ _ _ _ (l .loop .i) (i f)
+            (omega (arith, f .before .before .loop-test .taken)) (l .loop .inv .0) (eight (s f)) (l .loop .inv .1 .0) refl (value-is f)
+            (tz (sum-is f) (sum-fits f) ∙ ap (λ (z : ℤ). sum l +ℤ (v f -ℤ z)) (sym (value-is f)))
+            (tz (halves-is b) (halves-fits b))
+            (tz (size-is a) (size-fits a))
+            (tz refl (record { sfits = t .larger .ok }) ∙ t .larger .ensures ∙ ap (λ (z : ℤ). cond (ltZ (top l) z) z (top l)) n)
+            (tz refl (record { sfits = c .smaller .ok }) ∙ c .smaller .ensures ∙ ap (λ (z : ℤ). cond (ltZ (low l) z) (low l) z) n)
+            (so-far l),
       ),
     )
 
 returns : tie.Need-returns Inv-loop μ-loop
 returns c =
     let l = c .before in
-    subst (λ (j : ℕ). Rounded (H (l .before)) (drop j (l .before .args .t3)) (drop j (l .loop .r)) (toZ w32 (l .loop .sum)) (toZ w32 (l .loop .halves)) (toZ w32 (l .loop .sizes)) (toZ w32 (l .loop .top)) (toZ w32 (l .loop .low)) j) {x = l .loop .i} {y = 0}
-    (omega (arith, c .loop-test .left)) (l .loop .inv .1 .1)
+    subst (λ (j : ℕ). Rounded (H (l .before)) (drop j (block (l .before))) (drop j (l .loop .r)) (sum l) (halves l) (total l) (top l) (low l) j)
+    {x = l .loop .i} {y = 0} (omega (arith, c .loop-test .left)) (so-far l)
 
 pub quantize-spec : {M : Type 1} → statement M
 quantize-spec =

@@ -40,7 +40,9 @@ module _ (s : tie.Start) where
   index = toZ-pos w32 (omega (arith, s .pre .1))
 
   sixteen-fits : SFits w32 (pos 16 *ℤ s .args .c)
-  sixteen-fits = fits (pos 16 *ℤ s .args .c) (abs! (# 16 ⊗ ` (s .args .c)) (2 ^ 30) (omega (arith, abs-ud (s .args .c), s .pre .0)) (omega (arith, abs-ud (s .args .c), s .pre .0)))
+  sixteen-fits =
+      let e = abs-ud (s .args .c) in
+      fits (pos 16 *ℤ s .args .c) (abs! (# 16 ⊗ ` (s .args .c)) (2 ^ 30) (omega (arith, e, s .pre .0)) (omega (arith, e, s .pre .0)))
 
   sixteen : read (pos 16 *ℤ read (s .args .c)) ≡ pos 16 *ℤ s .args .c
   sixteen = tz (ap (λ (z : ℤ). pos 16 *ℤ z) number) sixteen-fits

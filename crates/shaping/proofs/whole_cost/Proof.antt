@@ -59,7 +59,9 @@ module _ (c : tie.After-cost) where
   cost-size = where-abs (ltZ (pos 0) (s .args .odd)) by (2 ^ 14) (twice-size s)
 
   cost-is : read (c .cost .result) ≡ cost
-  cost-is = tz (c .cost .ensures ∙ ap₂ (λ a b. cond (ltZ (pos 0) a) b (pos 0)) (tz refl (s .fits .odd)) (tz (twice s) (twice-fits s))) (fits cost (omega (arith, cost-size)))
+  cost-is =
+      tz (c .cost .ensures ∙ ap₂ (λ a b. cond (ltZ (pos 0) a) b (pos 0)) (tz refl (s .fits .odd)) (tz (twice s) (twice-fits s)))
+      (fits cost (omega (arith, cost-size)))
 
   total : read (sizes s) +ℤ read (c .cost .result) ≡ sizes s +ℤ cost
   total = ap₂ _+ℤ_ (tz refl (s .fits .sizes)) cost-is

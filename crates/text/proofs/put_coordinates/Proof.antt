@@ -18,7 +18,8 @@ use Rattle.text.proofs.put_coordinates.Statement.{statement}
 use Rattle.text.proofs.put_coordinates.Tie as tie
 
 abbrev Inv-loop : tie.InvT-loop
-Inv-loop out₀ at frame a₀ i₀ out a i = (i ≤ length frame) × ((length out ≡ length out₀) × ((a ≤ at + 12 * i) × Put out₀ at (coordinatesOf (take i frame)) a out))
+Inv-loop out₀ at frame a₀ i₀ out a i = (i ≤ length frame) × ((length out ≡ length out₀) ×
+    ((a ≤ at + 12 * i) × Put out₀ at (coordinatesOf (take i frame)) a out))
 
 abbrev μ-loop : tie.MeasureT-loop
 μ-loop out₀ at frame a₀ i₀ out a i = length frame - i

@@ -16,7 +16,8 @@ array-share-prefix-text c = search needs
 slice-aggregate-put-text : tie.Need-slice-aggregate-put-text
 slice-aggregate-put-text c = search needs
 
-text-is : (c : tie.After-text2) → take (c .before .before .decimal .result) (c .before .before .decimal .last .1 .0) ≡ decimalOf (c .before .before .before .before .before .args .n)
+text-is : (c : tie.After-text2) → take (c .before .before .decimal .result) (c .before .before .decimal .last .1 .0) ≡ decimalOf
+    (c .before .before .before .before .before .args .n)
 text-is c =
     let e = c .before .before .decimal .ensures in
     e .1 .1 ∙ decimal-is _ (c .before .before .decimal .result) (c .before .before .before .before .before .fits .n .fits) (e .1 .0)

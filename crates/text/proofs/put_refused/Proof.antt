@@ -15,13 +15,20 @@ short : (c : tie.Start) → length (decimalOf (c .args .number)) ≤ 3
 short c = length-decimal 2 (c .args .number) (omega (arith, c .fits .number))
 
 -- the text so far, after each call
-word : (c : tie.After-put-text) → let s = c .before .before .before .before in Within (s .args .out .now) (s .args .at) 8 (bytes "refused ") (c .put-text .result) (c .put-text .last .0)
+word : (c : tie.After-put-text) → let s = c .before .before .before .before in
+    Within (s .args .out .now) (s .args .at) 8 (bytes "refused ") (c .put-text .result) (c .put-text .last .0)
 unfolding bytes
-word c = let s = c .before .before .before .before in within-more 8 (within-none (s .args .out .now) (s .args .at)) (c .put-text .ensures) (omega arith) (omega (arith, s .pre))
+word c =
+    let s = c .before .before .before .before in
+    within-more 8 (within-none (s .args .out .now) (s .args .at)) (c .put-text .ensures) (omega arith) (omega (arith, s .pre))
 
 number : (c : tie.After-put-decimal)
-    → let s = c .before .before .before .before .before .before .before .before in Within (s .args .out .now) (s .args .at) 11 (bytes "refused " ++ decimalOf (s .args .number)) (c .put-decimal .result) (c .put-decimal .last .0)
-number c = let p = c .before .before .before .before in let s = p .before .before .before .before in within-more 3 (word p) (c .put-decimal .ensures) (short s) (omega (arith, s .pre))
+    → let s = c .before .before .before .before .before .before .before .before in
+    Within (s .args .out .now) (s .args .at) 11 (bytes "refused " ++ decimalOf (s .args .number)) (c .put-decimal .result) (c .put-decimal .last .0)
+number c =
+    let p = c .before .before .before .before in
+    let s = p .before .before .before .before in
+    within-more 3 (word p) (c .put-decimal .ensures) (short s) (omega (arith, s .pre))
 
 slice-aggregate-put-text : tie.Need-slice-aggregate-put-text
 slice-aggregate-put-text c = search needs
@@ -33,7 +40,10 @@ put-decimal-requires : tie.Need-put-decimal-requires
 put-decimal-requires c κs = let p = c .before .before .before in let s = p .before .before .before .before in omega (arith, word p, short s, s .pre)
 
 put-byte-requires : tie.Need-put-byte-requires
-put-byte-requires c κs = let p = c .before .before .before in let s = p .before .before .before .before .before .before .before .before in omega (arith, number p, s .pre)
+put-byte-requires c κs =
+    let p = c .before .before .before in
+    let s = p .before .before .before .before .before .before .before .before in
+    omega (arith, number p, s .pre)
 
 same-length : tie.Need-same-length
 same-length c = search needs

@@ -46,7 +46,7 @@ loop-holds c = (omega arith, refl, refl, ints-none _)
 width-requires : tie.Need-width-requires Inv-loop μ-loop
 width-requires c κs =
     let s = c .before .before .before .before in
-    (s .pre .0, s .pre .1, c .loop-test .taken)
+    (s .pre .0, s .pre .1, omega (arith, c .loop-test .taken))
 
 -- a number of at most five bits, among the block's
 record Fit (c : tie.After-width Inv-loop μ-loop) : Type 0 where
@@ -58,7 +58,7 @@ fit c =
     let a = c .before .before in
     let s = a .before .before .before in
     let b = s .args .grade in
-    let lt : a .loop .o < 8 = c .before .loop-test .taken in record {
+    let lt : a .loop .o < 8 = omega (arith, c .before .loop-test .taken) in record {
       narrow = omega (arith, c .width .ensures, width-small b (a .loop .o) (s .pre .1) lt);
       inside = omega (arith, c .width .ensures, a .loop .inv .1, total-suc (widths b) (a .loop .o) lt, total-le (widths b) (suc (a .loop .o)), total-widths b (s .pre .0));
     }
@@ -110,17 +110,26 @@ mul-x c = omega arith
 add-x : tie.Need-add-x Inv-loop μ-loop
 add-x c = omega arith
 
+shr-x-3 : tie.Need-shr-x-3 Inv-loop μ-loop
+shr-x-3 c = omega arith
+
+mul-x-2 : tie.Need-mul-x-2 Inv-loop μ-loop
+mul-x-2 c = omega arith
+
+add-x-2 : tie.Need-add-x-2 Inv-loop μ-loop
+add-x-2 c = omega arith
+
 shl-x : tie.Need-shl-x Inv-loop μ-loop
 shl-x c = omega arith
 
-add-x-2 : tie.Need-add-x-2 Inv-loop μ-loop
-add-x-2 c = omega (arith, small c)
+add-x-3 : tie.Need-add-x-3 Inv-loop μ-loop
+add-x-3 c = omega (arith, small c)
 
 cast-x : tie.Need-cast-x Inv-loop μ-loop
 cast-x c = record { sfits = omega (arith, small c) }
 
-mul-x-2 : tie.Need-mul-x-2 Inv-loop μ-loop
-mul-x-2 c = omega arith
+mul-x-3 : tie.Need-mul-x-3 Inv-loop μ-loop
+mul-x-3 c = omega arith
 
 array-set-from-x : tie.Need-array-set-from-x Inv-loop μ-loop
 array-set-from-x c = omega arith
@@ -128,8 +137,8 @@ array-set-from-x c = omega arith
 add-at : tie.Need-add-at Inv-loop μ-loop
 add-at c = omega (arith, fit c .inside)
 
-add-c : tie.Need-add-c Inv-loop μ-loop
-add-c c = omega arith
+add-o : tie.Need-add-o Inv-loop μ-loop
+add-o c = omega arith
 
 loop-less : tie.Need-loop-less Inv-loop μ-loop
 loop-less c = omega arith
@@ -153,14 +162,14 @@ value c =
     let e : taken c ≡ getD (numbers bit (g .from) (widths (g .grade))) (a .loop .o) 0 =
     taken-is c
     ∙ ap₂ (λ (n w : ℕ). number w (λ i. bit (g .from + n + i))) (a .loop .inv .1) (c .width .ensures)
-    ∙ sym (numbers-at bit (g .from) (widths (g .grade)) (a .loop .o) (c .before .loop-test .taken)) in
+    ∙ sym (numbers-at bit (g .from) (widths (g .grade)) (a .loop .o) (omega (arith, c .before .loop-test .taken))) in
     omega (arith, small c, ap (λ (n : ℕ). n * 2 ^ g .a) e)
 
 loop-again : tie.Need-loop-again Inv-loop μ-loop
 loop-again c =
     let a = c .before .before in
     let s = a .before .before .before in
-    let lt : a .loop .o < 8 = c .before .loop-test .taken in (
+    let lt : a .loop .o < 8 = omega (arith, c .before .loop-test .taken) in (
       omega arith,
       rw add-one (omega (arith, total-suc (widths (s .args .grade)) (a .loop .o) lt, a .loop .inv .1, c .width .ensures)),
       length-set (a .loop .x) (a .loop .o) (toZ w32 (stored c)) ∙ a .loop .inv .2,
@@ -191,13 +200,16 @@ block-spec =
     shr-x-2
     mul-x
     add-x
-    shl-x
-    add-x-2
-    cast-x
+    shr-x-3
     mul-x-2
+    add-x-2
+    shl-x
+    add-x-3
+    cast-x
+    mul-x-3
     array-set-from-x
     add-at
-    add-c
+    add-o
     loop-less
     loop-again
     returns)

@@ -1,127 +1,180 @@
--- `leader::codewords` meets its contract: each level's codeword is that of its own message bits. Assumes nothing.
-use Prim.Native.Nat.{ℕ, _/_, _%_, _^_, _≤_, _<_}
-use mathlib.Core.Path.{_≡_, sym, ap, ap₂, _∙_, subst}
-use mathlib.Core.Bool.{true}
+-- `leader::codewords` meets its contract: the levels passed so far are held, each by its own message bits. Assumes nothing.
+use Prim.Native.Nat.{ℕ, _+_, _-_, _*_, _/_, _%_, _^_, _≤_, _<_}
+use mathlib.Core.Path.{_≡_, refl, sym, ap, ap₂, _∙_, subst}
+use mathlib.Core.List.{List}
 use native.Mathlib.Omega.{arith}
-use lib.ListN.{getD}
-use Rattle.reed_muller.specs.Level.{codeword, dimension}
-use Rattle.bits.specs.Message.{messageBit}
-use Rattle.reed_muller.proofs.Order.{dimension-small}
-use Rattle.frames.specs.Kind.{isKind, degrees, levels as levels-of, levelBits}
-use Rattle.frames.proofs.Rows.{degree-fits}
-use Rattle.frames.proofs.Bounds.{few-levels}
-use Rattle.kind_table.proofs.Each.{size, bits-row}
-use Rattle.sending.proofs.Stack.{Held, some-level, one-level, two-levels}
+use lib.ListN.{length, getD, take, set}
 use borrow.Author.Needs.{needs}
+use Rattle.bits.specs.Number.{table, number}
+use Rattle.bits.specs.Message.{messageBit}
+use Rattle.bits.proofs.Table.{filled, filled-none, filled-more}
+use Rattle.bits.proofs.Message.{number-lt, number-ext, digit-of, message-small}
+use Rattle.reed_muller.specs.Level.{dimension, codeword}
+use Rattle.reed_muller.proofs.Codeword.{codeword-cong}
+use Rattle.frames.specs.Kind.{isKind, degrees, levels as levels-of, levelBits}
+use Rattle.frames.proofs.Lengths.{level-end}
+use Rattle.frames.proofs.Limits.{tabled, few-levels, few-level-bits, kind-high, degree-fits, Piece, level-piece}
+use Rattle.kind_table.proofs.Entry.{entry-levels, entry-degree}
+use Rattle.sending.specs.Words.{levelStart, levelValue, codewordsOf}
 use Rattle.sending.proofs.leader.codewords.Statement.{statement}
 use Rattle.sending.proofs.leader.codewords.Tie as tie
 
--- the degree of a level is at most m
-fits : (k i r : ℕ) → isKind k ≡ true → i < levels-of k → r ≡ getD (degrees k) i 0 → r ≤ k
-fits k i r kind h e = subst (λ (n : ℕ). n ≤ k) (sym e) (degree-fits k kind i h)
+-- level i, held in a number
+abbrev held : ℕ → List ℕ → ℕ → ℕ
+held k message i = number (2 ^ k) (levelValue k (messageBit message) i)
 
-level-bits-requires : tie.Need-level-bits-requires
-level-bits-requires c κs = search needs
+abbrev Inv-loop : tie.InvT-loop
+Inv-loop kind message m levels degrees words₀ from₀ i₀ words from i =
+    (i ≤ levels-of kind) × (from ≡ levelStart kind i) × (words ≡ filled 3 (held kind message) i)
 
-bits-at-requires : tie.Need-bits-at-requires
+abbrev μ-loop : tie.MeasureT-loop
+μ-loop kind message m levels degrees words₀ from₀ i₀ words from i = levels-of kind - i
+
+-- the place before the loop, and the start, from a turn of it
+abbrev at-row : tie.In-loop Inv-loop μ-loop → tie.After-row Inv-loop μ-loop
+at-row c = c .before .before .before
+
+abbrev at-start : tie.In-loop Inv-loop μ-loop → tie.Start Inv-loop μ-loop
+at-start c = at-row c .before .before
+
+-- what a turn knows of its level: it is one of the kind, its degree, and its piece of the message
+record Turn (c : tie.In-loop Inv-loop μ-loop) : Type 0 where
+  inside : c .before .loop .i < levels-of (at-start c .args .kind)
+  three : c .before .loop .i < 3
+  degree : getD (at-row c .row .result .degrees) (c .before .loop .i) 0 ≡ getD (degrees (at-start c .args .kind)) (c .before .loop .i) 0
+  fits : getD (at-row c .row .result .degrees) (c .before .loop .i) 0 ≤ at-start c .args .kind
+  piece : Piece (c .before .loop .from) (dimension (getD (at-row c .row .result .degrees) (c .before .loop .i) 0) (at-start c .args .kind)) (levelBits (at-start c .args .kind))
+
+turn : (c : tie.In-loop Inv-loop μ-loop) → Turn c
+turn c =
+    let k = at-start c .args .kind in
+    let kind = at-start c .pre .0 in
+    let i = c .before .loop .i in
+    let e = at-row c .row .ensures in
+    let h : i < levels-of k = omega (arith, entry-levels k (at-row c .row .result) e) in
+    let d : getD (at-row c .row .result .degrees) i 0 ≡ getD (degrees k) i 0 = entry-degree k (at-row c .row .result) e kind i h in record {
+      inside = h;
+      three = omega (arith, few-levels k kind);
+      degree = d;
+      fits = subst (λ (r : ℕ). r ≤ k) (sym d) (degree-fits k kind i h);
+      piece =
+          subst (λ (r : ℕ). Piece (c .before .loop .from) (dimension r k) (levelBits k)) (sym d)
+          (subst (λ (f : ℕ). Piece f (dimension (getD (degrees k) i 0) k) (levelBits k)) (sym (c .before .loop .inv .1)) (level-piece k i kind h));
+    }
+
+row-requires : tie.Need-row-requires Inv-loop μ-loop
+row-requires c κs = search needs
+
+loop-holds : tie.Need-loop-holds Inv-loop μ-loop
+unfolding table
+loop-holds c = let g = c .before .before .before .args in (omega arith, refl, sym (filled-none 3 (held (g .kind) (g .message .now))))
+
+mul-r : tie.Need-mul-r Inv-loop μ-loop
+mul-r c = omega (arith, turn c .three)
+
+array-read-r : tie.Need-array-read-r Inv-loop μ-loop
+array-read-r c = turn c .three
+
+dimension-of-requires : tie.Need-dimension-of-requires Inv-loop μ-loop
+dimension-of-requires c κs = (tabled (at-start c .args .kind) (at-start c .pre .0), turn c .fits)
+
+bits-at-requires : tie.Need-bits-at-requires Inv-loop μ-loop
 bits-at-requires c κs =
-    let s = c .before .before in
-    let b = bits-row (s .args .kind) (s .pre .0) .small in
-    (omega (arith, c .level-bits .ensures), omega arith, omega (arith, c .level-bits .ensures, s .pre .1))
+    let t = c .before in
+    let p = turn t .piece in
+    let e = c .dimension-of .ensures in
+    (omega (arith, e, p .few), omega (arith, e, p .word), omega (arith, e, p .inside, at-start t .pre .1))
 
-held : (c : tie.After-bits-at) → let s = c .before .before .before in Held (s .args .kind) (degrees (s .args .kind)) (messageBit (s .args .message .now)) (c .bits-at .result)
-unfolding levelBits
-held c t h = c .bits-at .ensures t (omega (arith, c .before .level-bits .ensures))
+-- the message bits of the level
+abbrev own : tie.After-bits-at Inv-loop μ-loop → ℕ → ℕ
+own c t = let l = c .before .before in messageBit (at-start l .args .message .now) (l .before .loop .from + t)
 
-degree-requires : tie.Need-degree-requires
-degree-requires c κs =
-    let s = c .before .before .before in
-    (s .pre .0, some-level (s .args .kind) (s .pre .0))
+own-small : (c : tie.After-bits-at Inv-loop μ-loop) (t : ℕ) → own c t < 2
+own-small c t = message-small (at-start (c .before .before) .args .message .now) _
 
-low-fits : (c : tie.After-degree) → c .degree .result ≤ c .before .before .before .before .args .kind
-low-fits c =
-    let s = c .before .before .before .before in
-    fits (s .args .kind) 0 (c .degree .result) (s .pre .0) (some-level (s .args .kind) (s .pre .0)) (c .degree .ensures)
-
-codeword-held-requires : tie.Need-codeword-held-requires
+codeword-held-requires : tie.Need-codeword-held-requires Inv-loop μ-loop
 codeword-held-requires c κs =
-    let s = c .before .before .before .before in
-    let z = size (s .args .kind) (s .pre .0) in
-    ((z .low, z .high), low-fits c)
+    let t = c .before .before in
+    let n = c .before .dimension-of .result in (
+      tabled (at-start t .args .kind) (at-start t .pre .0),
+      turn t .fits,
+      subst (λ (d : ℕ). c .bits-at .result < 2 ^ d) (c .before .dimension-of .ensures)
+          (subst (λ (w : ℕ). w < 2 ^ n) (sym (c .bits-at .ensures)) (number-lt (own c) n (λ t l. own-small c t))),
+    )
 
--- the values of the first level
-low-is : (c : tie.After-codeword-held) → let s = c .before .before .before .before .before in (p : ℕ) → p < 2 ^ s .args .kind
-    → c .codeword-held .result / 2 ^ p % 2 ≡ codeword (getD (degrees (s .args .kind)) 0 0) (s .args .kind) (λ k. c .before .before .bits-at .result / 2 ^ k % 2) p
-low-is c p h =
-    let s = c .before .before .before .before .before in
-    c .codeword-held .ensures p h ∙ ap (λ (r : ℕ). codeword r (s .args .kind) (λ k. c .before .before .bits-at .result / 2 ^ k % 2) p) (c .before .degree .ensures)
+mul-words : tie.Need-mul-words Inv-loop μ-loop
+mul-words c = omega (arith, turn (c .before .before .before) .three)
 
-levels-requires : tie.Need-levels-requires
-levels-requires c κs = search needs
+array-write-words : tie.Need-array-write-words Inv-loop μ-loop
+array-write-words c = turn (c .before .before .before) .three
 
-returns : tie.Need-returns
-unfolding levels-of
-returns c p s h =
-    let l = c .before .before in
-    let b = l .before .before in
-    let a = b .before .before .before in
-    one-level (a .args .kind) (degrees (a .args .kind)) (sym (c .before .levels .ensures) ∙ c .if1 .taken) (messageBit (a .args .message .now)) (b .bits-at .result) (held b)
-    (l .codeword-held .result) p s (low-is l p h)
+add-from : tie.Need-add-from Inv-loop μ-loop
+add-from c =
+    let t = c .before .before .before in
+    let k = at-start t .args .kind in
+    let kind = at-start t .pre .0 in
+    omega (arith, c .before .before .dimension-of .ensures, turn t .piece .inside, turn t .fits, few-level-bits k kind, kind-high k kind)
 
--- there is a second level
-two : (c : tie.Else1) → levels-of (c .before .before .before .before .before .before .before .args .kind) ≡ 2
-two c =
-    let s = c .before .before .before .before .before .before .before in
-    omega (arith, c .before .levels .ensures, c .if1 .left, some-level (s .args .kind) (s .pre .0), few-levels (s .args .kind) (s .pre .0))
+add-i : tie.Need-add-i Inv-loop μ-loop
+add-i c = omega (arith, turn (c .before .before .before) .three)
 
-dimension-of-requires : tie.Need-dimension-of-requires
-dimension-of-requires c κs =
-    let d = c .before .before .before in
-    let s = d .before .before .before .before in
-    let z = size (s .args .kind) (s .pre .0) in
-    ((z .low, z .high), low-fits d)
+loop-less : tie.Need-loop-less Inv-loop μ-loop
+loop-less c = omega (arith, turn (c .before .before .before) .inside)
 
-shr-codeword-held : tie.Need-shr-codeword-held
-shr-codeword-held c =
-    let d = c .before .before .before .before in
-    let s = d .before .before .before .before in
-    omega (arith, c .dimension-of .ensures, dimension-small (d .degree .result) (s .args .kind) (low-fits d), size (s .args .kind) (s .pre .0) .positions)
+-- the codeword of the level
+word-is : (c : tie.After-codeword-held Inv-loop μ-loop) → let t = c .before .before .before in
+    c .codeword-held .result ≡ held (at-start t .args .kind) (at-start t .args .message .now) (t .before .loop .i)
+word-is c =
+    let b = c .before in
+    let t = b .before .before in
+    let k = at-start t .args .kind in
+    let i = t .before .loop .i in
+    let bit = messageBit (at-start t .args .message .now) in
+    let n = b .before .dimension-of .result in
+    let value : ℕ → ℕ → ℕ → ℕ = λ r f p. codeword r k (λ j. bit (f + j)) p in
+    let same : (p : ℕ) → codeword (getD (at-row t .row .result .degrees) i 0) k (λ j. b .bits-at .result / 2 ^ j % 2) p ≡ levelValue k bit i p =
+    λ p.
+    codeword-cong _ k _ _
+    (λ j l. ap (λ (x : ℕ). x % 2) (digit-of (b .bits-at .ensures) (λ j l. own-small b j) j (omega (arith, l, b .before .dimension-of .ensures)))) p
+    ∙ ap₂ (λ (r f : ℕ). value r f p) (turn t .degree) (t .before .loop .inv .1) in
+    c .codeword-held .ensures ∙ number-ext (2 ^ k) (λ p l. same p)
 
-degree-requires-2 : tie.Need-degree-requires-2
-degree-requires-2 c κs =
-    let s = c .before .before .before .before .before .before .before .before in
-    (s .pre .0, omega (arith, two (c .before)))
+loop-again : tie.Need-loop-again Inv-loop μ-loop
+loop-again c =
+    let t = c .before .before .before in
+    let k = at-start t .args .kind in
+    let i = t .before .loop .i in
+    let bit = at-start t .args .message .now in (
+      omega (arith, turn t .inside),
+      omega (arith, t .before .loop .inv .1, level-end k i (turn t .inside), c .before .before .dimension-of .ensures, ap (λ (r : ℕ). dimension r k) (turn t .degree)),
+      ap₂ (λ (ws : List ℕ) (w : ℕ). set ws i w) (t .before .loop .inv .2) (word-is c) ∙ filled-more 3 (held k bit) i (turn t .three),
+    )
 
-codeword-held-requires-2 : tie.Need-codeword-held-requires-2
-codeword-held-requires-2 c κs =
-    let s = c .before .before .before .before .before .before .before .before .before in
-    let z = size (s .args .kind) (s .pre .0) in
-    ((z .low, z .high), fits (s .args .kind) 1 (c .degree2 .result) (s .pre .0) (omega (arith, two (c .before .before))) (c .degree2 .ensures))
-
-returns-2 : tie.Need-returns-2
-unfolding levels-of
-returns-2 c p s h =
-    let d = c .before .before in
-    let l = d .before .before .before in
-    let b = l .before .before in
-    let a = b .before .before .before in
-    let k = a .args .kind in
-    two-levels k (degrees k) (two (d .before)) (messageBit (a .args .message .now)) (b .bits-at .result) (held b) (l .codeword-held .result) (c .codeword-held2 .result) p s (low-is l p h)
-    (c .codeword-held2 .ensures p h
-    ∙ ap₂ (λ (r n : ℕ). codeword r k (λ t. b .bits-at .result / 2 ^ n / 2 ^ t % 2) p) (c .before .degree2 .ensures) (d .dimension-of .ensures ∙ ap (λ (r : ℕ). dimension r k) (l .before .degree .ensures)))
+returns : tie.Need-returns Inv-loop μ-loop
+unfolding codewordsOf
+returns c =
+    let a = c .before in
+    let s = a .before .before .before .before in
+    let e : a .loop .i ≡ levels-of (s .args .kind) = omega (arith, entry-levels (s .args .kind) (a .before .before .row .result) (a .before .before .row .ensures), a .loop .inv .0) in
+    a .loop .inv .2 ∙ ap (filled 3 (held (s .args .kind) (s .args .message .now))) e
 
 pub codewords-spec : {M : Type 1} → statement M
 codewords-spec =
     tie.close
     (tie.spec
-    level-bits-requires
-    bits-at-requires
-    degree-requires
-    codeword-held-requires
-    levels-requires
-    returns
+    Inv-loop
+    μ-loop
+    row-requires
+    loop-holds
+    mul-r
+    array-read-r
     dimension-of-requires
-    shr-codeword-held
-    degree-requires-2
-    codeword-held-requires-2
-    returns-2)
+    bits-at-requires
+    codeword-held-requires
+    mul-words
+    array-write-words
+    add-from
+    add-i
+    loop-less
+    loop-again
+    returns)

@@ -2,8 +2,8 @@
 use mathlib.Core.Path.{_≡_, sym, _∙_}
 use mathlib.Core.Bool.{true}
 use lib.ListN.{length}
-use Rattle.frames.specs.Kind.{isKind, messageBytes}
-use Rattle.frames.specs.Sending.{isGrade, sendRefusal}
+use Rattle.frames.specs.Kind.{isKind, isGrade, messageBytes}
+use Rattle.frames.specs.Sending.{sendRefusal}
 use Rattle.frames.proofs.Rows.{grade-high}
 use Rattle.frames.proofs.Refusals.{good-row, wrong-row}
 use Rattle.sending.proofs.Answers.{other-bytes, other-length, spare-bit, accepts}

@@ -4,8 +4,7 @@ use mathlib.Core.Path.{ap₂, _∙_}
 use native.Mathlib.Omega.{arith}
 use Rattle.bits.specs.Message.{messageBit}
 use Rattle.frames.specs.Sending.{anySet, spareSet}
-use Rattle.frames.proofs.Rows.{bytes-hold}
-use Rattle.kind_table.proofs.Each.{message-small}
+use Rattle.frames.proofs.Limits.{bytes-hold, few-message-bits}
 use Rattle.sending.proofs.Answers.{bytes-high}
 use borrow.Author.Needs.{needs}
 use Rattle.sending.proofs.refusal.spare_set.Statement.{statement}
@@ -17,17 +16,17 @@ message-bits-requires c κs = search needs
 mul-count : tie.Need-mul-count
 mul-count c =
     let s = c .before .before in
-    omega (arith, s .pre .2, bytes-hold (s .args .kind) (s .args .grade), bytes-high (s .args .kind) (s .args .grade), message-small (s .args .kind) (s .args .grade) (s .pre .0) (s .pre .1), c .message-bits .ensures)
+    omega (arith, s .pre .2, bytes-hold (s .args .kind) (s .args .grade), bytes-high (s .args .kind) (s .args .grade), few-message-bits (s .args .kind) (s .args .grade) (s .pre .0) (s .pre .1), c .message-bits .ensures)
 
 sub-count : tie.Need-sub-count
 sub-count c =
     let s = c .before .before in
-    omega (arith, s .pre .2, bytes-hold (s .args .kind) (s .args .grade), bytes-high (s .args .kind) (s .args .grade), message-small (s .args .kind) (s .args .grade) (s .pre .0) (s .pre .1), c .message-bits .ensures)
+    omega (arith, s .pre .2, bytes-hold (s .args .kind) (s .args .grade), bytes-high (s .args .kind) (s .args .grade), few-message-bits (s .args .kind) (s .args .grade) (s .pre .0) (s .pre .1), c .message-bits .ensures)
 
 any-set-requires : tie.Need-any-set-requires
 any-set-requires c κs =
     let s = c .before .before in
-    (omega (arith, s .pre .2, bytes-hold (s .args .kind) (s .args .grade), bytes-high (s .args .kind) (s .args .grade), message-small (s .args .kind) (s .args .grade) (s .pre .0) (s .pre .1), c .message-bits .ensures), omega (arith, s .pre .2, bytes-hold (s .args .kind) (s .args .grade), bytes-high (s .args .kind) (s .args .grade), message-small (s .args .kind) (s .args .grade) (s .pre .0) (s .pre .1), c .message-bits .ensures))
+    (omega (arith, s .pre .2, bytes-hold (s .args .kind) (s .args .grade), bytes-high (s .args .kind) (s .args .grade), few-message-bits (s .args .kind) (s .args .grade) (s .pre .0) (s .pre .1), c .message-bits .ensures), omega (arith, s .pre .2, bytes-hold (s .args .kind) (s .args .grade), bytes-high (s .args .kind) (s .args .grade), few-message-bits (s .args .kind) (s .args .grade) (s .pre .0) (s .pre .1), c .message-bits .ensures))
 
 returns : tie.Need-returns
 unfolding spareSet

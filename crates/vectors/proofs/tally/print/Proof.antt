@@ -8,7 +8,7 @@ abbrev Inv-loop : tie.InvT-loop
 Inv-loop tally check₀ t3 t4 check = Unit {0}
 
 abbrev μ-loop : tie.MeasureT-loop
-μ-loop tally check₀ t3 t4 check = 10 - check
+μ-loop tally check₀ t3 t4 check = 9 - check
 
 loop-holds : tie.Need-loop-holds Inv-loop μ-loop
 loop-holds c = search needs

@@ -1,0 +1,196 @@
+// A record of the data: the call, what it is lent, and what it has to answer and to leave (tools/second-coder/README.md).
+use super::exported;
+use super::float;
+use super::library;
+use super::tally;
+use super::tally::judge;
+use account::Account;
+use account::Counted;
+use fields::fill;
+use fields::number;
+use fields::size;
+
+// A call: the number of its function, and how many bytes and coordinates of what is there are lent.
+struct Call {
+    function: usize,
+    kind: u8,
+    grade: u8,
+    bytes: usize,
+    coordinates: usize,
+}
+
+fn count_of(x: u64) -> u32 {
+    if x < 4294967296 {
+        return x as u32;
+    }
+    0
+}
+
+fn account_of(count: u64, sum: u64) -> Account {
+    Account {
+        count: count_of(count),
+        sum: float::of_bits(sum),
+    }
+}
+
+fn same_account(a: Account, b: Account) -> bool {
+    if a.count != b.count {
+        return false;
+    }
+    float::bits_of(a.sum) == float::bits_of(b.sum)
+}
+
+fn same_answer(a: Counted, b: Counted) -> bool {
+    if a.number != b.number {
+        return false;
+    }
+    if a.energy != b.energy {
+        return false;
+    }
+    same_account(a.account, b.account)
+}
+
+// Makes the call, of the library or of an exported function.
+fn make(
+    outside: bool,
+    c: Call,
+    message: &mut [u8],
+    frame: &mut [i32],
+    account: Account,
+) -> Counted {
+    let m = c.bytes;
+    let n = c.coordinates;
+    if message.len() < m {
+        return library::answer(255, 0, account);
+    }
+    if frame.len() < n {
+        return library::answer(255, 0, account);
+    }
+    if outside {
+        return exported::call(
+            c.function,
+            c.kind,
+            c.grade,
+            &mut message[0..m],
+            &mut frame[0..n],
+            account,
+        );
+    }
+    library::call(
+        c.function,
+        c.kind,
+        c.grade,
+        &mut message[0..m],
+        &mut frame[0..n],
+        account,
+    )
+}
+
+// What a call is lent: bytes and coordinates, and more beyond those that are lent.
+struct Lent {
+    message: [u8; 24],
+    frame: [i32; 36],
+}
+
+// Whether the call gives the answer, and leaves the message and the frame as it has to.
+fn holds(
+    outside: bool,
+    c: Call,
+    lent: Lent,
+    account: Account,
+    answer: Counted,
+    left_message: &[u8],
+    left_frame: &[i32],
+) -> bool {
+    let mut message = lent.message;
+    let mut frame = lent.frame;
+    let r = make(outside, c, &mut message, &mut frame, account);
+    if !same_answer(r, answer) {
+        return false;
+    }
+    if !fields::same_bytes(&message, left_message) {
+        return false;
+    }
+    fields::same_coordinates(&frame, left_frame)
+}
+
+// A record that is cut short is a difference, and the last one taken.
+fn cut(v: u64, tally: &mut [u64; 7]) -> bool {
+    judge(tally, v, tally::DIFFERENT, false);
+    false
+}
+
+// Takes record v from its message on.
+fn take_rest(
+    fd: i32,
+    v: u64,
+    c: Call,
+    account: Account,
+    refusal: u8,
+    tally: &mut [u64; 7],
+) -> bool {
+    let mut message = [0u8; 24];
+    let mut bytes = [0u8; 144];
+    let mut frame = [0i32; 36];
+    if !fill(fd, 24, &mut message) {
+        return cut(v, tally);
+    }
+    if !fill(fd, 144, &mut bytes) {
+        return cut(v, tally);
+    }
+    fields::coordinates(&bytes, &mut frame);
+    let lent = Lent { message, frame };
+    let mut numbers = [0u8; 20];
+    if !fill(fd, 20, &mut numbers) {
+        return cut(v, tally);
+    }
+    let answer = Counted {
+        number: refusal,
+        energy: number(&numbers[0..8]),
+        account: account_of(number(&numbers[8..12]), number(&numbers[12..20])),
+    };
+    if !fill(fd, 24, &mut message) {
+        return cut(v, tally);
+    }
+    if !fill(fd, 144, &mut bytes) {
+        return cut(v, tally);
+    }
+    fields::coordinates(&bytes, &mut frame);
+    judge(
+        tally,
+        v,
+        c.function,
+        holds(false, c, lent, account, answer, &message, &frame),
+    );
+    if c.function != tally::BEGIN {
+        judge(
+            tally,
+            v,
+            tally::EXPORTED,
+            holds(true, c, lent, account, answer, &message, &frame),
+        );
+    }
+    true
+}
+
+// Takes record v, and answers whether there was one.
+pub fn take(fd: i32, v: u64, tally: &mut [u64; 7]) -> bool {
+    let mut head = [0u8; 20];
+    let got = io::read_full(fd, &mut head);
+    if got == 0 {
+        return false;
+    }
+    if got < 20 {
+        return cut(v, tally);
+    }
+    let c = Call {
+        function: size(head[0]),
+        kind: head[1],
+        grade: head[2],
+        bytes: size(head[3]),
+        coordinates: size(head[4]),
+    };
+    let refusal = head[5];
+    let account = account_of(number(&head[8..12]), number(&head[12..20]));
+    take_rest(fd, v, c, account, refusal, tally)
+}

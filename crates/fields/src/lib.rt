@@ -1,0 +1,96 @@
+// Fields of the data files that the test programs read, and what they print. Numbers stand lowest byte first.
+use libc::STDOUT_FILENO;
+ghost use Prim.Native.Nat.{_≤_};
+
+fn wide(b: u8) -> u64 {
+    b as u64
+}
+
+pub fn size(b: u8) -> usize
+    ensures { λ r. ⌜ r ≤ 255 ⌝ }
+{
+    b as usize
+}
+
+// The number that the bytes hold.
+pub fn number(bytes: &[u8]) -> u64 {
+    let mut x: u64 = 0;
+    let mut i = bytes.len();
+    while 0 < i {
+        i -= 1;
+        x = (x << 8) | wide(bytes[i]);
+    }
+    x
+}
+
+// The i32 that 4 bytes hold.
+fn signed(x: u64) -> i32 {
+    if x < 2147483648 {
+        return x as i32;
+    }
+    if x < 4294967296 {
+        return -1 - (4294967295 - x) as i32;
+    }
+    0
+}
+
+// The coordinates that the bytes hold, of 4 bytes each, as many as there are and have room.
+pub fn coordinates(bytes: &[u8], frame: &mut [i32]) {
+    let mut a: usize = 0;
+    let mut p: usize = 0;
+    while p < frame.len() {
+        if bytes.len() - a < 4 {
+            return;
+        }
+        let e = a + 4;
+        frame[p] = signed(number(&bytes[a..e]));
+        a = e;
+        p += 1;
+    }
+}
+
+// Fills the first n bytes, where there is room for them, and answers whether the file has as many.
+pub fn fill(fd: i32, n: usize, out: &mut [u8]) -> bool {
+    if out.len() < n {
+        return false;
+    }
+    io::read_full(fd, &mut out[0..n]) == n
+}
+
+pub fn same_bytes(x: &[u8], y: &[u8]) -> bool {
+    if x.len() != y.len() {
+        return false;
+    }
+    let mut i: usize = 0;
+    while i < y.len() {
+        if x[i] != y[i] {
+            return false;
+        }
+        i += 1;
+    }
+    true
+}
+
+pub fn same_coordinates(x: &[i32], y: &[i32]) -> bool {
+    if x.len() != y.len() {
+        return false;
+    }
+    let mut p: usize = 0;
+    while p < y.len() {
+        let a = x[p];
+        let b = y[p];
+        if a != b {
+            return false;
+        }
+        p += 1;
+    }
+    true
+}
+
+pub fn write(text: &[u8]) {
+    io::write_all(STDOUT_FILENO, text);
+}
+
+pub fn write_number(n: u64) {
+    io::print_decimal(STDOUT_FILENO, n);
+}
