@@ -6,7 +6,7 @@ ghost use lib.Dec.{leb};
 ghost use lib.IntN.{pos, natAbs, _-ℤ_};
 ghost use lib.ListN.{length};
 ghost use Rattle.integers.specs.Integer.{modZ};
-ghost use Rattle.e8.specs.Energy.{sq, energy as squares, Within, isWithin};
+ghost use Rattle.e8.specs.Energy.{sq, energy, Within, isWithin};
 
 // The size of a coordinate.
 pub fn magnitude(z: i32) -> i32
@@ -19,7 +19,7 @@ pub fn magnitude(z: i32) -> i32
 // The energy of a block or of a whole frame.
 pub fn energy(part: &[i32]) -> u64
     requires { ⌜ (length (now part) ≤ 1024) × Within (2 ^ 24) (now part) ⌝ }
-    ensures { λ r. ⌜ r ≡ squares (now (part .entry)) ⌝ }
+    ensures { λ r. ⌜ r ≡ energy (now (part .entry)) ⌝ }
 {
     let mut sum: u64 = 0;
     let mut i: usize = 0;
@@ -73,7 +73,7 @@ fn square(z: i32) -> u32
 // The energy of a sent block, a part of the lent coordinates.
 pub fn block_energy(part: &[i32]) -> u64
     requires { ⌜ (length (now part) ≡ 8) × Within (2 ^ 10) (now part) ⌝ }
-    ensures { λ r. ⌜ r ≡ squares (now (part .entry)) ⌝ }
+    ensures { λ r. ⌜ r ≡ energy (now (part .entry)) ⌝ }
 {
     let mut sum: u32 = 0;
     let mut n: usize = 0;

@@ -2,7 +2,7 @@
 use mathlib.Core.Path.{_≡_, refl, sym, _∙_, ap, subst, subst₂}
 use mathlib.Core.Logic.{inl, inr}
 use mathlib.Core.List.{List, [], _∷_, _++_, append-nil, append-assoc}
-use Prim.Native.Nat.{ℕ, zero, suc, _+_, _*_, _<_}
+use Prim.Native.Nat.{ℕ, zero, suc, _+_, _*_, _-_, _<_}
 use native.Mathlib.Omega.{arith}
 use lib.ListN.{length, take, drop, length-take, length-drop, length-append, take-append-drop}
 use lib.Seq.{drop-drop, take-at, drop-at}
@@ -34,6 +34,10 @@ differ-trans H n xs ys zs d e = record {
 
 part-next : (i : ℕ) (xs : List ℤ) → part i (drop 8 xs) ≡ part (suc i) xs
 part-next i xs = ap (take 8) (drop-drop (8 * i) 8 xs ∙ ap (λ (m : ℕ). drop m xs) {x = 8 + 8 * i} {y = 8 * suc i} (omega arith))
+
+-- block i as the part from 8i to 8i + 8, which is how code hands it on
+pub part-is : (i : ℕ) (xs : List ℤ) → take (8 * i + 8 - 8 * i) (drop (8 * i) xs) ≡ part i xs
+part-is i xs = let e : 8 * i + 8 - 8 * i ≡ 8 = omega arith in ap (λ (m : ℕ). take m (drop (8 * i) xs)) e
 
 module _ (H n : ℕ) (xs zs : List ℤ) where
   differ-first : Differ H (suc n) xs zs → InBlock H (take 8 xs) (take 8 zs)

@@ -1,4 +1,4 @@
--- The reduction that is computed is the reduction by the rows of matrix (39), as they stand and in their order; and what it takes off is a combination of them
+-- The reduction that is computed is the reduction by the rows of matrix (39), as they stand and in their order
 use mathlib.Core.Path.{_≡_, refl, sym, _∙_, ap}
 use mathlib.Core.List.{List, [], _∷_}
 use Prim.Native.Nat.{ℕ, suc, _*_, _<_}

@@ -5,13 +5,13 @@ ghost use Prim.Native.Nat.{_^_, _≤_};
 ghost use lib.IntN.{pos, natAbs};
 ghost use lib.ListN.{drop, getD};
 ghost use Rattle.e8.specs.Energy.{Within};
-ghost use Rattle.e8.specs.Least.{lowered as less};
+ghost use Rattle.e8.specs.Least.{lowered};
 ghost use Rattle.e8.specs.Rows.{ints, remainders, reduced};
 
 // A block, h less at each coordinate.
 fn lowered(h: i32, x: [i32; 8]) -> [i32; 8]
     requires { ⌜ (natAbs h ≤ 2 ^ 25) × Within (2 ^ 24) x ⌝ }
-    ensures { λ r. ⌜ r ≡ less h x ⌝ }
+    ensures { λ r. ⌜ r ≡ lowered h x ⌝ }
 {
     let mut r = x;
     let mut i: usize = 0;

@@ -79,7 +79,7 @@ fn whole_first(e: i32, c: i32, f: i32, d: i32) -> bool
 }
 
 // A block with every coordinate rounded, and what is to be known of it to choose the one to change, in the whole part and in the half part.
-struct Quantized {
+struct RoundedBlock {
     block: [i32; 8],
     sum: i32,
     halves: i32,
@@ -90,7 +90,7 @@ struct Quantized {
 
 // Every coordinate rounded to the nearest to 0 of its class modulo M, for h = 2^k and M = 2h; of h and -h the latter. No rank passes 1039, 16 times the
 // largest h and 15, so the lowest begins there.
-fn quantize(k: u32, h: i32, x: [i32; 8]) -> Quantized
+fn round(k: u32, h: i32, x: [i32; 8]) -> RoundedBlock
     requires { ⌜ (k ≤ 6) × (h ≡ pos (2 ^ k)) × Within (2 ^ 24) x ⌝ }
     ensures { λ r. ⌜ Rounded (2 ^ k) x (r .block) (r .sum) (r .halves) (r .sizes) (r .top) (r .low) 0 ⌝ }
 {
@@ -114,7 +114,7 @@ fn quantize(k: u32, h: i32, x: [i32; 8]) -> Quantized
         top = larger(top, t);
         low = smaller(low, t);
     }
-    Quantized {
+    RoundedBlock {
         block: r,
         sum,
         halves,
@@ -172,7 +172,7 @@ pub fn least(k: u32, x: [i32; 8]) -> [i32; 8]
     ensures { λ r. ⌜ r ≡ leastBlock (2 ^ k) x ⌝ }
 {
     let h = coordinates::power(k);
-    let q = quantize(k, h, x);
+    let q = round(k, h, x);
     let odd = coordinates::remainder(k + 2, q.sum);
     let half_odd = coordinates::remainder(k + 2, q.halves);
     let at = h - half_odd;

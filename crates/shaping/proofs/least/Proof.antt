@@ -21,7 +21,7 @@ use Rattle.coordinates.proofs.Size.{fits, abs! }
 use Rattle.coordinates.proofs.Rest.{quadruple, Scale, scale}
 use Rattle.coordinates.proofs.Reading.{read, plain, plain-size, power-read, power-size}
 use Rattle.shaping.specs.Rounded.{wholeFirst, memberOf, members, sizes, highest, lowest, Rounded}
-use Rattle.shaping.specs.declared.Quantized.{Quantized}
+use Rattle.shaping.specs.declared.RoundedBlock.{RoundedBlock}
 use Rattle.shaping.proofs.Halving.{left, wholeCost, halfCost, wholePart, halfPart, wholeHead, halfHead, Two, two}
 use Rattle.shaping.proofs.Figures.{off-size, floors-size, sizes-low, rounded-within}
 use Rattle.shaping.proofs.least.Statement.{statement}
@@ -29,13 +29,13 @@ use Rattle.shaping.proofs.least.Tie as tie
 
 -- ---- the rounded block and its figures
 
-abbrev wholeRemainder : ℕ → Quantized → ℤ
+abbrev wholeRemainder : ℕ → RoundedBlock → ℤ
 wholeRemainder k q = pos (modZ (q .sum) (2 ^ (k + 2)))
 
-abbrev halfRemainder : ℕ → Quantized → ℤ
+abbrev halfRemainder : ℕ → RoundedBlock → ℤ
 halfRemainder k q = pos (modZ (q .halves) (2 ^ (k + 2)))
 
-record Known (k : ℕ) (x : List ℤ) (q : Quantized) : Type 0 where
+record Known (k : ℕ) (x : List ℤ) (q : RoundedBlock) : Type 0 where
   -- the figures are small
   sum-size : natAbs (q .sum) ≤ 2 ^ 28
   halves-size : natAbs (q .halves) ≤ 2 ^ 28
@@ -63,7 +63,7 @@ added : (odd : Bool) (M y : ℕ) (z : ℤ) → 0 < M → z ≡ pos y → cond (l
 added false M y z m e = ap (λ (n : ℕ). cond (ltZ (pos 0) (pos n)) z (pos 0)) {x = 0 * M} {y = 0} (omega arith) ∙ ap pos {x = 0} {y = 0 * y} (omega arith)
 added true M y z m e = ap (λ t. cond t z (pos 0)) (lt-ltb 0 (1 * M) (omega arith)) ∙ e ∙ ap pos {x = y} {y = 1 * y} (omega arith)
 
-module _ (k : ℕ) (x : List ℤ) (q : Quantized) (low : k ≤ 6) (w : Within (2 ^ 24) x) (eight : length x ≡ 8)
+module _ (k : ℕ) (x : List ℤ) (q : RoundedBlock) (low : k ≤ 6) (w : Within (2 ^ 24) x) (eight : length x ≡ 8)
     (r : Rounded (2 ^ k) x (q .block) (q .sum) (q .halves) (q .sizes) (q .top) (q .low) 0) where
   abbrev H : ℕ
   H = 2 ^ k
@@ -121,20 +121,20 @@ module _ (k : ℕ) (x : List ℤ) (q : Quantized) (low : k ≤ 6) (w : Within (2
             (eq! (# 2 ⊗ # bottom) (# (2 * bottom)) (omega arith)));
       }
 
--- ---- the facts after `quantize`
+-- ---- the facts after `round`
 
-module _ (c : tie.After-quantize) where
+module _ (c : tie.After-round) where
   abbrev start : tie.Start
   start = c .before .before
 
-  abbrev q : Quantized
-  q = c .quantize .result
+  abbrev q : RoundedBlock
+  q = c .round .result
 
   long : length (start .args .x) ≡ 8
   long = search needs
 
   f : Known (start .args .k) (start .args .x) q
-  f = known (start .args .k) (start .args .x) q (start .pre .0) (start .pre .1) long (c .quantize .ensures)
+  f = known (start .args .k) (start .args .x) q (start .pre .0) (start .pre .1) long (c .round .ensures)
 
   abbrev height : ℤ
   height = read (c .before .power .result)
@@ -185,7 +185,7 @@ module _ (c : tie.After-remainder2) where
   abbrev at-remainder : tie.After-remainder
   at-remainder = c .before .before
 
-  abbrev z : tie.After-quantize
+  abbrev z : tie.After-round
   z = at-remainder .before .before
 
   abbrev known-here : Known (start z .args .k) (start z .args .x) (q z)
@@ -292,8 +292,8 @@ half-head c =
 power-requires : tie.Need-power-requires
 power-requires c κs = search needs
 
-quantize-requires : tie.Need-quantize-requires
-quantize-requires c κs = let s = c .before in (s .pre .0, power-read (s .args .k) (c .power .result) (s .pre .0) (c .power .ensures), s .pre .1)
+round-requires : tie.Need-round-requires
+round-requires c κs = let s = c .before in (s .pre .0, power-read (s .args .k) (c .power .result) (s .pre .0) (c .power .ensures), s .pre .1)
 
 add-remainder : tie.Need-add-remainder
 add-remainder c = search needs
@@ -362,7 +362,7 @@ least-spec =
     tie.close
     (tie.spec
     power-requires
-    quantize-requires
+    round-requires
     add-remainder
     remainder-requires
     add-remainder-2

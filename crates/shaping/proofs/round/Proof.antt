@@ -1,4 +1,4 @@
--- `quantize` meets its contract. The loop goes from the last coordinate to the first: after it came to place i, the places from i on are rounded, and the
+-- `round` meets its contract. The loop goes from the last coordinate to the first: after it came to place i, the places from i on are rounded, and the
 -- figures are those of the coordinates from i on (`Rounded`), as `off`, `floors`, `sizes`, `highest` and `lowest` take one coordinate more in front.
 -- A turn: f is the multiple of M at v + H or next below, v − f is `cent H v`. H = 2^k and M = 2·H
 use mathlib.Core.Path.{_≡_, refl, sym, _∙_, ap, ap₂, subst}
@@ -22,8 +22,8 @@ use Rattle.coordinates.proofs.Rest.{double, Scale, scale}
 use Rattle.coordinates.proofs.Reading.{read, power-read, plain}
 use Rattle.shaping.proofs.Figures.{rounded-turn, off-floor, back, cent-low, off-one, floor-one, off-size, floors-size, sizes-low}
 use Rattle.shaping.specs.Rounded.{rankOf, sizes, Rounded}
-use Rattle.shaping.proofs.quantize.Statement.{statement}
-use Rattle.shaping.proofs.quantize.Tie as tie
+use Rattle.shaping.proofs.round.Statement.{statement}
+use Rattle.shaping.proofs.round.Tie as tie
 
 abbrev Inv-loop : tie.InvT-loop
 Inv-loop k h x r₀ sum₀ halves₀ sizes₀ top₀ low₀ i₀ r sum halves sizes top low i =
@@ -305,8 +305,8 @@ returns c =
     subst (λ (j : ℕ). Rounded (H (l .before)) (drop j (block (l .before))) (drop j (l .loop .r)) (sum l) (halves l) (total l) (top l) (low l) j)
     {x = l .loop .i} {y = 0} (omega (arith, c .loop-test .left)) (so-far l)
 
-pub quantize-spec : {M : Type 1} → statement M
-quantize-spec =
+pub round-spec : {M : Type 1} → statement M
+round-spec =
     tie.close
     (tie.spec
     Inv-loop
