@@ -6,7 +6,7 @@ use mathlib.Core.List.{List, [], _∷_, _++_}
 use native.Mathlib.Nat.{mod-lt, pow-suc, div-add-mod', mul-le-mul-right}
 use native.Mathlib.Decide.{decLt}
 use native.Mathlib.Omega.{arith}
-use lib.ListN.{length, getD, take, drop, length-take, length-drop}
+use lib.ListN.{length, getD, length-take, length-drop}
 use lib.Seq.{getD-take, getD-drop, ext-getD}
 use lib.Pow.{pow-pos}
 use lib.IntN.{ℤ, pos, _+ℤ_, _-ℤ_, _*ℤ_}
@@ -131,10 +131,6 @@ ints-at (s ∷ l) zero = refl
 ints-at (s ∷ l) (suc p) = ints-at l p
 
 -- ---- blocks
-
--- the part 8j to 8j + 8 of a frame, as code hands it on, is block j
-pub part-is : (j : ℕ) (f : List ℤ) → take (8 * j + 8 - 8 * j) (drop (8 * j) f) ≡ part j f
-part-is j f = let e : 8 * j + 8 - 8 * j ≡ 8 = omega arith in ap (λ (m : ℕ). take m (drop (8 * j) f)) e
 
 module _ (f : List ℤ) (n i : ℕ) (long : length f ≡ 8 * n) (h : i < n) where
   pub part-length : length (part i f) ≡ 8

@@ -11,7 +11,8 @@ use Rattle.e8.specs.Energy.{energy as energy-of, Within}
 use Rattle.e8.specs.Lattice.{part}
 use Rattle.e8.proofs.Order.{energy-append}
 use Rattle.e8.proofs.Within.{energy-within, within-part}
-use Rattle.frames.proofs.Frame.{part-is, part-length}
+use Rattle.e8.proofs.Frame.{part-is}
+use Rattle.frames.proofs.Frame.{part-length}
 use Rattle.reading.proofs.frame_energy.Statement.{statement}
 use Rattle.reading.proofs.frame_energy.Tie as tie
 

@@ -10,8 +10,9 @@ use borrow.Author.Needs.{needs}
 use Rattle.bits.specs.Number.{sumTo, number}
 use Rattle.bits.proofs.Message.{number-lt, number-ext}
 use Rattle.e8.specs.Lattice.{part}
+use Rattle.e8.proofs.Frame.{part-is}
 use Rattle.frames.specs.Frame.{weightBit, levelWord}
-use Rattle.frames.proofs.Frame.{part-is, part-length, part-at}
+use Rattle.frames.proofs.Frame.{part-length, part-at}
 use Rattle.reading.proofs.Joined.{number-from}
 use Rattle.reading.proofs.Words.{weight-bit-small}
 use Rattle.reading.proofs.level.level_word.Statement.{statement}

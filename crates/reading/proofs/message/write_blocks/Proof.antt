@@ -13,10 +13,11 @@ use Rattle.e8.specs.Energy.{Within}
 use Rattle.e8.specs.Lattice.{part}
 use Rattle.e8.specs.Rows.{ints, reduced}
 use Rattle.e8.proofs.Within.{within-part}
+use Rattle.e8.proofs.Frame.{part-is}
 use Rattle.frames.specs.Kind.{levels, blocks, levelBits, messageBits}
 use Rattle.frames.specs.Message.{widths}
 use Rattle.frames.specs.Reading.{quotients, allDigits, blockMessages}
-use Rattle.frames.proofs.Frame.{ints-at, quotients-length, part-is, part-length}
+use Rattle.frames.proofs.Frame.{ints-at, quotients-length, part-length}
 use Rattle.frames.proofs.Limits.{Piece, in-bytes, block-piece, few-levels, few-message-bits, whole-blocks}
 use Rattle.reading.specs.Written.{written}
 use Rattle.reading.proofs.Joined.{sizes-ints}

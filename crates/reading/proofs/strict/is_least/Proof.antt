@@ -12,8 +12,9 @@ use Rattle.e8.specs.Energy.{Within}
 use Rattle.e8.specs.Lattice.{part}
 use Rattle.e8.specs.Least.{leastBlock, leastFrame}
 use Rattle.e8.proofs.Within.{within-part}
+use Rattle.e8.proofs.Frame.{part-is}
 use Rattle.frames.specs.Reading.{sameFrame}
-use Rattle.frames.proofs.Frame.{part-is, part-length}
+use Rattle.frames.proofs.Frame.{part-length}
 use Rattle.reading.proofs.Same.{leastFrom, least-first, not-least, least-here, least-all}
 use Rattle.reading.proofs.strict.is_least.Statement.{statement}
 use Rattle.reading.proofs.strict.is_least.Tie as tie
