@@ -20,7 +20,7 @@ fn refused(number: u8) -> Tested
     ensures words { λ t. ⌜ t .words ≡ noWords ⌝ }
 {
     Tested {
-        number: number,
+        number,
         words: [0u64; 3],
     }
 }
@@ -69,7 +69,7 @@ fn open_tests(kind: u8, grade: u8, frame: &[i32], n: usize) -> Tested
     }
     Tested {
         number: broken,
-        words: words,
+        words,
     }
 }
 
@@ -81,7 +81,7 @@ pub fn tests(strict: bool, kind: u8, grade: u8, frame: &[i32], n: usize) -> Test
     let t = open_tests(kind, grade, frame, n);
     let number = t.number;
     if number != 0 {
-        return refused(number);
+        return t;
     }
     if !strict {
         return t;

@@ -74,18 +74,11 @@ number c =
 open-tests-requires : tie.Need-open-tests-requires
 open-tests-requires c κs = search needs
 
-refused-requires : tie.Need-refused-requires
-refused-requires c κs = search needs
-
 returns : tie.Need-returns
 returns c =
-    let t = c .before in
-    let o = t .before .open-tests in
-    let s = t .before .before .args in
-    let e = c .refused .ensures in (
-      e .0 ∙ o .ensures .0 ∙ as-open (s .kind) (s .grade) (s .frame .now) (s .n) (s .strict) (λ z. t .if1 .taken (o .ensures .0 ∙ z)),
-      e .1 ∙ words-none (c .refused .result .number) (s .kind) (s .frame .now) (λ z. t .if1 .taken (sym (e .0) ∙ z)),
-    )
+    let o = c .before .open-tests .ensures in
+    let s = c .before .before .args in
+    (o .0 ∙ as-open (s .kind) (s .grade) (s .frame .now) (s .n) (s .strict) (λ z. c .if1 .taken (o .0 ∙ z)), o .1)
 
 returns-2 : tie.Need-returns-2
 returns-2 c =
@@ -118,16 +111,16 @@ returns-3 c =
     let o = called d .open-tests .ensures in
     (o .0 ∙ none d ∙ sym (number (c .before) ∙ ap (λ (t : Bool). unless t 9 0) (c .if3 .taken)), o .1)
 
-refused-requires-2 : tie.Need-refused-requires-2
-refused-requires-2 c κs = search needs
+refused-requires : tie.Need-refused-requires
+refused-requires c κs = search needs
 
 returns-4 : tie.Need-returns-4
 returns-4 c =
     let t = c .before in
     let s = start (t .before .before .before .before) .args in
-    let e = c .refused2 .ensures in (
+    let e = c .refused .ensures in (
       e .0 ∙ sym (number (t .before) ∙ ap (λ (t : Bool). unless t 9 0) (t .if3 .left)),
-      e .1 ∙ words-none (c .refused2 .result .number) (s .kind) (s .frame .now) (λ z. omega (arith, e .0, z)),
+      e .1 ∙ words-none (c .refused .result .number) (s .kind) (s .frame .now) (λ z. omega (arith, e .0, z)),
     )
 
 pub tests-spec : {M : Type 1} → statement M
@@ -135,7 +128,6 @@ tests-spec =
     tie.close
     (tie.spec
     open-tests-requires
-    refused-requires
     returns
     returns-2
     levels-requires
@@ -143,6 +135,6 @@ tests-spec =
     sub-k
     cast-is-least
     is-least-requires
-    refused-requires-2
+    refused-requires
     returns-3
     returns-4)
