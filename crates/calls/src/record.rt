@@ -147,12 +147,6 @@ fn take_answer(fd: i32, refusal: u8) -> Counted {
     }
 }
 
-// A record that is cut short is a difference, and the last one taken.
-fn cut(v: u64, tally: &mut [u64; 7]) -> bool {
-    judge(tally, v, tally::DIFFERENT, false);
-    false
-}
-
 // Takes record v from its message on, and makes its call.
 fn take_rest(
     fd: i32,
@@ -166,7 +160,8 @@ fn take_rest(
     let answer = take_answer(fd, refusal);
     let left = take_lent(fd);
     if !left.whole {
-        return cut(v, tally);
+        tally::file_differs(tally);
+        return false;
     }
     judge(
         tally,
@@ -185,7 +180,7 @@ fn take_rest(
     true
 }
 
-// Takes record v, and answers whether there was one.
+// Takes record v, and answers whether there was one. One that is cut short is a difference, and the last one taken.
 pub fn take(fd: i32, v: u64, tally: &mut [u64; 7]) -> bool {
     let mut head = [0u8; 20];
     let got = io::read_full(fd, &mut head);
@@ -193,7 +188,8 @@ pub fn take(fd: i32, v: u64, tally: &mut [u64; 7]) -> bool {
         return false;
     }
     if got < 20 {
-        return cut(v, tally);
+        tally::file_differs(tally);
+        return false;
     }
     let c = Call {
         function: size(head[0]),
