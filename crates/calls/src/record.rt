@@ -86,21 +86,31 @@ fn make(
     )
 }
 
-// What a call is lent: bytes and coordinates, and more beyond those that are lent.
+// What a call is lent or leaves: bytes and coordinates, and more beyond those that are lent; and whether the file had them.
 struct Lent {
+    whole: bool,
     message: [u8; 24],
     frame: [i32; 36],
 }
 
-// Whether the call gives the answer, and leaves the message and the frame as it has to.
+// Whether the message and the frame are as they have to be.
+fn same_lent(message: [u8; 24], frame: [i32; 36], left: Lent) -> bool {
+    let m = left.message;
+    let f = left.frame;
+    if !fields::same_bytes(&message, &m) {
+        return false;
+    }
+    fields::same_coordinates(&frame, &f)
+}
+
+// Whether the call gives the answer, and leaves what it has to.
 fn holds(
     outside: bool,
     c: Call,
     lent: Lent,
     account: Account,
     answer: Counted,
-    left_message: &[u8],
-    left_frame: &[i32],
+    left: Lent,
 ) -> bool {
     let mut message = lent.message;
     let mut frame = lent.frame;
@@ -108,19 +118,36 @@ fn holds(
     if !same_answer(r, answer) {
         return false;
     }
-    if !fields::same_bytes(&message, left_message) {
-        return false;
+    same_lent(message, frame, left)
+}
+
+// Takes a message and coordinates.
+fn take_lent(fd: i32) -> Lent {
+    let mut message = [0u8; 24];
+    let mut bytes = [0u8; 144];
+    let mut frame = [0i32; 36];
+    fill(fd, 24, &mut message);
+    let whole = fill(fd, 144, &mut bytes);
+    fields::coordinates(&bytes, &mut frame);
+    Lent {
+        whole,
+        message,
+        frame,
     }
-    fields::same_coordinates(&frame, left_frame)
 }
 
-// A record that is cut short is a difference, and the last one taken.
-fn cut(v: u64, tally: &mut [u64; 7]) -> bool {
-    judge(tally, v, tally::DIFFERENT, false);
-    false
+// Takes the energy and the account that have to be answered.
+fn take_answer(fd: i32, refusal: u8) -> Counted {
+    let mut numbers = [0u8; 20];
+    fill(fd, 20, &mut numbers);
+    Counted {
+        number: refusal,
+        energy: number(&numbers[0..8]),
+        account: account_of(number(&numbers[8..12]), number(&numbers[12..20])),
+    }
 }
 
-// Takes record v from its message on.
+// Takes record v from its message on, and makes its call.
 fn take_rest(
     fd: i32,
     v: u64,
@@ -129,51 +156,31 @@ fn take_rest(
     refusal: u8,
     tally: &mut [u64; 7],
 ) -> bool {
-    let mut message = [0u8; 24];
-    let mut bytes = [0u8; 144];
-    let mut frame = [0i32; 36];
-    if !fill(fd, 24, &mut message) {
-        return cut(v, tally);
+    let lent = take_lent(fd);
+    let answer = take_answer(fd, refusal);
+    let left = take_lent(fd);
+    if !left.whole {
+        tally::file_differs(tally);
+        return false;
     }
-    if !fill(fd, 144, &mut bytes) {
-        return cut(v, tally);
-    }
-    fields::coordinates(&bytes, &mut frame);
-    let lent = Lent { message, frame };
-    let mut numbers = [0u8; 20];
-    if !fill(fd, 20, &mut numbers) {
-        return cut(v, tally);
-    }
-    let answer = Counted {
-        number: refusal,
-        energy: number(&numbers[0..8]),
-        account: account_of(number(&numbers[8..12]), number(&numbers[12..20])),
-    };
-    if !fill(fd, 24, &mut message) {
-        return cut(v, tally);
-    }
-    if !fill(fd, 144, &mut bytes) {
-        return cut(v, tally);
-    }
-    fields::coordinates(&bytes, &mut frame);
     judge(
         tally,
         v,
         c.function,
-        holds(false, c, lent, account, answer, &message, &frame),
+        holds(false, c, lent, account, answer, left),
     );
     if c.function != tally::BEGIN {
         judge(
             tally,
             v,
             tally::EXPORTED,
-            holds(true, c, lent, account, answer, &message, &frame),
+            holds(true, c, lent, account, answer, left),
         );
     }
     true
 }
 
-// Takes record v, and answers whether there was one.
+// Takes record v, and answers whether there was one. One that is cut short is a difference, and the last one taken.
 pub fn take(fd: i32, v: u64, tally: &mut [u64; 7]) -> bool {
     let mut head = [0u8; 20];
     let got = io::read_full(fd, &mut head);
@@ -181,7 +188,8 @@ pub fn take(fd: i32, v: u64, tally: &mut [u64; 7]) -> bool {
         return false;
     }
     if got < 20 {
-        return cut(v, tally);
+        tally::file_differs(tally);
+        return false;
     }
     let c = Call {
         function: size(head[0]),

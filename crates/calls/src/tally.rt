@@ -54,6 +54,12 @@ pub fn judge(tally: &mut [u64; 7], number: u64, check: usize, passed: bool) {
     write(b"\n");
 }
 
+// A file that is cut short, or too long, is a difference.
+pub fn file_differs(tally: &mut [u64; 7]) {
+    raise(tally, DIFFERENT);
+    write(b"different: the file\n");
+}
+
 // A line for each function.
 pub fn print(tally: &[u64; 7]) {
     let mut check: usize = 0;

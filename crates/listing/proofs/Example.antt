@@ -23,7 +23,10 @@ pub sheet : List ℕ
 sheet = 76 ∷ 67 ∷ 3 ∷ 1 ∷ 0 ∷ 8 ∷ 76 ∷ 67 ∷ 3 ∷ 1 ∷ 2 ∷ 0 ∷ 76 ∷ 67 ∷ 3 ∷ 5 ∷ []
 
 pub example : listingOf sheet ≡ bytes "kind grade energy frame\n3 1 16 -4 0 0 0 0 0 0 0\n3 1 4 0 1 0 1 0 1 0 1\nrefused 2\n"
-unfolding sheet listingOf linesFrom lineAt nextAt sentLine recordNumber recordRefusal marked sendRefusal isGrade isKind kinds spareSet anySet messageBytes messageBits levelBits headerText lineOf refusedText coordinatesOf signedOf decimalOf digitsOf bytes sentFrame half leastFrame leastBlock best better cent before energy sq leader coordinate stacked blockNumbers numbers degrees levels sumTo codeword order dimension masks ofWeight table messageBit ones
+unfolding sheet listingOf linesFrom lineAt nextAt sentLine recordNumber recordRefusal marked sendRefusal isGrade isKind kinds spareSet
+    anySet messageBytes messageBits levelBits headerText lineOf refusedText coordinatesOf signedOf decimalOf digitsOf bytes sentFrame half
+    leastFrame leastBlock best better cent before energy sq leader coordinate stacked blockNumbers numbers degrees levels sumTo
+    codeword order dimension masks ofWeight table messageBit ones
 example = refl
 
 -- no input: the header only

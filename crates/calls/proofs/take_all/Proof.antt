@@ -28,8 +28,8 @@ loop-less c = search needs
 loop-again : tie.Need-loop-again Inv-loop μ-loop
 loop-again c = search needs
 
-judge-requires : tie.Need-judge-requires Inv-loop μ-loop
-judge-requires c κs = search needs
+file-differs-requires : tie.Need-file-differs-requires Inv-loop μ-loop
+file-differs-requires c κs = search needs
 
 returns-2 : tie.Need-returns-2 Inv-loop μ-loop
 returns-2 c = search needs
@@ -46,5 +46,5 @@ take-all-spec =
     returns
     loop-less
     loop-again
-    judge-requires
+    file-differs-requires
     returns-2)
