@@ -60,14 +60,22 @@ pub fn file_differs(tally: &mut [u64; 7]) {
     write(b"different: the file\n");
 }
 
-// A line for each function.
-pub fn print(tally: &[u64; 7]) {
-    let mut check: usize = 0;
-    while check < 7 {
+fn print_one(tally: &[u64; 7], check: usize) {
+    if check < 7 {
         write_name(check);
         write(b" ");
         write_number(tally[check]);
         write(b"\n");
-        check += 1;
     }
+}
+
+// A line for each function.
+pub fn print(tally: &[u64; 7]) {
+    print_one(tally, SEND);
+    print_one(tally, READ_OPEN);
+    print_one(tally, READ_STRICT);
+    print_one(tally, SEND_COUNTED);
+    print_one(tally, BEGIN);
+    print_one(tally, EXPORTED);
+    print_one(tally, DIFFERENT);
 }

@@ -3,6 +3,7 @@ use Prim.Native.Nat.{ℕ, suc, _+_, _-_, _*_, _%_, _/_, _^_, _<_}
 use mathlib.Core.Path.{_≡_, sym, ap, _∙_, subst}
 use mathlib.Core.List.{List, []}
 use native.Mathlib.Decide.{decLt}
+use native.Mathlib.Nat.{pow-succ'}
 use native.Mathlib.Omega.{arith}
 use lib.ListN.{length}
 use lib.Pow.{pow-add}
@@ -12,7 +13,7 @@ use Rattle.e8.specs.Lattice.{TwoE8, moved, part, Differ}
 use Rattle.frames.specs.Kind.{degrees, levels, blocks, scale}
 use Rattle.frames.specs.Frame.{half, SameClass}
 use Rattle.frames.proofs.Levels.{Fit, Codes}
-use Rattle.frames.proofs.Stacked.{Plus, codes-plus, pow-double}
+use Rattle.frames.proofs.Stacked.{Plus, codes-plus}
 use Rattle.frames.proofs.Frame.{at, part-length, part-at, moved-at}
 
 -- what the laws need of a kind: level codes that exist at its length, and whole blocks
@@ -30,7 +31,7 @@ pub scale-is : (k c : ℕ) → scale k (suc c) ≡ 2 * half k (suc c)
 unfolding half scale
 scale-is k c =
     let e : levels k + suc c ≡ suc (levels k + suc c - 1) = omega arith in
-    ap (λ (n : ℕ). 2 ^ n) e ∙ pow-double (levels k + suc c - 1)
+    ap (λ (n : ℕ). 2 ^ n) e ∙ pow-succ' 2 (levels k + suc c - 1)
 
 -- ---- the lattice point
 

@@ -11,12 +11,13 @@ use lib.ListN.{length, getD, take}
 use borrow.Author.Tests.{leb-true, lt-ltb}
 use Rattle.bits.specs.Number.{table}
 use Rattle.reed_muller.specs.Level.{dimension, masks, ofWeight, Tabled}
+use Rattle.e8.proofs.Within.{and-both}
 use Rattle.frames.specs.Kind.{Row, kinds, brokenNumbers, brokenNumber, listed, isKind, isGrade, degreesIn, degrees, levels, blocks}
 use Rattle.frames.specs.Kind.{dimensions, levelBits, messageBits, messageBytes, scale}
 use Rattle.frames.specs.Frame.{leastDistance}
 use Rattle.frames.proofs.Levels.{Fit, apartBy}
 use Rattle.frames.proofs.Class.{Shape}
-use Rattle.frames.proofs.Rows.{and-both, each-row, each-row-and-grade, row-le, row-eq}
+use Rattle.frames.proofs.Rows.{each-row, each-row-and-grade, row-le, row-eq}
 
 -- ---- levels
 

@@ -2,7 +2,7 @@
 use Prim.Native.Nat.{ℕ, zero, suc, _+_, _-_, _*_, _%_, _/_, _^_, _≤_, _<_}
 use mathlib.Core.Path.{_≡_, refl, sym, ap, ap₂, _∙_, subst}
 use mathlib.Core.List.{List, [], _∷_, _++_}
-use native.Mathlib.Nat.{mod-eq-of-lt}
+use native.Mathlib.Nat.{mod-eq-of-lt, pow-succ'}
 use native.Mathlib.Decide.{decLt}
 use native.Mathlib.Omega.{arith}
 use lib.ListN.{length, getD, length-append, List·getD-append}
@@ -14,7 +14,6 @@ use Rattle.bits.proofs.Message.{number-lt, number-bit, number-digits}
 use Rattle.e8.specs.Rows.{Below, Ranged}
 use Rattle.frames.specs.Message.{numbers, widths}
 use Rattle.frames.specs.Reading.{digits, allDigits}
-use Rattle.frames.proofs.Stacked.{pow-double}
 
 -- the bits that numbers of the given widths take
 abbrev pub total : List ℕ → ℕ
@@ -115,7 +114,7 @@ module _ (c : ℕ) where
   first-range = let e : suc c - 1 ≡ c = omega arith in ap (λ (n : ℕ). 2 ^ n) e
 
   last-range : 2 ^ (suc c + 1) ≡ 4 * 2 ^ c
-  last-range = let e : suc c + 1 ≡ suc (suc c) = omega arith in ap (λ (n : ℕ). 2 ^ n) e ∙ omega (arith, pow-double (suc c), pow-double c)
+  last-range = let e : suc c + 1 ≡ suc (suc c) = omega arith in ap (λ (n : ℕ). 2 ^ n) e ∙ omega (arith, pow-succ' 2 (suc c), pow-succ' 2 c)
 
   -- the widths of the last n + 1 numbers: s8 and the n before it
   abbrev lastWidths : ℕ → List ℕ
@@ -131,7 +130,7 @@ module _ (c : ℕ) where
   fits-below zero (s ∷ []) f = subst (λ (m : ℕ). s < m) last-range (f .0)
   fits-below (suc n) (s ∷ []) f = absurd (omega (arith, fits-length (lastWidths (suc n)) (s ∷ []) f, last-length (suc n)))
   fits-below zero (s ∷ t ∷ ts) f = absurd (f .1)
-  fits-below (suc n) (s ∷ t ∷ ts) f = (subst (λ (m : ℕ). s < m) (pow-double c) (f .0), fits-below n (t ∷ ts) (f .1))
+  fits-below (suc n) (s ∷ t ∷ ts) f = (subst (λ (m : ℕ). s < m) (pow-succ' 2 c) (f .0), fits-below n (t ∷ ts) (f .1))
 
   pub fits-ranged : (ss : List ℕ) → Fits (widths (suc c)) ss → Ranged (2 ^ c) ss
   fits-ranged (s ∷ ss) f = (subst (λ (m : ℕ). s < m) first-range (f .0), fits-below 6 ss (f .1))
@@ -141,7 +140,7 @@ module _ (c : ℕ) where
   below-fits zero (s ∷ []) l r = (subst (λ (m : ℕ). s < m) (sym last-range) r, tt)
   below-fits (suc n) (s ∷ []) l r = absurd (omega arith)
   below-fits zero (s ∷ t ∷ ts) l r = absurd (omega arith)
-  below-fits (suc n) (s ∷ t ∷ ts) l r = (subst (λ (m : ℕ). s < m) (sym (pow-double c)) (r .0), below-fits n (t ∷ ts) (omega arith) (r .1))
+  below-fits (suc n) (s ∷ t ∷ ts) l r = (subst (λ (m : ℕ). s < m) (sym (pow-succ' 2 c)) (r .0), below-fits n (t ∷ ts) (omega arith) (r .1))
 
   pub ranged-fits : (ss : List ℕ) → length ss ≡ 8 → Ranged (2 ^ c) ss → Fits (widths (suc c)) ss
   ranged-fits (s ∷ ss) l r = (subst (λ (m : ℕ). s < m) (sym first-range) (r .0), below-fits 6 ss (omega arith) (r .1))

@@ -13,12 +13,12 @@ use borrow.Author.Tests.{eqb-true, eq-eqb}
 use Rattle.reed_muller.specs.Level.{belongs}
 use Rattle.e8.specs.Energy.{Within}
 use Rattle.e8.proofs.Within.{test-within, within-test}
+use Rattle.e8.proofs.Within.{and-both}
 use Rattle.frames.specs.Kind.{brokenNumber, isKind, isGrade, degrees, levels, messageBytes}
 use Rattle.frames.specs.Frame.{levelWord, InCodingSet}
 use Rattle.frames.specs.Sending.{unless}
 use Rattle.frames.specs.Reading.{sameNumber, sameFrame, inRange, broken, openRefusal}
 use Rattle.frames.specs.Demands.{FirstBroken}
-use Rattle.frames.proofs.Rows.{and-both}
 use Rattle.frames.proofs.Limits.{few-levels, levels-numbered, number-refuses}
 
 -- ---- one test after the other

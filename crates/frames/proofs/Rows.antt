@@ -6,11 +6,8 @@ use mathlib.Core.List.{List, [], _∷_}
 use native.Mathlib.Omega.{arith}
 use lib.Dec.{eqb, leb}
 use borrow.Author.Tests.{eqb-true, leb-true}
+use Rattle.e8.proofs.Within.{and-both}
 use Rattle.frames.specs.Kind.{Row, kinds, isKind, listed, isGrade}
-
-pub and-both : (s t : Bool) → (s && t) ≡ true → (s ≡ true) × (t ≡ true)
-and-both true t e = (refl, e)
-and-both false t e = absurd (true≢false (sym e))
 
 -- ---- the rows
 

@@ -3,7 +3,7 @@
 use Prim.Native.Nat.{ℕ, suc, _+_, _-_, _*_, _%_, _^_, _<_}
 use mathlib.Core.Path.{_≡_, sym, ap, _∙_, subst, fun-ext}
 use mathlib.Core.List.{List, [], _∷_, _++_}
-use native.Mathlib.Nat.{pow-suc, mod-eq-of-lt}
+use native.Mathlib.Nat.{pow-succ', mod-eq-of-lt}
 use native.Mathlib.Decide.{decLt}
 use native.Mathlib.Omega.{arith}
 use lib.ListN.{length, getD, List·getD-append}
@@ -67,9 +67,6 @@ module _ (c : ℕ) (x y w : ℤ) (e : x ≡ y +ℤ pos (2 * c) *ℤ w) where
   pub plus-high : shrZ x 2 ≡ shrZ y 2 +ℤ pos c *ℤ w
   plus-high = quot-is x 2 (shrZ y 2 +ℤ pos c *ℤ w) (modZ y 2) (modZ-lt y 2 (omega arith)) witness
 
-pub pow-double : (a : ℕ) → 2 ^ suc a ≡ 2 * 2 ^ a
-pow-double a = rw pow-suc (omega arith)
-
 pub codes-plus : (m : ℕ) (rs : List ℕ) (x y : ℕ → ℤ) → ((p : ℕ) → p < 2 ^ m → Plus (2 ^ length rs) (x p) (y p)) → Codes m rs y → Codes m rs x
 codes-plus m [] x y e h = tt
 codes-plus m (r ∷ rs) x y e h = (
@@ -79,7 +76,7 @@ codes-plus m (r ∷ rs) x y e h = (
 )
   where
     at : (p : ℕ) (l : p < 2 ^ m) → x p ≡ y p +ℤ pos (2 * 2 ^ length rs) *ℤ e p l .w
-    at p l = subst (λ (c : ℕ). x p ≡ y p +ℤ pos c *ℤ e p l .w) (pow-double (length rs)) (e p l .is)
+    at p l = subst (λ (c : ℕ). x p ≡ y p +ℤ pos c *ℤ e p l .w) (pow-succ' 2 (length rs)) (e p l .is)
 
 -- ---- two stacks that differ by multiples of 2^a have the same level bits
 
@@ -111,7 +108,7 @@ module _ (bit bit′ : ℕ → ℕ) (small : (i : ℕ) → bit i < 2) (small′ 
       t₁′ p = stacked m rs bit′ (from′ + dimension r m) (s′ p) p
 
       at : (p : ℕ) → p < 2 ^ m → pos (c p + 2 * t₁ p) ≡ pos (c′ p + 2 * t₁′ p) +ℤ pos (2 * 2 ^ length rs) *ℤ w p
-      at p h = subst (λ (n : ℕ). pos (c p + 2 * t₁ p) ≡ pos (c′ p + 2 * t₁′ p) +ℤ pos n *ℤ w p) (pow-double (length rs)) (e p h)
+      at p h = subst (λ (n : ℕ). pos (c p + 2 * t₁ p) ≡ pos (c′ p + 2 * t₁′ p) +ℤ pos n *ℤ w p) (pow-succ' 2 (length rs)) (e p h)
 
       same : (p : ℕ) → p < 2 ^ m → c p ≡ c′ p
       same p h =
@@ -197,7 +194,7 @@ stacked-read m (r ∷ rs) fit x codes bit from e s p h =
     step : codeword r m (λ i. bit (from + i)) p ≡ modZ (x p) 2 → pos t ≡ y -ℤ pos n *ℤ (shrZ y n -ℤ pos s)
         → pos (codeword r m (λ i. bit (from + i)) p + 2 * t) ≡ x p -ℤ pos (2 ^ suc (length rs)) *ℤ (shrZ (x p) (2 ^ suc (length rs)) -ℤ pos s)
     step c ih =
-        rw (pow-double (length rs))
+        rw (pow-succ' 2 (length rs))
         (eq! (# (codeword r m (λ i. bit (from + i)) p + 2 * t)) (` (x p) ⊖ # (2 * n) ⊗ (` (shrZ (x p) (2 * n)) ⊖ # s))
         (omega (
           arith,

@@ -9,6 +9,7 @@ use lib.ListN.{length}
 use borrow.Author.Tests.{eq-eqb, ne-eqb, eqb-true}
 use Rattle.frames.specs.Kind.{isKind, isGrade, messageBits, messageBytes}
 use Rattle.frames.specs.Sending.{spareSet, unless, sendRefusal}
+use Rattle.frames.proofs.Refusals.{past}
 
 module _ (k b : ℕ) (bytes : List ℕ) (n : ℕ) (good : (isKind k ≡ true) × (isGrade b ≡ true)) where
   pub other-bytes : (length bytes ≡ messageBytes k b → ⊥) → 3 ≡ sendRefusal k b bytes n
@@ -54,11 +55,6 @@ pub record Fits (k b : ℕ) (bytes : List ℕ) (n : ℕ) : Type 0 where
   pub grade : isGrade b ≡ true
   pub long : length bytes ≡ messageBytes k b
   pub positions : n ≡ 2 ^ k
-
--- a test that does not refuse is passed, and the next one answers
-past : (t : Bool) (number next : ℕ) → (unless t number next ≡ number → ⊥) → (t ≡ true) × (unless t number next ≡ next)
-past true number next h = (refl, refl)
-past false number next h = absurd (h refl)
 
 pub fits : (k b : ℕ) (bytes : List ℕ) (n : ℕ) → (sendRefusal k b bytes n ≡ 1 → ⊥) → (sendRefusal k b bytes n ≡ 2 → ⊥)
     → (sendRefusal k b bytes n ≡ 3 → ⊥) → (sendRefusal k b bytes n ≡ 4 → ⊥) → Fits k b bytes n

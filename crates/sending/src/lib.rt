@@ -21,7 +21,8 @@ pub struct Outcome {
 
 // Writes the coset leader of a message over the lent frame, block by block.
 fn write_leader(kind: u8, grade: usize, message: &[u8], frame: &mut [i32])
-    requires { ⌜ (isKind kind ≡ true) × (1 ≤ grade) × (grade ≤ 4) × (length (now message) ≡ messageBytes kind grade) × (length (now frame) ≡ 2 ^ kind) ⌝ }
+    requires { ⌜ (isKind kind ≡ true) × (1 ≤ grade) × (grade ≤ 4)
+        × (length (now message) ≡ messageBytes kind grade) × (length (now frame) ≡ 2 ^ kind) ⌝ }
     ensures { λ _. ⌜ now (frame .exit) ≡ leader kind grade (now (message .entry)) ⌝ }
 {
     let words = leader::codewords(kind, message);
@@ -44,7 +45,8 @@ fn write_leader(kind: u8, grade: usize, message: &[u8], frame: &mut [i32])
 
 // Shapes a frame in place, block by block, for the scale M = 2^(k + 1).
 fn shape(k: u32, frame: &mut [i32])
-    requires { ⌜ (k ≤ 6) × (length (now frame) % 8 ≡ 0) × (length (now frame) ≤ 1024) × Within (2 ^ 24) (now frame) × (8 ≤ length (now frame)) ⌝ }
+    requires { ⌜ (k ≤ 6) × (length (now frame) % 8 ≡ 0) × (length (now frame) ≤ 1024)
+        × Within (2 ^ 24) (now frame) × (8 ≤ length (now frame)) ⌝ }
     ensures { λ _. ⌜ now (frame .exit) ≡ leastFrame (2 ^ k) (length (now (frame .entry)) / 8) (now (frame .entry)) ⌝ }
 {
     let all = frame.len() / 8;
@@ -78,7 +80,8 @@ fn shaped_energy(frame: &[i32]) -> u64
 
 // Writes the sent frame of a message of a good kind, grade and length, and gives its energy: the leader is written, and shaped.
 fn write_sent(kind: u8, grade: usize, message: &[u8], frame: &mut [i32]) -> u64
-    requires { ⌜ (isKind kind ≡ true) × (1 ≤ grade) × (grade ≤ 4) × (length (now message) ≡ messageBytes kind grade) × (length (now frame) ≡ 2 ^ kind) ⌝ }
+    requires { ⌜ (isKind kind ≡ true) × (1 ≤ grade) × (grade ≤ 4)
+        × (length (now message) ≡ messageBytes kind grade) × (length (now frame) ≡ 2 ^ kind) ⌝ }
     ensures frame { λ _. ⌜ now (frame .exit) ≡ sentFrame kind grade (now (message .entry)) ⌝ }
     ensures energy { λ r. ⌜ r ≡ energyOf (sentFrame kind grade (now (message .entry))) ⌝ }
 {

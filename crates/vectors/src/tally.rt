@@ -60,14 +60,24 @@ pub fn judge(tally: &mut [u64; 9], number: u64, check: usize, passed: bool) {
     write(b"\n");
 }
 
-// A line for each check.
-pub fn print(tally: &[u64; 9]) {
-    let mut check: usize = 0;
-    while check < 9 {
+fn print_one(tally: &[u64; 9], check: usize) {
+    if check < 9 {
         write_name(check);
         write(b" ");
         write_number(tally[check]);
         write(b"\n");
-        check += 1;
     }
+}
+
+// A line for each check.
+pub fn print(tally: &[u64; 9]) {
+    print_one(tally, RECORD);
+    print_one(tally, SENT);
+    print_one(tally, OPEN);
+    print_one(tally, STRICT);
+    print_one(tally, WHOLE);
+    print_one(tally, HALF);
+    print_one(tally, ONE);
+    print_one(tally, TWO);
+    print_one(tally, DIFFERENT);
 }

@@ -81,7 +81,8 @@ store-requires : tie.Need-store-requires Inv-loop μ-loop
 store-requires c κs = simp (length-take, length-drop) (omega (arith, same (c .before .before .before .before .before .before)))
 
 -- one block more is shaped
-y-is : (c : tie.After-store Inv-loop μ-loop) → let a = c .before .before .before .before .before .before .before in c .store .last .1 .0 ≡ least-at (a .before .args .k) (a .before .args .frame .now) (a .loop .j)
+y-is : (c : tie.After-store Inv-loop μ-loop) → let a = c .before .before .before .before .before .before .before in
+    c .store .last .1 .0 ≡ least-at (a .before .args .k) (a .before .args .frame .now) (a .loop .j)
 y-is c =
     let a = c .before .before .before .before .before .before .before in
     c .store .ensures ∙ c .before .before .least .ensures ∙ ap (leastBlock (2 ^ a .before .args .k)) (x-is (c .before .before .before))

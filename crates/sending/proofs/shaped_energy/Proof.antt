@@ -2,11 +2,12 @@
 use Prim.Native.Nat.{ℕ, _+_, _-_, _*_, _/_, _^_, _<_, _≤_}
 use mathlib.Core.Path.{_≡_, refl, sym, ap, _∙_, subst}
 use native.Mathlib.Omega.{arith}
-use lib.ListN.{length, take, drop, length-take, length-drop}
+use lib.ListN.{length, take, length-take, length-drop}
 use lib.Seq.{take-all}
 use borrow.Author.Needs.{needs}
 use Rattle.e8.specs.Energy.{energy as energy-of, Within}
 use Rattle.e8.specs.Lattice.{part}
+use Rattle.e8.proofs.Frame.{part-is}
 use Rattle.e8.proofs.Order.{energy-append}
 use Rattle.e8.proofs.Within.{energy-within, within-part}
 use Rattle.sending.proofs.Blocks.{taken-made}
@@ -21,9 +22,6 @@ abbrev μ-loop : tie.MeasureT-loop
 
 -- block j, its length and its size
 module _ (a : tie.At-loop Inv-loop μ-loop) (inside : a .loop .j < length (a .before .args .frame .now) / 8) where
-  part-is : take (8 * a .loop .j + 8 - 8 * a .loop .j) (drop (8 * a .loop .j) (a .before .args .frame .now)) ≡ part (a .loop .j) (a .before .args .frame .now)
-  part-is = ap (λ (m : ℕ). take m (drop (8 * a .loop .j) (a .before .args .frame .now))) {x = 8 * a .loop .j + 8 - 8 * a .loop .j} {y = 8} (omega arith)
-
   eight : length (part (a .loop .j) (a .before .args .frame .now)) ≡ 8
   eight = simp (length-take, length-drop) (omega (arith, inside))
 
@@ -56,10 +54,17 @@ part-block-energy-end : tie.Need-part-block-energy-end Inv-loop μ-loop
 part-block-energy-end c = omega arith
 
 block-energy-requires : tie.Need-block-energy-requires Inv-loop μ-loop
-block-energy-requires c κs = let a = c .before .before in let t = c .before .loop-test .taken in (ap length (part-is a t) ∙ eight a t, subst (Within (2 ^ 10)) (sym (part-is a t)) (near a t))
+block-energy-requires c κs =
+    let a = c .before .before in
+    let t = c .before .loop-test .taken in
+    let e = part-is (a .loop .j) (a .before .args .frame .now) in
+    (ap length e ∙ eight a t, subst (Within (2 ^ 10)) (sym e) (near a t))
 
-energy-is : (c : tie.After-block-energy Inv-loop μ-loop) → let a = c .before .before .before in c .block-energy .result ≡ energy-of (part (a .loop .j) (a .before .args .frame .now))
-energy-is c = c .block-energy .ensures ∙ ap energy-of (part-is (c .before .before .before) (c .before .before .loop-test .taken))
+energy-is : (c : tie.After-block-energy Inv-loop μ-loop) → let a = c .before .before .before in
+    c .block-energy .result ≡ energy-of (part (a .loop .j) (a .before .args .frame .now))
+energy-is c =
+    let a = c .before .before .before in
+    c .block-energy .ensures ∙ ap energy-of (part-is (a .loop .j) (a .before .args .frame .now))
 
 add-energy : tie.Need-add-energy Inv-loop μ-loop
 add-energy c = omega (arith, energy-is c, block-low (c .before .before .before) (c .before .before .loop-test .taken))
@@ -76,7 +81,8 @@ loop-again c =
     let f = a .before .args .frame .now in
     let j = a .loop .j in
     let t = c .before .before .loop-test .taken in
-    let e : energy-of (take (8 * (j + 1)) f) ≡ energy-of (take (8 * j) f) + energy-of (part j f) = ap energy-of (taken-made (length f / 8) f (omega arith) .more j) ∙ energy-append (take (8 * j) f) (part j f) in
+    let e : energy-of (take (8 * (j + 1)) f) ≡ energy-of (take (8 * j) f) + energy-of (part j f) =
+    ap energy-of (taken-made (length f / 8) f (omega arith) .more j) ∙ energy-append (take (8 * j) f) (part j f) in
     (omega (arith, t), omega (arith, e, energy-is c, a .loop .inv .1), omega (arith, energy-is c, block-low a t, a .loop .inv .2))
 
 returns : tie.Need-returns Inv-loop μ-loop

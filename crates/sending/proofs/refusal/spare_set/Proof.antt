@@ -1,7 +1,8 @@
 -- `refusal::spare_set` meets its contract: the spare bits are those from the message bits to the end of the bytes. Assumes nothing.
-use Prim.Native.Nat.{ℕ, _*_, _-_}
+use Prim.Native.Nat.{ℕ, _*_, _-_, _≤_}
 use mathlib.Core.Path.{ap₂, _∙_}
 use native.Mathlib.Omega.{arith}
+use lib.ListN.{length}
 use Rattle.bits.specs.Message.{messageBit}
 use Rattle.frames.specs.Sending.{anySet, spareSet}
 use Rattle.frames.proofs.Limits.{bytes-hold, few-message-bits}
@@ -13,20 +14,28 @@ use Rattle.sending.proofs.refusal.spare_set.Tie as tie
 message-bits-requires : tie.Need-message-bits-requires
 message-bits-requires c κs = search needs
 
-mul-count : tie.Need-mul-count
-mul-count c =
+-- the message's bits are among those of its bytes, of which there are few
+record Room (c : tie.After-message-bits) : Type 0 where
+  inside : c .message-bits .result ≤ 8 * length (c .before .before .args .message .now)
+  few : 8 * length (c .before .before .args .message .now) ≤ 167
+
+room : (c : tie.After-message-bits) → Room c
+room c =
     let s = c .before .before in
-    omega (arith, s .pre .2, bytes-hold (s .args .kind) (s .args .grade), bytes-high (s .args .kind) (s .args .grade), few-message-bits (s .args .kind) (s .args .grade) (s .pre .0) (s .pre .1), c .message-bits .ensures)
+    let k = s .args .kind in
+    let b = s .args .grade in record {
+      inside = omega (arith, s .pre .2, bytes-hold k b, c .message-bits .ensures);
+      few = omega (arith, s .pre .2, bytes-high k b, few-message-bits k b (s .pre .0) (s .pre .1));
+    }
+
+mul-count : tie.Need-mul-count
+mul-count c = omega (arith, room c .few)
 
 sub-count : tie.Need-sub-count
-sub-count c =
-    let s = c .before .before in
-    omega (arith, s .pre .2, bytes-hold (s .args .kind) (s .args .grade), bytes-high (s .args .kind) (s .args .grade), few-message-bits (s .args .kind) (s .args .grade) (s .pre .0) (s .pre .1), c .message-bits .ensures)
+sub-count c = omega (arith, room c .inside, room c .few)
 
 any-set-requires : tie.Need-any-set-requires
-any-set-requires c κs =
-    let s = c .before .before in
-    (omega (arith, s .pre .2, bytes-hold (s .args .kind) (s .args .grade), bytes-high (s .args .kind) (s .args .grade), few-message-bits (s .args .kind) (s .args .grade) (s .pre .0) (s .pre .1), c .message-bits .ensures), omega (arith, s .pre .2, bytes-hold (s .args .kind) (s .args .grade), bytes-high (s .args .kind) (s .args .grade), few-message-bits (s .args .kind) (s .args .grade) (s .pre .0) (s .pre .1), c .message-bits .ensures))
+any-set-requires c κs = (omega (arith, room c .inside), omega (arith, room c .inside, room c .few))
 
 returns : tie.Need-returns
 unfolding spareSet
