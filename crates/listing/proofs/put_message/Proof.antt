@@ -55,7 +55,8 @@ sent c =
     let p = c .before .before .before .before .before in
     let s = p .before .before .before .args in
     let e = c .before .before .before .send .ensures in
-    sent-shown (s .kind) (s .grade) (s .message .now) (take (p .positions .result) room) (c .before .before .before .send .result .number) (c .if1 .left) (written c) (c .before .before .before .send .result .energy) (e .1 .0) (e .1 .1 .0)
+    let r = c .before .before .before .send .result in
+    sent-shown (s .kind) (s .grade) (s .message .now) (take (p .positions .result) room) (r .number) (c .if1 .left) (written c) (r .energy) (e .1 .0) (e .1 .1 .0)
 
 written-long : (c : tie.Else1) → length (written c) ≡ c .before .before .before .before .before .positions .result
 written-long c =
@@ -112,9 +113,15 @@ returns-2 c =
     let s = p .before .before .before .args in
     let e = c .before .before .put-line .ensures in
     let t = c .before .before in
-    let q : lineOf (s .kind) (s .grade) (d .before .before .before .send .result .energy) (take (p .positions .result) (written d ++ drop (p .positions .result) room)) ≡ sentLine (s .kind) (s .grade) (s .message .now) =
-    ap (λ (x : List ℤ). lineOf (s .kind) (s .grade) (d .before .before .before .send .result .energy) x) (again d) ∙ sent d .1 in
-    (sym (d .if1 .left) ∙ number (d .before .before .before), ((λ z. subst (λ (x : List ℕ). Put (s .out .now) 0 x (t .put-line .result) (t .put-line .last .0)) q (e .0)), ((λ z. absurd (z refl)), omega (arith, e .1, ap length (again d) ∙ written-long d, few p))))
+    let line : List ℤ → List ℕ = lineOf (s .kind) (s .grade) (d .before .before .before .send .result .energy) in
+    let q : line (take (p .positions .result) (written d ++ drop (p .positions .result) room)) ≡ sentLine (s .kind) (s .grade) (s .message .now) =
+    ap line (again d) ∙ sent d .1 in (
+      sym (d .if1 .left) ∙ number (d .before .before .before),
+      (
+        (λ z. subst (λ (x : List ℕ). Put (s .out .now) 0 x (t .put-line .result) (t .put-line .last .0)) q (e .0)),
+        ((λ z. absurd (z refl)), omega (arith, e .1, ap length (again d) ∙ written-long d, few p)),
+      ),
+    )
 
 pub put-message-spec : {M : Type 1} → statement M
 put-message-spec =
