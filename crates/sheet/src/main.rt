@@ -3,5 +3,7 @@ use libc::STDIN_FILENO;
 use libc::STDOUT_FILENO;
 
 fn main() {
-    printing::list(STDIN_FILENO, STDOUT_FILENO);
+    if printing::list(STDIN_FILENO, STDOUT_FILENO) {
+        printing::close(STDOUT_FILENO);
+    }
 }
