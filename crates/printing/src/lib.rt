@@ -1,5 +1,6 @@
 // The listing of a sheet, from one file into another.
 ghost use mathlib.Core.Path.{_≡_};
+ghost use mathlib.Core.Bool.{true};
 ghost use Rattle.io.specs.Counts.{Counts};
 ghost use Rattle.printing.specs.Reading.{failed as isFailed};
 use libc::STDERR_FILENO;
@@ -23,9 +24,10 @@ fn failed(got: isize) -> bool
     got < 0
 }
 
-// One read into the room.
+// One read into the room. A read that failed brings nothing.
 fn read_once(fd: i32, room: &mut [u8]) -> Brought
-    ensures { λ r. ⌜ Counts (r .count) (now (room .exit)) ⌝ }
+    ensures count { λ r. ⌜ Counts (r .count) (now (room .exit)) ⌝ }
+    ensures none { λ r. ⌜ (r .failed ≡ true → r .count ≡ 0) ⌝ }
 {
     let got = libc::read(fd, room);
     Brought {
@@ -34,23 +36,18 @@ fn read_once(fd: i32, room: &mut [u8]) -> Brought
     }
 }
 
-// Reads until the room is full, the input ends or a read fails. Nothing is read after the end or a failure.
+// Reads until the room is full, the input ends or a read fails. After a read that brought nothing there is no other: on a terminal
+// one end of input is enough.
 fn read_sheet(fd: i32, room: &mut [u8]) -> Input
     ensures { λ r. ⌜ Counts (r .length) (now (room .exit)) ⌝ }
 {
     let mut done: usize = 0;
     while done < room.len() {
         let more = read_once(fd, &mut room[done..]);
-        if more.failed {
-            return Input {
-                length: done,
-                failed: true,
-            };
-        }
         if more.count == 0 {
             return Input {
                 length: done,
-                failed: false,
+                failed: more.failed,
             };
         }
         done += more.count;

@@ -30,12 +30,13 @@ same-room c =
     same-len-mid (a .loop .done) (length (a .loop .room) - a .loop .done) (a .loop .room) (c .read-once .last .1 .0) (c .read-once .kept .1 .0)
 
 -- the bytes that came lie within it
-within : (c : tie.After-read-once Inv-loop μ-loop) → c .before .before .before .loop .done + c .read-once .result .count ≤ length (c .before .before .before .loop .room)
+within : (c : tie.After-read-once Inv-loop μ-loop)
+    → (let a = c .before .before .before in a .loop .done + c .read-once .result .count ≤ length (a .loop .room))
 within c =
     let a = c .before .before .before in
     let rest = length-drop (a .loop .done) (a .loop .room) in
     let lent = length-take-le (length (a .loop .room) - a .loop .done) (drop (a .loop .done) (a .loop .room)) (omega (arith, rest)) in
-    omega (arith, c .read-once .ensures .0, c .read-once .kept .1 .0, lent, a .loop .inv .1)
+    omega (arith, c .read-once .ensures .0 .0, c .read-once .kept .1 .0, lent, a .loop .inv .1)
 
 loop-holds : tie.Need-loop-holds Inv-loop μ-loop
 loop-holds c = omega arith
@@ -53,31 +54,25 @@ read-once-requires : tie.Need-read-once-requires Inv-loop μ-loop
 read-once-requires c κs = search needs
 
 same-length : tie.Need-same-length Inv-loop μ-loop
-same-length c = let r = c .before .before .before in omega (arith, same-room r)
+same-length c = let r = c .before .before .before .before in omega (arith, same-room r)
 
 returns : tie.Need-returns Inv-loop μ-loop
-returns c = let r = c .before .before .before in counts _ (after r) (omega (arith, same-room r))
-
-same-length-2 : tie.Need-same-length-2 Inv-loop μ-loop
-same-length-2 c = let r = c .before .before .before .before .before in omega (arith, same-room r)
-
-returns-2 : tie.Need-returns-2 Inv-loop μ-loop
-returns-2 c = let r = c .before .before .before .before .before in counts _ (after r) (omega (arith, same-room r))
+returns c = let r = c .before .before .before .before in counts _ (after r) (omega (arith, same-room r))
 
 add-done : tie.Need-add-done Inv-loop μ-loop
-add-done c = let r = c .before .before .before .before .before .before in omega (arith, within r)
+add-done c = let r = c .before .before .before .before .before in omega (arith, within r)
 
 loop-less : tie.Need-loop-less Inv-loop μ-loop
-loop-less c = let r = c .before .before .before .before .before .before in omega (arith, within r, same-room r)
+loop-less c = let r = c .before .before .before .before .before in omega (arith, within r, same-room r)
 
 loop-again : tie.Need-loop-again Inv-loop μ-loop
-loop-again c = let r = c .before .before .before .before .before .before in omega (arith, within r, same-room r)
+loop-again c = let r = c .before .before .before .before .before in omega (arith, within r, same-room r)
 
-same-length-3 : tie.Need-same-length-3 Inv-loop μ-loop
-same-length-3 c = omega arith
+same-length-2 : tie.Need-same-length-2 Inv-loop μ-loop
+same-length-2 c = omega arith
 
-returns-3 : tie.Need-returns-3 Inv-loop μ-loop
-returns-3 c = counts _ _ (omega arith)
+returns-2 : tie.Need-returns-2 Inv-loop μ-loop
+returns-2 c = counts _ _ (omega arith)
 
 pub read-sheet-spec : {M : Type 1} → statement M
 read-sheet-spec =
@@ -92,10 +87,8 @@ read-sheet-spec =
     read-once-requires
     same-length
     returns
-    same-length-2
-    returns-2
     add-done
     loop-less
     loop-again
-    same-length-3
-    returns-3)
+    same-length-2
+    returns-2)
