@@ -77,6 +77,7 @@ fn write_listing(sheet: &[u8], to: i32) -> bool {
     true
 }
 
+// What is said on standard error, of the input and of the output.
 fn say_unread() {
     io::write_all(STDERR_FILENO, b"sheet: the input cannot be read\n");
 }
