@@ -1,4 +1,4 @@
--- `link_send_counted` meets its contract: what sending with an account ensures, in one number and the two lent ones. Assumes nothing.
+-- `coder_send_counted` meets its contract: what sending with an account ensures, in one number and the two lent ones. Assumes nothing.
 use Prim.Native.Nat.{ℕ}
 use mathlib.Core.Path.{sym, ap, ap₂, _∙_}
 use native.Mathlib.Omega.{arith}
@@ -8,10 +8,10 @@ use Rattle.account.specs.declared.Account.{Account}
 use Rattle.frames.specs.Sending.{frameAfter}
 use Rattle.frames.proofs.Accepted.{refused-leaves}
 use Rattle.account.specs.Counted.{countedAccount}
-use Rattle.link.specs.Answer.{answerOf, accountOf}
-use Rattle.link.proofs.Bounds.{counted-fits, counted-answer, as-they-were}
-use Rattle.link.proofs.link_send_counted.Statement.{statement}
-use Rattle.link.proofs.link_send_counted.Tie as tie
+use Rattle.frame_coder.specs.Answer.{answerOf, accountOf}
+use Rattle.frame_coder.proofs.Bounds.{counted-fits, counted-answer, as-they-were}
+use Rattle.frame_coder.proofs.coder_send_counted.Statement.{statement}
+use Rattle.frame_coder.proofs.coder_send_counted.Tie as tie
 
 send-counted-requires : tie.Need-send-counted-requires
 send-counted-requires c κs = search needs
@@ -62,7 +62,7 @@ returns-2 c =
       ),
     )
 
-pub link-send-counted-spec : {M : Type 1} → statement M
-link-send-counted-spec =
+pub coder-send-counted-spec : {M : Type 1} → statement M
+coder-send-counted-spec =
     tie.close
     (tie.spec send-counted-requires answer-requires same-length returns answer-requires-2 same-length-2 returns-2)

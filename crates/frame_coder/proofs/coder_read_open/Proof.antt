@@ -1,4 +1,4 @@
--- `link_read_open` meets its contract: what the reading ensures, in one number. Assumes nothing.
+-- `coder_read_open` meets its contract: what the reading ensures, in one number. Assumes nothing.
 use Prim.Native.Nat.{ℕ}
 use mathlib.Core.Path.{ap, _∙_}
 use native.Mathlib.Omega.{arith}
@@ -6,10 +6,10 @@ use lib.ListN.{length}
 use mir.Facts.{toZ-ofZ}
 use borrow.Author.Needs.{needs}
 use Rattle.frames.specs.Reading.{messageAfter}
-use Rattle.link.specs.Answer.{answerOf}
-use Rattle.link.proofs.Bounds.{open-fits, open-answer}
-use Rattle.link.proofs.link_read_open.Statement.{statement}
-use Rattle.link.proofs.link_read_open.Tie as tie
+use Rattle.frame_coder.specs.Answer.{answerOf}
+use Rattle.frame_coder.proofs.Bounds.{open-fits, open-answer}
+use Rattle.frame_coder.proofs.coder_read_open.Statement.{statement}
+use Rattle.frame_coder.proofs.coder_read_open.Tie as tie
 
 read-open-requires : tie.Need-read-open-requires
 read-open-requires c κs = search needs
@@ -33,5 +33,5 @@ returns c =
       e .1 .0 ∙ ap (λ (n : ℕ). messageAfter n (s .kind) (s .grade) (s .frame .now) (s .message .now)) (e .0),
     )
 
-pub link-read-open-spec : {M : Type 1} → statement M
-link-read-open-spec = tie.close (tie.spec read-open-requires answer-requires same-length returns)
+pub coder-read-open-spec : {M : Type 1} → statement M
+coder-read-open-spec = tie.close (tie.spec read-open-requires answer-requires same-length returns)

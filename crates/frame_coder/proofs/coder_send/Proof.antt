@@ -1,4 +1,4 @@
--- `link_send` meets its contract: what `send` ensures, in one number. Assumes nothing.
+-- `coder_send` meets its contract: what `send` ensures, in one number. Assumes nothing.
 use Prim.Native.Nat.{ℕ}
 use mathlib.Core.Path.{ap, _∙_}
 use native.Mathlib.Omega.{arith}
@@ -6,10 +6,10 @@ use lib.ListN.{length}
 use mir.Facts.{toZ-ofZ}
 use borrow.Author.Needs.{needs}
 use Rattle.frames.specs.Sending.{frameAfter}
-use Rattle.link.specs.Answer.{answerOf}
-use Rattle.link.proofs.Bounds.{sent-fits, send-answer}
-use Rattle.link.proofs.link_send.Statement.{statement}
-use Rattle.link.proofs.link_send.Tie as tie
+use Rattle.frame_coder.specs.Answer.{answerOf}
+use Rattle.frame_coder.proofs.Bounds.{sent-fits, send-answer}
+use Rattle.frame_coder.proofs.coder_send.Statement.{statement}
+use Rattle.frame_coder.proofs.coder_send.Tie as tie
 
 send-requires : tie.Need-send-requires
 send-requires c κs = search needs
@@ -33,5 +33,5 @@ returns c =
       e .1 .0 ∙ ap (λ (n : ℕ). frameAfter n (s .kind) (s .grade) (s .message .now) (s .frame .now)) (e .0),
     )
 
-pub link-send-spec : {M : Type 1} → statement M
-link-send-spec = tie.close (tie.spec send-requires answer-requires same-length returns)
+pub coder-send-spec : {M : Type 1} → statement M
+coder-send-spec = tie.close (tie.spec send-requires answer-requires same-length returns)

@@ -1,9 +1,9 @@
-// The library as other languages call it: a slice passes as a pointer and a length. `link.h` says what a caller must keep.
+// The library as other languages call it: a slice passes as a pointer and a length. `frame_coder.h` says what a caller must keep.
 ghost use mathlib.Core.Path.{_≡_};
 ghost use Prim.Native.Nat.{_≤_, _^_};
 ghost use lib.ListN.{length};
-ghost use Rattle.link.specs.Answer.{answerOf, sendAnswer, sendFrame, openAnswer, openBytes, strictAnswer, strictBytes};
-ghost use Rattle.link.specs.Answer.{countedAnswer, frameOf, countOf, sumOf};
+ghost use Rattle.frame_coder.specs.Answer.{answerOf, sendAnswer, sendFrame, openAnswer, openBytes, strictAnswer, strictBytes};
+ghost use Rattle.frame_coder.specs.Answer.{countedAnswer, frameOf, countOf, sumOf};
 
 // The energy, or minus the refusal number.
 fn answer(number: u8, energy: u64) -> i64
@@ -18,7 +18,7 @@ fn answer(number: u8, energy: u64) -> i64
 
 // Sending: the energy, or minus the refusal number.
 #[no_mangle]
-pub extern "C" fn link_send(kind: u8, grade: u8, message: &[u8], frame: &mut [i32]) -> i64
+pub extern "C" fn coder_send(kind: u8, grade: u8, message: &[u8], frame: &mut [i32]) -> i64
     ensures answer { λ r. ⌜ r ≡ sendAnswer kind grade (now (message .entry)) (length (now (frame .entry))) ⌝ }
     ensures frame { λ r. ⌜ now (frame .exit) ≡ sendFrame kind grade (now (message .entry)) (now (frame .entry)) ⌝ }
 {
@@ -28,7 +28,7 @@ pub extern "C" fn link_send(kind: u8, grade: u8, message: &[u8], frame: &mut [i3
 
 // The open reading: the energy, or minus the refusal number.
 #[no_mangle]
-pub extern "C" fn link_read_open(kind: u8, grade: u8, frame: &[i32], message: &mut [u8]) -> i64
+pub extern "C" fn coder_read_open(kind: u8, grade: u8, frame: &[i32], message: &mut [u8]) -> i64
     ensures answer { λ r. ⌜ r ≡ openAnswer kind grade (now (frame .entry)) (length (now (message .entry))) ⌝ }
     ensures message { λ r. ⌜ now (message .exit) ≡ openBytes kind grade (now (frame .entry)) (now (message .entry)) ⌝ }
 {
@@ -38,7 +38,7 @@ pub extern "C" fn link_read_open(kind: u8, grade: u8, frame: &[i32], message: &m
 
 // The strict reading: the energy, or minus the refusal number.
 #[no_mangle]
-pub extern "C" fn link_read_strict(kind: u8, grade: u8, frame: &[i32], message: &mut [u8]) -> i64
+pub extern "C" fn coder_read_strict(kind: u8, grade: u8, frame: &[i32], message: &mut [u8]) -> i64
     ensures answer { λ r. ⌜ r ≡ strictAnswer kind grade (now (frame .entry)) (length (now (message .entry))) ⌝ }
     ensures message { λ r. ⌜ now (message .exit) ≡ strictBytes kind grade (now (frame .entry)) (now (message .entry)) ⌝ }
 {
@@ -48,7 +48,7 @@ pub extern "C" fn link_read_strict(kind: u8, grade: u8, frame: &[i32], message: 
 
 // Sending with an account that is held in two lent numbers, stored to on success only: the energy, or minus the refusal number.
 #[no_mangle]
-pub extern "C" fn link_send_counted(
+pub extern "C" fn coder_send_counted(
     kind: u8,
     grade: u8,
     message: &[u8],

@@ -22,7 +22,7 @@ use Rattle.frames.proofs.Reading.{strict-passed}
 use Rattle.account.specs.declared.Account.{Account}
 use Rattle.account.specs.Counted.{countedAccount}
 use Rattle.account.proofs.Answers.{passed, account-refused}
-use Rattle.link.specs.Answer.{answerOf, sendAnswer, openAnswer, strictAnswer, accountOf, countedNumber, countedAnswer, countOf, sumOf}
+use Rattle.frame_coder.specs.Answer.{answerOf, sendAnswer, openAnswer, strictAnswer, accountOf, countedNumber, countedAnswer, countOf, sumOf}
 
 -- the energy that stands with a refusal number says nothing
 answer-is : (number e : ℕ) → answerOf number (cond (eqb number 0) e 0) ≡ answerOf number e
