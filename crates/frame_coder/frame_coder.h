@@ -44,15 +44,16 @@
  *       size $A         text 10150 (code and constants), data 0, bss 0
  *       size -A $A      a section for each function, so that -Wl,--gc-sections leaves out what is not called: of 9874 bytes of
  *                       code coder_send alone needs 4122, both readings 6384
- *       cc -I crates/frame_coder docs/stack.c $A -o target/stack && target/stack
+ *       cc -I crates/frame_coder tools/c/stack.c $A -o target/stack && target/stack
  *                       the most stack that a call used, in bytes, with its return address and the arguments on the stack:
  *                       coder_send 528, coder_send_counted 592, coder_read_open 524, coder_read_strict 624. The same by
- *                       objdump -d $A | grep -E '>:$|push|sub .*,%rsp|-0x[0-9a-f]*\(%rsp\)|call'
+ *                       objdump -dr $A | grep -E '>:$|push|sub .*,%rsp|-0x[0-9a-f]*\(%rsp\)|PLT32'
  *                       which shows also that nothing recurs, and that 80 of the bytes lie below the stack pointer (the red
  *                       zone of the calling convention): an interrupt on the same stack must leave out 128 bytes there.
  *
  * Every function of the archive is proved to answer, and to leave in what it is lent, what crates/frame_coder/src/lib.rt says.
- * The functions that are written out in this header (lengths, words, account) are plain C, and tested only.
+ * The functions that are written out in this header (lengths, names, account) are plain C and tested only, by tools/c/run; so are
+ * pointers where the length is 0, which no contract speaks of.
  */
 #ifndef FRAME_CODER_H
 #define FRAME_CODER_H

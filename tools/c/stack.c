@@ -1,7 +1,7 @@
 /* Measures the most stack that a call of each function uses: the call is made on a stack that was filled with one byte, and the
  * lowest place that differs afterwards is looked up. Random messages of every kind and grade, 4000 of each; x86-64 Linux.
  *
- *     cc -I crates/frame_coder docs/stack.c target/staticlib/libframe_coder.a -o target/stack && target/stack
+ *     cc -I crates/frame_coder tools/c/stack.c target/staticlib/libframe_coder.a -o target/stack && target/stack
  */
 #include <inttypes.h>
 #include <stdio.h>
