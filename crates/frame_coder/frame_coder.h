@@ -2,7 +2,8 @@
  *
  * A message is bytes, a frame is 8, 16 or 32 whole numbers (int32_t). Sending makes the frame of a message, reading the message
  * of a frame. Each is lent as a pointer and a length. An answer is the energy of the frame, 0 or more, or minus the number of a
- * refusal. Bad input is refused, and a refusal changes nothing that was lent.
+ * refusal. Bad input is refused, and a refusal changes nothing that was lent. docs/GUIDE.md explains the words, docs/example.c
+ * shows the calls.
  *
  * LENGTHS, by kind (3, 4 or 5) and grade (1 to 4). A lent length must be exactly the table's.
  *
@@ -30,8 +31,8 @@
  *     them. What stood there makes no difference to the outcome, but valgrind tells of memory that was never set.
  *
  * KIND AND GRADE ARE uint8_t in the archive's functions. C and C++ narrow an int to that in silence: kind 259 arrives as 3. The
- *     functions that are written out in this header take an int and test it whole. Where kind and grade come from outside as
- *     ints, ask coder_message_length(kind, grade) first: it is 0 where there is no such kind or grade.
+ *     functions that are written out in this header take an int and test it before they narrow it. Where kind and grade come
+ *     from outside as ints, ask coder_message_length(kind, grade) first: it is 0 where there is no such kind or grade.
  *
  * FOR FIRMWARE. The archive is for x86-64, ELF and the System V calling convention (Linux); there is none for other processors
  *     today. It needs nothing beyond the base of x86-64 (SSE2), and links into fixed and position-independent programs. It calls
@@ -46,10 +47,11 @@
  *                       code coder_send alone needs 4122, both readings 6384
  *       cc -I crates/frame_coder tools/c/stack.c $A -o target/stack && target/stack
  *                       the most stack that a call used, in bytes, with its return address and the arguments on the stack:
- *                       coder_send 528, coder_send_counted 592, coder_read_open 524, coder_read_strict 624. The same by
- *                       objdump -dr $A | grep -E '>:$|push|sub .*,%rsp|-0x[0-9a-f]*\(%rsp\)|PLT32'
- *                       which shows also that nothing recurs, and that 80 of the bytes lie below the stack pointer (the red
- *                       zone of the calling convention): an interrupt on the same stack must leave out 128 bytes there.
+ *                       coder_send 528, coder_send_counted 592, coder_read_open 524, coder_read_strict 624
+ *       objdump -dr $A | grep -E '>:$|push|sub .*,%rsp|-0x[0-9a-f]*\(%rsp\)|PLT32'
+ *                       where it goes: the frames on the way down add up to the same (4 bytes of coder_read_open's are never
+ *                       touched), nothing recurs, and 80 of the bytes lie below the stack pointer, in the red zone of the
+ *                       calling convention: an interrupt on the same stack must leave out 128 bytes there
  *
  * Every function of the archive is proved to answer, and to leave in what it is lent, what crates/frame_coder/src/lib.rt says.
  * The functions that are written out in this header (lengths, names, account) are plain C and tested only, by tools/c/run; so are
@@ -148,10 +150,10 @@ CODER_INLINE const char *coder_refusal_name(int64_t answer)
 /* Sends a message: writes every coordinate of its frame. */
 int64_t coder_send(uint8_t kind, uint8_t grade, const uint8_t *message, size_t message_len, int32_t *frame, size_t frame_len);
 
-/* The open reading, of any frame of the coding set (no refusal 1 to 8): writes every byte of its message. */
+/* The open reading: takes any frame of the coding set with coordinates in range, and writes every byte of its message. */
 int64_t coder_read_open(uint8_t kind, uint8_t grade, const int32_t *frame, size_t frame_len, uint8_t *message, size_t message_len);
 
-/* The strict reading, of a sent frame alone: writes every byte of its message. */
+/* The strict reading: takes a sent frame alone, and writes every byte of its message. */
 int64_t coder_read_strict(uint8_t kind, uint8_t grade, const int32_t *frame, size_t frame_len, uint8_t *message, size_t message_len);
 
 /* Sends, and on success adds 1 to the count of frames and the frame's power to the sum of powers. An account begins at 0 and 0.0;
