@@ -1,14 +1,14 @@
 //! Points the linker to the archive of a block's shaping, libblock.a: in target/staticlib of the
-//! repository, or in the folder that LINK_DIR names. The hand-tuned coder alone does not need it.
+//! repository, or in the folder that FRAME_CODER_DIR names. The hand-tuned coder alone does not need it.
 
 use std::path::{Path, PathBuf};
 
 fn main() {
-    println!("cargo:rerun-if-env-changed=LINK_DIR");
+    println!("cargo:rerun-if-env-changed=FRAME_CODER_DIR");
     if std::env::var_os("CARGO_FEATURE_LIBRARY").is_none() {
         return;
     }
-    let folder = match std::env::var_os("LINK_DIR") {
+    let folder = match std::env::var_os("FRAME_CODER_DIR") {
         Some(folder) => PathBuf::from(folder),
         None => Path::new(env!("CARGO_MANIFEST_DIR")).join("../../target/staticlib"),
     };

@@ -35,7 +35,7 @@ fn send_counted(
 ) -> Counted {
     let mut count = account.count;
     let mut sum = account.sum;
-    let r = link::link_send_counted(kind, grade, message, frame, &mut count, &mut sum);
+    let r = frame_coder::coder_send_counted(kind, grade, message, frame, &mut count, &mut sum);
     answer(r, Account { count, sum })
 }
 
@@ -48,13 +48,22 @@ pub fn call(
     account: Account,
 ) -> Counted {
     if function == tally::SEND {
-        return answer(link::link_send(kind, grade, message, frame), account);
+        return answer(
+            frame_coder::coder_send(kind, grade, message, frame),
+            account,
+        );
     }
     if function == tally::READ_OPEN {
-        return answer(link::link_read_open(kind, grade, frame, message), account);
+        return answer(
+            frame_coder::coder_read_open(kind, grade, frame, message),
+            account,
+        );
     }
     if function == tally::READ_STRICT {
-        return answer(link::link_read_strict(kind, grade, frame, message), account);
+        return answer(
+            frame_coder::coder_read_strict(kind, grade, frame, message),
+            account,
+        );
     }
     send_counted(kind, grade, message, frame, account)
 }

@@ -5,12 +5,12 @@ use std::fmt::Debug;
 use crate::{dense, lengths};
 use bench::random::Random;
 use bench::{block, hand};
-use link_rs::Refusal;
+use frame_coder::{by_number, Account, Refusal};
 
 /// The comparisons made, by answer (0 for success; for a block alone, refused and shaped), and
 /// those that differ.
 struct Tally {
-    answers: [u64; 13],
+    answers: [u64; 12],
     blocks: [u64; 2],
     different: u64,
 }
@@ -98,22 +98,22 @@ fn damaged(frame: &[i32], scale: i32, random: &mut Random) -> Vec<i32> {
 fn sendings(kind: u8, grade: u8, message: &[u8], length: usize, random: &mut Random, tally: &mut Tally) {
     let input = (kind, grade, message);
     let (mut one, mut other) = (vec![77; length], vec![77; length]);
-    let answers = (link_rs::send(kind, grade, message, &mut one), hand::send(kind, grade, message, &mut other));
+    let answers = (by_number::send(kind, grade, message, &mut one), hand::send(kind, grade, message, &mut other));
     tally.count("send", &input, (answers.0, one), (answers.1, other));
     let count = [0, 5, 999_998, 999_999, 1_000_000, 1_000_001, u32::MAX][random.below(7) as usize];
     // A sum as it grows, or one from elsewhere.
     let sum = match random.below(4) {
-        0 => f64::from_bits(random.next() & !(1 << 62)),
+        0 => f64::from_bits(random.word() & !(1 << 62)),
         _ => random.below(1 << 40) as f64 / 32.0,
     };
-    let mut account = link_rs::Account { count, sum };
+    let mut account = Account::from_parts(count, sum);
     let mut own = hand::Account { count, sum };
     let (mut one, mut other) = (vec![77; length], vec![77; length]);
     let answers = (
-        link_rs::send_counted(kind, grade, message, &mut one, &mut account),
+        by_number::send_counted(kind, grade, message, &mut one, &mut account),
         hand::send_counted(kind, grade, message, &mut other, &mut own),
     );
-    let library = (one, account.count, account.sum.to_bits());
+    let library = (one, account.count(), account.sum().to_bits());
     tally.count(
         "send_counted",
         &(input, count, sum),
@@ -125,11 +125,11 @@ fn sendings(kind: u8, grade: u8, message: &[u8], length: usize, random: &mut Ran
 fn readings(kind: u8, grade: u8, frame: &[i32], bytes: usize, tally: &mut Tally) {
     let input = (kind, grade, frame, bytes);
     let (mut one, mut other) = (vec![0xA5; bytes], vec![0xA5; bytes]);
-    let answers = (link_rs::read_open(kind, grade, frame, &mut one), hand::read_open(kind, grade, frame, &mut other));
+    let answers = (by_number::read_open(kind, grade, frame, &mut one), hand::read_open(kind, grade, frame, &mut other));
     tally.count("read_open", &input, (answers.0, one), (answers.1, other));
     let (mut one, mut other) = (vec![0xA5; bytes], vec![0xA5; bytes]);
     let answers =
-        (link_rs::read_strict(kind, grade, frame, &mut one), hand::read_strict(kind, grade, frame, &mut other));
+        (by_number::read_strict(kind, grade, frame, &mut one), hand::read_strict(kind, grade, frame, &mut other));
     tally.count("read_strict", &input, (answers.0, one), (answers.1, other));
 }
 
@@ -191,7 +191,7 @@ fn shaping(random: &mut Random, tally: &mut Tally) {
 pub fn run(frames: u64, seed: u64) -> u64 {
     let mut random = Random(seed);
     let random = &mut random;
-    let mut tally = Tally { answers: [0; 13], blocks: [0; 2], different: 0 };
+    let mut tally = Tally { answers: [0; 12], blocks: [0; 2], different: 0 };
     for _ in 0..frames {
         let (kind, grade) = (3 + random.below(3) as u8, 1 + random.below(4) as u8);
         let (length, bytes) = lengths(kind, grade);
@@ -208,10 +208,11 @@ pub fn run(frames: u64, seed: u64) -> u64 {
         }
         shaping(random, &mut tally);
     }
-    for (number, count) in tally.answers.iter().enumerate().filter(|(_, &count)| count > 0) {
-        match number {
-            0 => println!("success: {count}"),
-            _ => println!("refused {number} ({:?}): {count}", Refusal::ALL[number - 1]),
+    for (number, count) in (0..).zip(tally.answers).filter(|(_, count)| *count > 0) {
+        match (number, Refusal::try_from(number)) {
+            (0, _) => println!("success: {count}"),
+            (_, Ok(refusal)) => println!("{refusal}: {count}"),
+            (_, Err(unknown)) => println!("{unknown}: {count}"),
         }
     }
     let [refused, shaped] = tally.blocks;

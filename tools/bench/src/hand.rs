@@ -198,12 +198,12 @@ impl<const KIND: usize, const B: usize> Format<KIND, B> {
         let first = (x[0] >> Self::A) & -h;
         // Rows 2 to 7, each 2h also in the eighth: the parity of their number moves s8 by 2h.
         let (mut bits, mut odd) = (0, 0);
-        for i in 0..8 {
-            let d = (x[i] >> Self::A).wrapping_sub(first);
+        for (i, x) in x.iter().enumerate() {
+            let d = (x >> Self::A).wrapping_sub(first);
             bits |= ((d & (2 * h - 1)) as u32) << Self::place(i);
             odd ^= d;
         }
-        bits | ((odd & 2 * h) as u32) << Self::place(7)
+        bits | ((odd & (2 * h)) as u32) << Self::place(7)
     }
 
     fn send(message: &[u8], frame: &mut [i32]) -> Result<u64, u8> {
@@ -246,7 +246,7 @@ impl<const KIND: usize, const B: usize> Format<KIND, B> {
         for (j, block) in frame.as_chunks::<8>().0.iter().enumerate() {
             let (mut w0, mut w1) = (0, 0);
             for (i, &x) in block.iter().enumerate() {
-                over |= (x > FURTHEST) | (x < -FURTHEST);
+                over |= !(-FURTHEST..=FURTHEST).contains(&x);
                 let size = x.unsigned_abs() as u64;
                 energy += size * size;
                 w0 |= (x as u32 & 1) << i;

@@ -7,6 +7,7 @@ use std::time::{Duration, Instant};
 use crate::{dense, lengths};
 use bench::random::Random;
 use bench::{block, hand};
+use frame_coder::by_number;
 
 const FRAMES: usize = 1024;
 const TURNS: usize = 200;
@@ -71,17 +72,17 @@ fn frames(random: &mut Random) {
             let (length, bytes) = lengths(kind, grade);
             let (messages, frames) = sent(kind, grade, random);
             let [library, hand] = measure([
-                &mut pass!(link_rs::send, kind, grade, &messages, vec![0; length]),
+                &mut pass!(by_number::send, kind, grade, &messages, vec![0; length]),
                 &mut pass!(hand::send, kind, grade, &messages, vec![0; length]),
             ]);
             line(&format!("{kind} | {grade} | send"), library, hand);
             let [library, hand] = measure([
-                &mut pass!(link_rs::read_open, kind, grade, &frames, vec![0; bytes]),
+                &mut pass!(by_number::read_open, kind, grade, &frames, vec![0; bytes]),
                 &mut pass!(hand::read_open, kind, grade, &frames, vec![0; bytes]),
             ]);
             line(&format!("{kind} | {grade} | read openly"), library, hand);
             let [library, hand] = measure([
-                &mut pass!(link_rs::read_strict, kind, grade, &frames, vec![0; bytes]),
+                &mut pass!(by_number::read_strict, kind, grade, &frames, vec![0; bytes]),
                 &mut pass!(hand::read_strict, kind, grade, &frames, vec![0; bytes]),
             ]);
             line(&format!("{kind} | {grade} | read strictly"), library, hand);

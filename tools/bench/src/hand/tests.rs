@@ -237,13 +237,24 @@ fn written_vectors() {
     while let [kind, grade, bytes, after @ ..] = rest {
         let (message, after) = after.split_at(*bytes as usize);
         let (coordinates, after) = after[1..].split_at(4 * after[0] as usize);
-        let (energy, after) = after.split_at(8);
+        let (energies, after) = after.split_at(24);
         let expected: Vec<i32> =
             coordinates.chunks_exact(4).map(|x| i32::from_le_bytes(x.try_into().unwrap())).collect();
-        let energy = Ok(u64::from_le_bytes(energy.try_into().unwrap()));
+        let mut energies = energies.chunks_exact(8).map(|x| Ok(u64::from_le_bytes(x.try_into().unwrap())));
+        let energy = energies.next().unwrap();
         let (mut sent, mut back) = (vec![77; expected.len()], vec![0xA5; message.len()]);
         assert_eq!((send(*kind, *grade, message, &mut sent), &sent), (energy, &expected));
         assert_eq!((read_strict(*kind, *grade, &sent, &mut back), &back[..]), (energy, message));
+        // The frame with a point added: M at the first two places, and half of M at each place of the last block.
+        let scale = 1 << (if *kind == 3 { 1 } else { 2 } + grade);
+        let (mut first, mut last) = (sent.clone(), sent);
+        first.iter_mut().take(2).for_each(|x| *x += scale);
+        last.iter_mut().rev().take(8).for_each(|x| *x += scale / 2);
+        for (frame, energy) in [first, last].iter().zip(energies) {
+            back.fill(0xA5);
+            assert_eq!(read_strict(*kind, *grade, frame, &mut back), Err(refusal::UNSHAPED));
+            assert_eq!((read_open(*kind, *grade, frame, &mut back), &back[..]), (energy, message));
+        }
         (rest, count) = (after, count + 1);
     }
     assert!(rest.is_empty() && count >= 2400);

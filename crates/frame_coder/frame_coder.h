@@ -1,0 +1,191 @@
+/* The frame coder for C99 and C++: link with libframe_coder.a, which `rt staticlib frame_coder` makes in target/staticlib.
+ *
+ * A message is bytes, a frame is 8, 16 or 32 whole numbers (int32_t). Sending makes the frame of a message, reading the message
+ * of a frame. Each is lent as a pointer and a length. An answer is the energy of the frame, 0 or more, or minus the number of a
+ * refusal. Bad input is refused, and a refusal changes nothing that was lent. docs/GUIDE.md explains the words, docs/example.c
+ * shows the calls.
+ *
+ * LENGTHS, by kind (3, 4 or 5) and grade (1 to 4). A lent length must be exactly the table's.
+ *
+ *     kind | coordinates | message bits    | message bytes | spare bits
+ *        3 |           8 |  4 +  8 * grade |     grade + 1 | 4
+ *        4 |          16 | 20 + 16 * grade | 2 * grade + 3 | 4
+ *        5 |          32 | 32 + 32 * grade | 4 * grade + 4 | none
+ *
+ * BITS. Message bit k is bit k mod 8, lowest first, of byte k div 8. The bits past the last are spare: at kinds 3 and 4 the four
+ *     highest of the last byte. They must be 0 when sending, and a reading writes them as 0.
+ *
+ * ENERGY AND POWER. The energy of a frame is the sum of the squares of its coordinates; its power is the energy divided by the
+ *     number of coordinates. A sent frame has an energy of 131,072 at most, and coordinates from -64 to 64. A frame that is read
+ *     can have an energy of 2^45: an answer is printed with PRId64.
+ *
+ * TIES. The sent frame is the one of least energy in the class of the message. Among frames of least energy it is the first in
+ *     reading order: at the first coordinate where two differ, the smaller comes first.
+ *
+ * WHAT A CALLER MUST KEEP, since nothing here can test it:
+ *   - a pointer is valid for as many elements as its length says, and aligned for its type. Where the length is 0 it may be
+ *     anything, null too: no message and no frame has length 0, and the call is refused before anything is read or written;
+ *   - `count` and `sum`, or `account`, are valid in every call, and never null, also where the call is refused;
+ *   - what is lent to one call does not overlap, and nobody else writes to it during the call;
+ *   - the message that is lent to a reading holds values, any values (`= {0}`): the reading loads its bytes before it overwrites
+ *     them. What stood there makes no difference to the outcome, but valgrind tells of memory that was never set.
+ *
+ * KIND AND GRADE ARE uint8_t in the archive's functions. C and C++ narrow an int to that in silence: kind 259 arrives as 3. The
+ *     functions that are written out in this header take an int and test it before they narrow it. Where kind and grade come
+ *     from outside as ints, ask coder_message_length(kind, grade) first: it is 0 where there is no such kind or grade.
+ *
+ * FOR FIRMWARE. The archive is for x86-64, ELF and the System V calling convention (Linux); there is none for other processors
+ *     today. It needs nothing beyond the base of x86-64 (SSE2), and links into fixed and position-independent programs. It calls
+ *     nothing (no libc, no allocation, no system call) and has no data that is written, so it is reentrant and safe in threads.
+ *     Only coder_send_counted computes in floating point; but every function uses the vector registers (xmm), which whoever
+ *     interrupts a thread must save. A call ends on every input; its time depends on the input (docs/BENCHMARKS.md).
+ *     Measured on the archive of this version, A=target/staticlib/libframe_coder.a:
+ *
+ *       nm -u $A        no undefined symbols: it prints the name of the member and nothing more
+ *       size $A         text 10150 (code and constants), data 0, bss 0
+ *       size -A $A      a section for each function, so that -Wl,--gc-sections leaves out what is not called: of 9874 bytes of
+ *                       code coder_send alone needs 4122, both readings 6384
+ *       cc -I crates/frame_coder tools/c/stack.c $A -o target/stack && target/stack
+ *                       the most stack that a call used, in bytes, with its return address and the arguments on the stack:
+ *                       coder_send 528, coder_send_counted 592, coder_read_open 524, coder_read_strict 624
+ *       objdump -dr $A | grep -E '>:$|push|sub .*,%rsp|-0x[0-9a-f]*\(%rsp\)|PLT32'
+ *                       where it goes: the frames on the way down add up to the same (4 bytes of coder_read_open's are never
+ *                       touched), nothing recurs, and 80 of the bytes lie below the stack pointer, in the red zone of the
+ *                       calling convention: an interrupt on the same stack must leave out 128 bytes there
+ *
+ * Every function of the archive is proved to answer, and to leave in what it is lent, what crates/frame_coder/src/lib.rt says.
+ * The functions that are written out in this header (lengths, names, account) are plain C and tested only, by tools/c/run; so are
+ * pointers where the length is 0, which no contract speaks of.
+ */
+#ifndef FRAME_CODER_H
+#define FRAME_CODER_H
+
+#include <stddef.h>
+#include <stdint.h>
+
+#define FRAME_CODER_VERSION "0.2.0"
+
+#ifdef __cplusplus
+extern "C" {
+#endif
+
+/* A function that is written out here; a program need not use it. */
+#ifdef __GNUC__
+#define CODER_INLINE static inline __attribute__((unused))
+#else
+#define CODER_INLINE static inline
+#endif
+
+/* The largest lengths, over all kinds and grades. */
+#define CODER_MAX_MESSAGE_LENGTH 20 /* bytes */
+#define CODER_MAX_FRAME_LENGTH 32   /* coordinates */
+
+/* A reading takes coordinates from minus this to this. */
+#define CODER_MAX_COORDINATE 1048576
+
+/* An account with so many frames is full. */
+#define CODER_MAX_COUNT 1000000
+
+/* The coordinates of a kind, the message bits and the message bytes of a kind and grade, as constants where kind and grade are;
+ * 0 where there is no such kind or grade. An argument may be evaluated more than once. */
+#define CODER_FRAME_LENGTH(kind) ((kind) == 3 ? 8 : (kind) == 4 ? 16 : (kind) == 5 ? 32 : 0)
+#define CODER_MESSAGE_BITS(kind, grade)                                                  \
+    ((grade) < 1 || (grade) > 4 ? 0 : (kind) == 3 ? 4 + 8 * (grade)                      \
+                                  : (kind) == 4   ? 20 + 16 * (grade)                    \
+                                  : (kind) == 5   ? 32 + 32 * (grade)                    \
+                                                  : 0)
+#define CODER_MESSAGE_LENGTH(kind, grade) ((CODER_MESSAGE_BITS(kind, grade) + 7) / 8)
+
+/* The same as functions. */
+CODER_INLINE size_t coder_frame_length(int kind)
+{
+    return (size_t)CODER_FRAME_LENGTH(kind);
+}
+
+CODER_INLINE size_t coder_message_bits(int kind, int grade)
+{
+    return (size_t)CODER_MESSAGE_BITS(kind, grade);
+}
+
+CODER_INLINE size_t coder_message_length(int kind, int grade)
+{
+    return (size_t)CODER_MESSAGE_LENGTH(kind, grade);
+}
+
+/* The numbers of the refusals. Sending tests 1, 2, 3, 4, 5, and with an account 11; reading tests 1, 2, 4, 3, then 6 over all
+ * coordinates, then 7, 8, and if it is strict 9. The first that holds is answered. (10 and 12 are refusals of a sheet.) */
+enum coder_refusal {
+    CODER_REFUSED_KIND = 1,           /* the kind is not 3, 4 or 5 */
+    CODER_REFUSED_GRADE = 2,          /* the grade is not 1 to 4 */
+    CODER_REFUSED_MESSAGE_LENGTH = 3, /* the message bytes lent differ from the kind's and grade's */
+    CODER_REFUSED_FRAME_LENGTH = 4,   /* the coordinates lent differ from the kind's */
+    CODER_REFUSED_SPARE_BITS = 5,     /* sending: a spare bit of the message is set */
+    CODER_REFUSED_OVER_RANGE = 6,     /* reading: a coordinate is outside -1048576 .. 1048576 */
+    CODER_REFUSED_BROKEN_LEVEL_0 = 7, /* reading: the coordinates' bits of weight 1 are not a codeword */
+    CODER_REFUSED_BROKEN_LEVEL_1 = 8, /* reading, kinds 4 and 5: the coordinates' bits of weight 2 are not a codeword */
+    CODER_REFUSED_UNSHAPED = 9,       /* strict reading: the frame is not the one that is sent for its message */
+    CODER_REFUSED_ACCOUNT_FULL = 11   /* sending with an account: the count is 1,000,000 or more */
+};
+
+/* The name of the refusal that an answer tells, in the words of the trade; "none" for an energy. */
+CODER_INLINE const char *coder_refusal_name(int64_t answer)
+{
+    if (answer >= 0)
+        return "none";
+    switch (-answer) {
+    case CODER_REFUSED_KIND: return "kind";
+    case CODER_REFUSED_GRADE: return "grade";
+    case CODER_REFUSED_MESSAGE_LENGTH: return "message length";
+    case CODER_REFUSED_FRAME_LENGTH: return "frame length";
+    case CODER_REFUSED_SPARE_BITS: return "spare bits";
+    case CODER_REFUSED_OVER_RANGE: return "over range";
+    case CODER_REFUSED_BROKEN_LEVEL_0: return "broken level 0";
+    case CODER_REFUSED_BROKEN_LEVEL_1: return "broken level 1";
+    case CODER_REFUSED_UNSHAPED: return "unshaped";
+    case CODER_REFUSED_ACCOUNT_FULL: return "account full";
+    default: return "not known";
+    }
+}
+
+/* Sends a message: writes every coordinate of its frame. */
+int64_t coder_send(uint8_t kind, uint8_t grade, const uint8_t *message, size_t message_len, int32_t *frame, size_t frame_len);
+
+/* The open reading: takes any frame of the coding set with coordinates in range, and writes every byte of its message. */
+int64_t coder_read_open(uint8_t kind, uint8_t grade, const int32_t *frame, size_t frame_len, uint8_t *message, size_t message_len);
+
+/* The strict reading: takes a sent frame alone, and writes every byte of its message. */
+int64_t coder_read_strict(uint8_t kind, uint8_t grade, const int32_t *frame, size_t frame_len, uint8_t *message, size_t message_len);
+
+/* Sends, and on success adds 1 to the count of frames and the frame's power to the sum of powers. An account begins at 0 and 0.0;
+ * the sum of one that grew from there is exact. One from elsewhere is taken as it comes. */
+int64_t coder_send_counted(uint8_t kind, uint8_t grade, const uint8_t *message, size_t message_len, int32_t *frame, size_t frame_len,
+                           uint32_t *count, double *sum);
+
+/* An account: the count of the frames that were sent, and the sum of their powers. */
+struct coder_account {
+    uint32_t count;
+    double sum;
+};
+
+CODER_INLINE struct coder_account coder_account_begin(void)
+{
+    struct coder_account account = {0, 0.0};
+    return account;
+}
+
+/* coder_send_counted with the account as a struct, and with kind and grade tested before they are narrowed. */
+CODER_INLINE int64_t coder_account_send(struct coder_account *account, int kind, int grade, const uint8_t *message,
+                                        size_t message_len, int32_t *frame, size_t frame_len)
+{
+    if (coder_frame_length(kind) == 0)
+        return -CODER_REFUSED_KIND;
+    if (coder_message_length(kind, grade) == 0)
+        return -CODER_REFUSED_GRADE;
+    return coder_send_counted((uint8_t)kind, (uint8_t)grade, message, message_len, frame, frame_len, &account->count, &account->sum);
+}
+
+#ifdef __cplusplus
+}
+#endif
+
+#endif

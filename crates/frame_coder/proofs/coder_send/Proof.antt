@@ -1,0 +1,37 @@
+-- `coder_send` meets its contract: what `send` ensures, in one number. Assumes nothing.
+use Prim.Native.Nat.{ℕ}
+use mathlib.Core.Path.{ap, _∙_}
+use native.Mathlib.Omega.{arith}
+use lib.ListN.{length}
+use mir.Facts.{toZ-ofZ}
+use borrow.Author.Needs.{needs}
+use Rattle.frames.specs.Sending.{frameAfter}
+use Rattle.frame_coder.specs.Answer.{answerOf}
+use Rattle.frame_coder.proofs.Bounds.{sent-fits, send-answer}
+use Rattle.frame_coder.proofs.coder_send.Statement.{statement}
+use Rattle.frame_coder.proofs.coder_send.Tie as tie
+
+send-requires : tie.Need-send-requires
+send-requires c κs = search needs
+
+answer-requires : tie.Need-answer-requires
+answer-requires c κs =
+    let s = c .before .before .before .before .args in
+    let e = c .before .send .ensures in
+    omega (arith, e .1 .1 .0, sent-fits (c .before .send .result .number) (s .kind) (s .grade) (s .message .now) (length (s .frame .now)) (e .0))
+
+same-length : tie.Need-same-length
+same-length c = search needs
+
+returns : tie.Need-returns
+returns c =
+    let s = c .before .before .before .before .before .args in
+    let r = c .before .before .send .result .number in
+    let e = c .before .before .send .ensures in
+    let l = send-answer r (s .kind) (s .grade) (s .message .now) (length (s .frame .now)) (e .0) in (
+      toZ-ofZ (record { sfits = c .answer .ok }) ∙ c .answer .ensures ∙ ap (answerOf r) (e .1 .1 .0) ∙ l,
+      e .1 .0 ∙ ap (λ (n : ℕ). frameAfter n (s .kind) (s .grade) (s .message .now) (s .frame .now)) (e .0),
+    )
+
+pub coder-send-spec : {M : Type 1} → statement M
+coder-send-spec = tie.close (tie.spec send-requires answer-requires same-length returns)

@@ -1,0 +1,76 @@
+// The library as other languages call it: a slice passes as a pointer and a length. `frame_coder.h` says what a caller must keep.
+ghost use mathlib.Core.Path.{_≡_};
+ghost use Prim.Native.Nat.{_≤_, _^_};
+ghost use lib.ListN.{length};
+ghost use Rattle.frame_coder.specs.Answer.{answerOf, sendAnswer, sendFrame, openAnswer, openBytes, strictAnswer, strictBytes};
+ghost use Rattle.frame_coder.specs.Answer.{countedAnswer, frameOf, countOf, sumOf};
+
+// The energy, or minus the refusal number.
+fn answer(number: u8, energy: u64) -> i64
+    requires { ⌜ energy ≤ 2 ^ 46 ⌝ }
+    ensures { λ r. ⌜ r ≡ answerOf number energy ⌝ }
+{
+    if number != 0 {
+        return 0 - number as i64;
+    }
+    energy as i64
+}
+
+// Sending: the energy, or minus the refusal number.
+#[no_mangle]
+pub extern "C" fn coder_send(kind: u8, grade: u8, message: &[u8], frame: &mut [i32]) -> i64
+    ensures answer { λ r. ⌜ r ≡ sendAnswer kind grade (now (message .entry)) (length (now (frame .entry))) ⌝ }
+    ensures frame { λ r. ⌜ now (frame .exit) ≡ sendFrame kind grade (now (message .entry)) (now (frame .entry)) ⌝ }
+{
+    let r = sending::send(kind, grade, message, frame);
+    answer(r.number, r.energy)
+}
+
+// The open reading: the energy, or minus the refusal number.
+#[no_mangle]
+pub extern "C" fn coder_read_open(kind: u8, grade: u8, frame: &[i32], message: &mut [u8]) -> i64
+    ensures answer { λ r. ⌜ r ≡ openAnswer kind grade (now (frame .entry)) (length (now (message .entry))) ⌝ }
+    ensures message { λ r. ⌜ now (message .exit) ≡ openBytes kind grade (now (frame .entry)) (now (message .entry)) ⌝ }
+{
+    let r = reading::read_open(kind, grade, frame, message);
+    answer(r.number, r.energy)
+}
+
+// The strict reading: the energy, or minus the refusal number.
+#[no_mangle]
+pub extern "C" fn coder_read_strict(kind: u8, grade: u8, frame: &[i32], message: &mut [u8]) -> i64
+    ensures answer { λ r. ⌜ r ≡ strictAnswer kind grade (now (frame .entry)) (length (now (message .entry))) ⌝ }
+    ensures message { λ r. ⌜ now (message .exit) ≡ strictBytes kind grade (now (frame .entry)) (now (message .entry)) ⌝ }
+{
+    let r = reading::read_strict(kind, grade, frame, message);
+    answer(r.number, r.energy)
+}
+
+// Sending with an account that is held in two lent numbers, stored to on success only: the energy, or minus the refusal number.
+#[no_mangle]
+pub extern "C" fn coder_send_counted(
+    kind: u8,
+    grade: u8,
+    message: &[u8],
+    frame: &mut [i32],
+    count: &mut u32,
+    sum: &mut f64,
+) -> i64
+    ensures answer { λ r. ⌜ r ≡ countedAnswer kind grade (now (message .entry)) (now (frame .entry)) (now (count .entry)) (now (sum .entry)) ⌝ }
+    ensures frame { λ r. ⌜ now (frame .exit) ≡ frameOf kind grade (now (message .entry)) (now (frame .entry)) (now (count .entry)) (now (sum .entry)) ⌝ }
+    ensures count { λ r. ⌜ now (count .exit) ≡ countOf kind grade (now (message .entry)) (now (frame .entry)) (now (count .entry)) (now (sum .entry)) ⌝ }
+    ensures sum { λ r. ⌜ now (sum .exit) ≡ sumOf kind grade (now (message .entry)) (now (frame .entry)) (now (count .entry)) (now (sum .entry)) ⌝ }
+{
+    let before = account::Account {
+        count: *count,
+        sum: *sum,
+    };
+    let r = account::send_counted(kind, grade, message, frame, before);
+    if r.number != 0 {
+        return answer(r.number, 0);
+    }
+    let after = r.account;
+    *count = after.count;
+    *sum = after.sum;
+    answer(0, r.energy)
+}

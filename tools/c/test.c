@@ -1,0 +1,131 @@
+/* Tests what frame_coder.h and block.h promise a C caller beyond the contracts: lengths by kind and grade, refusals and their names,
+ * pointers that are not looked at where the length is 0, int arguments, the account as a struct. Every buffer is on the heap with its
+ * exact length, so that valgrind sees a byte too far. It ends with status 1 where something differs. */
+#include <inttypes.h>
+#include <stdio.h>
+#include <stdlib.h>
+#include <string.h>
+#include "block.h"
+#include "frame_coder.h"
+
+static unsigned long calls, wrong;
+
+static void expect(const char *what, int kind, int grade, int64_t answer, int64_t expected)
+{
+    calls++;
+    if (answer == expected)
+        return;
+    wrong++;
+    printf("%s, kind %d, grade %d: %" PRId64 " and not %" PRId64 "\n", what, kind, grade, answer, expected);
+}
+
+static void *room(size_t size)
+{
+    void *room = calloc(size > 0 ? size : 1, 1);
+    if (room == NULL)
+        exit(2);
+    return room;
+}
+
+/* Nothing is lent, with a pointer to nowhere. */
+static void empty(int kind, int grade, void *nowhere)
+{
+    const uint8_t k = (uint8_t)kind, g = (uint8_t)grade;
+    const size_t bytes = coder_message_length(kind, grade), coordinates = coder_frame_length(kind);
+    const int early = coordinates == 0 ? CODER_REFUSED_KIND : bytes == 0 ? CODER_REFUSED_GRADE : 0;
+    const int no_message = early != 0 ? -early : -CODER_REFUSED_MESSAGE_LENGTH;
+    const int no_frame = early != 0 ? -early : -CODER_REFUSED_FRAME_LENGTH;
+    uint8_t *message = (uint8_t *)room(bytes), *lost = (uint8_t *)nowhere;
+    int32_t *frame = (int32_t *)room(coordinates * sizeof *frame), *gone = (int32_t *)nowhere;
+    struct coder_account account = coder_account_begin();
+    expect("send, no message", kind, grade, coder_send(k, g, lost, 0, frame, coordinates), no_message);
+    expect("send, no frame", kind, grade, coder_send(k, g, message, bytes, gone, 0), no_frame);
+    expect("send, neither", kind, grade, coder_send(k, g, lost, 0, gone, 0), no_message);
+    expect("open, no frame", kind, grade, coder_read_open(k, g, gone, 0, message, bytes), no_frame);
+    expect("open, no message", kind, grade, coder_read_open(k, g, frame, coordinates, lost, 0), no_message);
+    expect("open, neither", kind, grade, coder_read_open(k, g, gone, 0, lost, 0), no_frame);
+    expect("strict, no frame", kind, grade, coder_read_strict(k, g, gone, 0, message, bytes), no_frame);
+    expect("strict, no message", kind, grade, coder_read_strict(k, g, frame, coordinates, lost, 0), no_message);
+    expect("strict, neither", kind, grade, coder_read_strict(k, g, gone, 0, lost, 0), no_frame);
+    expect("counted, no message", kind, grade,
+           coder_send_counted(k, g, lost, 0, frame, coordinates, &account.count, &account.sum), no_message);
+    expect("account, no frame", kind, grade, coder_account_send(&account, kind, grade, message, bytes, gone, 0), no_frame);
+    expect("account, kind", kind, grade, coder_account_send(&account, kind + 256, grade, message, bytes, frame, coordinates),
+           -CODER_REFUSED_KIND);
+    if (coordinates != 0)
+        expect("account, grade", kind, grade, coder_account_send(&account, kind, grade - 256, message, bytes, frame, coordinates),
+               -CODER_REFUSED_GRADE);
+    expect("account kept", kind, grade, account.count != 0 || account.sum != 0.0, 0);
+    free(message);
+    free(frame);
+}
+
+/* A random message, sent and read back. */
+static void there_and_back(int kind, int grade)
+{
+    const uint8_t k = (uint8_t)kind, g = (uint8_t)grade;
+    const size_t bytes = coder_message_length(kind, grade), coordinates = coder_frame_length(kind);
+    uint8_t *message = (uint8_t *)room(bytes), *back = (uint8_t *)room(bytes);
+    int32_t *frame = (int32_t *)room(coordinates * sizeof *frame);
+    struct coder_account account = coder_account_begin();
+    int64_t energy = 0;
+    for (size_t i = 0; i < bytes; i++)
+        message[i] = (uint8_t)(rand() >> 7);
+    if (coder_message_bits(kind, grade) % 8 != 0)
+        message[bytes - 1] &= (uint8_t)((1u << coder_message_bits(kind, grade) % 8) - 1);
+    const int64_t answer = coder_account_send(&account, kind, grade, message, bytes, frame, coordinates);
+    for (size_t p = 0; p < coordinates; p++) {
+        energy += (int64_t)frame[p] * frame[p];
+        expect("range", kind, grade, frame[p] < -64 || frame[p] > 64, 0);
+    }
+    expect("energy", kind, grade, answer, energy);
+    expect("account", kind, grade, account.count == 1 && account.sum == (double)energy / (double)coordinates, 1);
+    expect("open", kind, grade, coder_read_open(k, g, frame, coordinates, back, bytes), energy);
+    expect("open message", kind, grade, memcmp(back, message, bytes), 0);
+    memset(back, 0xA5, bytes);
+    expect("strict", kind, grade, coder_read_strict(k, g, frame, coordinates, back, bytes), energy);
+    expect("strict message", kind, grade, memcmp(back, message, bytes), 0);
+    if (coder_message_bits(kind, grade) % 8 != 0) {
+        message[bytes - 1] |= 0x80;
+        expect("spare", kind, grade, coder_send(k, g, message, bytes, frame, coordinates), -CODER_REFUSED_SPARE_BITS);
+    }
+    free(message);
+    free(back);
+    free(frame);
+}
+
+int main(void)
+{
+    static const struct {
+        int kind, grade, coordinates, bytes;
+    } lengths[] = {{3, 1, 8, 2}, {3, 2, 8, 3}, {3, 3, 8, 4}, {3, 4, 8, 5}, {4, 1, 16, 5}, {4, 2, 16, 7}, {4, 3, 16, 9},
+                   {4, 4, 16, 11}, {5, 1, 32, 8}, {5, 2, 32, 12}, {5, 3, 32, 16}, {5, 4, 32, 20}, {2, 1, 0, 0}, {6, 1, 0, 0},
+                   {3, 0, 8, 0}, {3, 5, 8, 0}, {259, 1, 0, 0}, {3, 257, 8, 0}, {-253, 1, 0, 0}, {3, -255, 8, 0}};
+    for (size_t i = 0; i < sizeof lengths / sizeof lengths[0]; i++) {
+        const int kind = lengths[i].kind, grade = lengths[i].grade;
+        expect("frame length", kind, grade, (int64_t)coder_frame_length(kind), lengths[i].coordinates);
+        expect("message length", kind, grade, (int64_t)coder_message_length(kind, grade), lengths[i].bytes);
+    }
+
+    static const char *const names[] = {"none", "kind", "grade", "message length", "frame length", "spare bits", "over range",
+                                        "broken level 0", "broken level 1", "unshaped", "not known", "account full", "not known"};
+    for (int number = 0; number <= 12; number++)
+        expect("name", 0, number, strcmp(coder_refusal_name(-number), names[number]), 0);
+
+    void *const nowhere[] = {NULL, (void *)1, (void *)UINTPTR_MAX};
+    for (size_t i = 0; i < 3; i++) {
+        for (int kind = 0; kind < 256; kind++)
+            for (int grade = 0; grade < 256; grade += kind >= 2 && kind <= 6 ? 1 : 51)
+                empty(kind, grade, nowhere[i]);
+        int32_t block[8] = {0}, *gone = (int32_t *)nowhere[i];
+        expect("block", 0, 0, block_least(1, gone, 0, block, 8), 0);
+        expect("block", 0, 0, block_least(1, block, 8, gone, 0), 0);
+        expect("block", 0, 0, block_least(1, gone, 0, gone, 0), 0);
+    }
+    for (int turn = 0; turn < 100; turn++)
+        for (int kind = 3; kind <= 5; kind++)
+            for (int grade = 1; grade <= 4; grade++)
+                there_and_back(kind, grade);
+    printf("%lu tests, %lu wrong\n", calls, wrong);
+    return wrong != 0;
+}

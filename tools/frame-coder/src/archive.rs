@@ -1,0 +1,39 @@
+//! The archive's functions, as `crates/frame_coder/frame_coder.h` has them: a slice is a pointer and
+//! a length; the answer is the energy, or minus the number of the refusal.
+
+extern "C" {
+    pub fn coder_send(
+        kind: u8,
+        grade: u8,
+        message: *const u8,
+        message_len: usize,
+        frame: *mut i32,
+        frame_len: usize,
+    ) -> i64;
+    pub fn coder_read_open(
+        kind: u8,
+        grade: u8,
+        frame: *const i32,
+        frame_len: usize,
+        message: *mut u8,
+        message_len: usize,
+    ) -> i64;
+    pub fn coder_read_strict(
+        kind: u8,
+        grade: u8,
+        frame: *const i32,
+        frame_len: usize,
+        message: *mut u8,
+        message_len: usize,
+    ) -> i64;
+    pub fn coder_send_counted(
+        kind: u8,
+        grade: u8,
+        message: *const u8,
+        message_len: usize,
+        frame: *mut i32,
+        frame_len: usize,
+        count: *mut u32,
+        sum: *mut f64,
+    ) -> i64;
+}

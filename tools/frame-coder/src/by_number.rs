@@ -1,0 +1,90 @@
+//! The functions with kind and grade as the bytes that stand in a record: wrong ones are refused too,
+//! before anything else.
+//!
+//! ```
+//! use frame_coder::{by_number, Refusal};
+//!
+//! let mut frame = [0; 8];
+//! assert_eq!(by_number::send(3, 1, &[0x02, 0x00], &mut frame), Ok(4));
+//! assert_eq!(by_number::send(6, 1, &[0x02, 0x00], &mut frame), Err(Refusal::Kind));
+//! assert_eq!(by_number::send(3, 5, &[0x02, 0x00], &mut frame), Err(Refusal::Grade));
+//! assert_eq!(frame, [0, 1, 0, 1, 0, 1, 0, 1]);
+//! ```
+
+use crate::{archive, Account, Refusal};
+
+/// The energy, or the refusal that a negative answer tells.
+fn answer(number: i64) -> Result<u64, Refusal> {
+    if let Ok(energy) = u64::try_from(number) {
+        return Ok(energy);
+    }
+    match u8::try_from(number.unsigned_abs()).map(Refusal::try_from) {
+        Ok(Ok(refusal)) => Err(refusal),
+        _ => panic!("the archive answered {number}, which version {} does not know", crate::VERSION),
+    }
+}
+
+/// As [`crate::send`].
+///
+/// # Errors
+///
+/// In this order: kind, grade, the message's length, the frame's length, spare bits.
+pub fn send(kind: u8, grade: u8, message: &[u8], frame: &mut [i32]) -> Result<u64, Refusal> {
+    // SAFETY: both slices are lent for the call, the frame alone; the lengths are theirs.
+    answer(unsafe {
+        archive::coder_send(kind, grade, message.as_ptr(), message.len(), frame.as_mut_ptr(), frame.len())
+    })
+}
+
+/// As [`crate::read_open`].
+///
+/// # Errors
+///
+/// In this order: kind, grade, the frame's length, the message's length, a coordinate over range, a
+/// broken level.
+pub fn read_open(kind: u8, grade: u8, frame: &[i32], message: &mut [u8]) -> Result<u64, Refusal> {
+    // SAFETY: both slices are lent for the call, the message alone; the lengths are theirs.
+    answer(unsafe {
+        archive::coder_read_open(kind, grade, frame.as_ptr(), frame.len(), message.as_mut_ptr(), message.len())
+    })
+}
+
+/// As [`crate::read_strict`].
+///
+/// # Errors
+///
+/// As [`read_open`], and last a frame that is not the one that is sent.
+pub fn read_strict(kind: u8, grade: u8, frame: &[i32], message: &mut [u8]) -> Result<u64, Refusal> {
+    // SAFETY: both slices are lent for the call, the message alone; the lengths are theirs.
+    answer(unsafe {
+        archive::coder_read_strict(kind, grade, frame.as_ptr(), frame.len(), message.as_mut_ptr(), message.len())
+    })
+}
+
+/// As [`Account::send`].
+///
+/// # Errors
+///
+/// As [`send`], and last an account that is full.
+pub fn send_counted(
+    kind: u8,
+    grade: u8,
+    message: &[u8],
+    frame: &mut [i32],
+    account: &mut Account,
+) -> Result<u64, Refusal> {
+    // SAFETY: all is lent for the call, the frame and the account's two parts each alone; the lengths
+    // are the slices'.
+    answer(unsafe {
+        archive::coder_send_counted(
+            kind,
+            grade,
+            message.as_ptr(),
+            message.len(),
+            frame.as_mut_ptr(),
+            frame.len(),
+            &mut account.count,
+            &mut account.sum,
+        )
+    })
+}

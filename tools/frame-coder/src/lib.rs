@@ -1,0 +1,133 @@
+//! The frame coder's static library for Rust: safe functions over its proved ones.
+//!
+//! A message of 2 to 20 bytes becomes a frame of 8, 16 or 32 whole numbers, by [`send`]; a reading
+//! gives the message back: [`read_open`] of any frame of the coding set, [`read_strict`] of the one
+//! that is sent alone. Each gives the frame's energy, the sum of the squares of its coordinates. The
+//! power of a frame is its energy divided by the number of coordinates; an [`Account`] adds it up.
+//!
+//! ```
+//! use frame_coder::{read_open_to_vec, read_strict_to_vec, send_to_vec, Grade, Kind, Refusal};
+//!
+//! # fn main() -> Result<(), Refusal> {
+//! let (kind, grade) = (Kind::new(3)?, Grade::new(1)?);
+//! let (mut frame, energy) = send_to_vec(kind, grade, &[0x00, 0x08])?;
+//! assert_eq!((&frame[..], energy), (&[-4, 0, 0, 0, 0, 0, 0, 0][..], 16));
+//! assert_eq!(read_strict_to_vec(kind, grade, &frame)?, (vec![0x00, 0x08], 16));
+//!
+//! // Of the same class and energy, and so of the same message, but not the first in reading order.
+//! frame[0] = 4;
+//! assert_eq!(read_open_to_vec(kind, grade, &frame)?, (vec![0x00, 0x08], 16));
+//! assert_eq!(read_strict_to_vec(kind, grade, &frame), Err(Refusal::Unshaped));
+//! # Ok(())
+//! # }
+//! ```
+//!
+//! A message's bit k is bit k mod 8, lowest first, of byte k div 8. Bits past the last
+//! ([`message_bits`]) are spare and must be 0. Among frames of least energy the first in reading
+//! order is sent: at the first coordinate where two differ, the smaller comes first.
+//!
+//! Bad input is refused with a [`Refusal`], and what was lent is then as it was.
+//!
+//! # Panics
+//!
+//! No function panics with the archive of the same version. Should another one answer with a number
+//! that is not known here, the call panics.
+
+mod account;
+mod archive;
+pub mod by_number;
+mod kinds;
+mod refusal;
+
+pub use account::Account;
+pub use kinds::{message_bits, message_length, Grade, Kind, MAX_FRAME_LENGTH, MAX_MESSAGE_LENGTH};
+pub use refusal::{Refusal, UnknownNumber};
+
+/// The version, which `frame_coder.h` has too.
+pub const VERSION: &str = env!("CARGO_PKG_VERSION");
+
+/// A reading takes coordinates from minus this to this.
+pub const MAX_COORDINATE: i32 = 1_048_576;
+
+/// Sends: fills the frame of the message, and gives its energy.
+///
+/// ```
+/// use frame_coder::{message_length, send, Grade, Kind};
+///
+/// const KIND: Kind = Kind::Four;
+/// const GRADE: Grade = Grade::One;
+/// let mut message = [0; message_length(KIND, GRADE)];
+/// message[0] = 0x20;
+/// let mut frame = [0; KIND.frame_length()];
+/// assert_eq!(send(KIND, GRADE, &message, &mut frame), Ok(64));
+/// assert_eq!(frame, [-2; 16]);
+/// ```
+///
+/// # Errors
+///
+/// In this order: the message's length, the frame's length, spare bits.
+pub fn send(kind: Kind, grade: Grade, message: &[u8], frame: &mut [i32]) -> Result<u64, Refusal> {
+    by_number::send(kind.number(), grade.number(), message, frame)
+}
+
+/// Reads any frame of the coding set: fills its message, and gives the frame's energy.
+///
+/// ```
+/// use frame_coder::{read_open, Grade, Kind, Refusal};
+///
+/// let mut message = [0; 2];
+/// let mut frame = [0, 2, 0, 0, 0, 0, 0, 0];
+/// assert_eq!(read_open(Kind::Three, Grade::One, &frame, &mut message), Ok(4));
+/// assert_eq!(message, [0x10, 0x00]);
+/// frame[0] = 1;
+/// assert_eq!(read_open(Kind::Three, Grade::One, &frame, &mut message), Err(Refusal::BrokenLevel0));
+/// ```
+///
+/// # Errors
+///
+/// In this order: the frame's length, the message's length, a coordinate over range, a broken level.
+pub fn read_open(kind: Kind, grade: Grade, frame: &[i32], message: &mut [u8]) -> Result<u64, Refusal> {
+    by_number::read_open(kind.number(), grade.number(), frame, message)
+}
+
+/// Reads a sent frame alone: fills its message, and gives the frame's energy.
+///
+/// # Errors
+///
+/// As [`read_open`], and last [`Refusal::Unshaped`] for a frame that is not the one that is sent.
+pub fn read_strict(kind: Kind, grade: Grade, frame: &[i32], message: &mut [u8]) -> Result<u64, Refusal> {
+    by_number::read_strict(kind.number(), grade.number(), frame, message)
+}
+
+/// Sends: the frame of the message, and its energy.
+///
+/// # Errors
+///
+/// As [`send`], but for the frame's length.
+pub fn send_to_vec(kind: Kind, grade: Grade, message: &[u8]) -> Result<(Vec<i32>, u64), Refusal> {
+    let mut frame = vec![0; kind.frame_length()];
+    let energy = send(kind, grade, message, &mut frame)?;
+    Ok((frame, energy))
+}
+
+/// Reads any frame of the coding set: its message, and the frame's energy.
+///
+/// # Errors
+///
+/// As [`read_open`], but for the message's length.
+pub fn read_open_to_vec(kind: Kind, grade: Grade, frame: &[i32]) -> Result<(Vec<u8>, u64), Refusal> {
+    let mut message = vec![0; message_length(kind, grade)];
+    let energy = read_open(kind, grade, frame, &mut message)?;
+    Ok((message, energy))
+}
+
+/// Reads a sent frame alone: its message, and the frame's energy.
+///
+/// # Errors
+///
+/// As [`read_strict`], but for the message's length.
+pub fn read_strict_to_vec(kind: Kind, grade: Grade, frame: &[i32]) -> Result<(Vec<u8>, u64), Refusal> {
+    let mut message = vec![0; message_length(kind, grade)];
+    let energy = read_strict(kind, grade, frame, &mut message)?;
+    Ok((message, energy))
+}

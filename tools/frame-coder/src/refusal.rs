@@ -1,0 +1,114 @@
+//! The refusals.
+
+use std::error::Error;
+use std::fmt::{Display, Formatter};
+
+/// Why the library refuses, by the numbers of document 01 that can occur here (10 and 12 are refusals
+/// of a sheet).
+///
+/// ```
+/// use frame_coder::Refusal;
+///
+/// assert_eq!(Refusal::SpareBits.number(), 5);
+/// assert_eq!(Refusal::SpareBits.to_string(), "refused 5: a spare bit of the message is set");
+/// assert_eq!(Refusal::try_from(5), Ok(Refusal::SpareBits));
+/// assert_eq!(Refusal::try_from(10).unwrap_err().to_string(), "10 is the number of no refusal here");
+/// ```
+#[derive(Clone, Copy, Debug, PartialEq, Eq, PartialOrd, Ord, Hash)]
+#[repr(u8)]
+#[non_exhaustive]
+pub enum Refusal {
+    /// The kind is not 3, 4 or 5.
+    Kind = 1,
+    /// The grade is not 1 to 4.
+    Grade = 2,
+    /// The message bytes differ from [`message_length`](crate::message_length).
+    MessageLength = 3,
+    /// The coordinates differ from [`Kind::frame_length`](crate::Kind::frame_length).
+    FrameLength = 4,
+    /// Sending: a spare bit of the message is set.
+    SpareBits = 5,
+    /// Reading: a coordinate is over [`MAX_COORDINATE`](crate::MAX_COORDINATE) in size.
+    OverRange = 6,
+    /// Reading: the coordinates' bits of weight 1 are not a codeword.
+    BrokenLevel0 = 7,
+    /// Reading at kinds 4 and 5: the coordinates' bits of weight 2 are not a codeword.
+    BrokenLevel1 = 8,
+    /// Strict reading: the frame is not the one that is sent for its message.
+    Unshaped = 9,
+    /// Sending with an account: it has 1,000,000 frames or more.
+    AccountFull = 11,
+}
+
+impl Refusal {
+    /// All refusals, in order of their numbers.
+    pub const ALL: &'static [Refusal] = &[
+        Refusal::Kind,
+        Refusal::Grade,
+        Refusal::MessageLength,
+        Refusal::FrameLength,
+        Refusal::SpareBits,
+        Refusal::OverRange,
+        Refusal::BrokenLevel0,
+        Refusal::BrokenLevel1,
+        Refusal::Unshaped,
+        Refusal::AccountFull,
+    ];
+
+    /// Its number.
+    #[must_use]
+    pub const fn number(self) -> u8 {
+        self as u8
+    }
+
+    /// The reason in words.
+    #[must_use]
+    pub const fn reason(self) -> &'static str {
+        match self {
+            Refusal::Kind => "the kind is not 3, 4 or 5",
+            Refusal::Grade => "the grade is not 1 to 4",
+            Refusal::MessageLength => "the message has not the length of its kind and grade",
+            Refusal::FrameLength => "the frame has not the length of its kind",
+            Refusal::SpareBits => "a spare bit of the message is set",
+            Refusal::OverRange => "a coordinate is outside -1048576 to 1048576",
+            Refusal::BrokenLevel0 => "level 0 of the frame is not a codeword",
+            Refusal::BrokenLevel1 => "level 1 of the frame is not a codeword",
+            Refusal::Unshaped => "the frame is not the one that is sent for its message",
+            Refusal::AccountFull => "the account is full",
+        }
+    }
+}
+
+impl Display for Refusal {
+    fn fmt(&self, out: &mut Formatter<'_>) -> std::fmt::Result {
+        write!(out, "refused {}: {}", self.number(), self.reason())
+    }
+}
+
+impl Error for Refusal {}
+
+/// A number that no refusal here has.
+#[derive(Clone, Copy, Debug, PartialEq, Eq, Hash)]
+pub struct UnknownNumber(pub u8);
+
+impl Display for UnknownNumber {
+    fn fmt(&self, out: &mut Formatter<'_>) -> std::fmt::Result {
+        write!(out, "{} is the number of no refusal here", self.0)
+    }
+}
+
+impl Error for UnknownNumber {}
+
+impl TryFrom<u8> for Refusal {
+    type Error = UnknownNumber;
+
+    fn try_from(number: u8) -> Result<Refusal, UnknownNumber> {
+        Refusal::ALL.iter().copied().find(|refusal| refusal.number() == number).ok_or(UnknownNumber(number))
+    }
+}
+
+impl From<Refusal> for u8 {
+    fn from(refusal: Refusal) -> u8 {
+        refusal.number()
+    }
+}

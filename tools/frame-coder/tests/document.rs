@@ -1,0 +1,148 @@
+//! The cases of document 01, through the static library.
+
+use frame_coder::{
+    by_number, message_bits, message_length, read_open, read_open_to_vec, read_strict, read_strict_to_vec, send,
+    send_to_vec, Account, Grade, Kind, Refusal, MAX_COORDINATE, MAX_FRAME_LENGTH, MAX_MESSAGE_LENGTH,
+};
+
+#[test]
+fn exam_frames() {
+    let table: [(Kind, &[u8], &[i32], u64); 10] = [
+        (Kind::Three, &[0x00, 0x00], &[0; 8], 0),
+        (Kind::Three, &[0x01, 0x00], &[-1; 8], 8),
+        (Kind::Three, &[0x02, 0x00], &[0, 1, 0, 1, 0, 1, 0, 1], 4),
+        (Kind::Three, &[0x10, 0x00], &[0, 2, 0, 0, 0, 0, 0, 0], 4),
+        (Kind::Three, &[0x00, 0x04], &[0, 0, 0, 0, 0, 0, 0, 2], 4),
+        (Kind::Three, &[0x10, 0x04], &[0, -2, 0, 0, 0, 0, 0, -2], 8),
+        (Kind::Three, &[0x00, 0x08], &[-4, 0, 0, 0, 0, 0, 0, 0], 16),
+        (Kind::Three, &[0xF0, 0x07], &[-2, 0, 0, 0, 0, 0, 0, 0], 4),
+        (Kind::Four, &[0x01, 0, 0, 0, 0], &[1; 16], 16),
+        (Kind::Four, &[0x20, 0, 0, 0, 0], &[-2; 16], 64),
+    ];
+    for (kind, message, frame, energy) in table {
+        let mut sent = vec![99; frame.len()];
+        assert_eq!(send(kind, Grade::One, message, &mut sent), Ok(energy));
+        assert_eq!(sent, frame);
+        assert_eq!(send_to_vec(kind, Grade::One, message), Ok((sent, energy)));
+        for read in [read_open, read_strict] {
+            let mut back = vec![99; message.len()];
+            assert_eq!(read(kind, Grade::One, frame, &mut back), Ok(energy));
+            assert_eq!(back, message);
+        }
+        for read in [read_open_to_vec, read_strict_to_vec] {
+            assert_eq!(read(kind, Grade::One, frame), Ok((message.to_vec(), energy)));
+        }
+    }
+}
+
+#[test]
+fn further_cases() {
+    let mut message = [99; 5];
+    assert_eq!(read_strict(Kind::Four, Grade::One, &[2; 16], &mut message), Err(Refusal::Unshaped));
+    assert_eq!(message, [99; 5]);
+    assert_eq!(read_open(Kind::Four, Grade::One, &[2; 16], &mut message), Ok(64));
+    assert_eq!(message, [0x20, 0, 0, 0, 0]);
+    let mut frame = [1, 0, 0, 0, 0, 0, 0, 0];
+    assert_eq!(read_open(Kind::Three, Grade::One, &frame, &mut [0; 2]), Err(Refusal::BrokenLevel0));
+    assert_eq!(send(Kind::Three, Grade::One, &[0x00, 0x10], &mut frame), Err(Refusal::SpareBits));
+    assert_eq!(frame, [1, 0, 0, 0, 0, 0, 0, 0]);
+    frame[0] = MAX_COORDINATE;
+    assert_eq!(read_open(Kind::Three, Grade::One, &frame, &mut [0; 2]), Ok(1 << 40));
+    frame[0] = MAX_COORDINATE + 1;
+    assert_eq!(read_open(Kind::Three, Grade::One, &frame, &mut [0; 2]), Err(Refusal::OverRange));
+    assert_eq!(read_strict(Kind::Three, Grade::One, &frame, &mut [0; 2]), Err(Refusal::OverRange));
+}
+
+#[test]
+fn refusals_in_order() {
+    let mut frame = [7; 9];
+    assert_eq!(by_number::send(2, 0, &[0; 9], &mut frame), Err(Refusal::Kind));
+    assert_eq!(by_number::send(3, 5, &[0; 9], &mut frame), Err(Refusal::Grade));
+    assert_eq!(by_number::send(3, 1, &[255; 9], &mut frame), Err(Refusal::MessageLength));
+    assert_eq!(by_number::send(3, 1, &[255; 2], &mut frame), Err(Refusal::FrameLength));
+    assert_eq!(frame, [7; 9]);
+    assert_eq!(by_number::read_open(4, 1, &frame, &mut [0; 9]), Err(Refusal::FrameLength));
+    assert_eq!(by_number::read_open(4, 1, &[7; 16], &mut [0; 9]), Err(Refusal::MessageLength));
+    let mut broken = [0; 16];
+    broken[0] = 2;
+    assert_eq!(by_number::read_open(4, 1, &broken, &mut [0; 5]), Err(Refusal::BrokenLevel1));
+}
+
+#[test]
+fn kinds_and_grades() {
+    for kind in 0..=255 {
+        for grade in 0..=255 {
+            let known = Kind::try_from(kind).and_then(|kind| Ok((kind, Grade::try_from(grade)?)));
+            let refusal = known.err().unwrap_or(Refusal::FrameLength);
+            assert_eq!(by_number::read_open(kind, grade, &[], &mut []), Err(refusal));
+            if let Ok((k, g)) = known {
+                assert_eq!((k.number(), g.number()), (kind, grade));
+            }
+        }
+    }
+    let lengths = Kind::ALL.iter().flat_map(|&kind| Grade::ALL.iter().map(move |&grade| (kind, grade)));
+    assert_eq!(lengths.clone().count(), 12);
+    for (kind, grade) in lengths {
+        let (bits, bytes) = (message_bits(kind, grade), message_length(kind, grade));
+        assert!(kind.frame_length() <= MAX_FRAME_LENGTH && bytes <= MAX_MESSAGE_LENGTH);
+        for length in 0..=MAX_MESSAGE_LENGTH + 1 {
+            let sent = send_to_vec(kind, grade, &vec![0; length]);
+            assert_eq!(sent.err(), (length != bytes).then_some(Refusal::MessageLength));
+        }
+        for k in 0..8 * bytes {
+            let mut message = vec![0; bytes];
+            message[k / 8] = 1 << (k % 8);
+            match send_to_vec(kind, grade, &message) {
+                Ok((frame, energy)) if k < bits => {
+                    assert_eq!(frame.iter().map(|x| i64::from(*x).pow(2)).sum::<i64>() as u64, energy);
+                    assert_eq!(read_strict_to_vec(kind, grade, &frame), Ok((message, energy)));
+                }
+                sent => assert_eq!((sent, k < bits), (Err(Refusal::SpareBits), false)),
+            }
+        }
+    }
+}
+
+#[test]
+fn account() {
+    let mut account = Account::begin();
+    assert_eq!(account, Account::default());
+    let mut frame = [0; 8];
+    let mut send = |account: &mut Account, message: [u8; 2]| {
+        let answer = account.send(Kind::Three, Grade::One, &message, &mut frame);
+        (answer, frame)
+    };
+    let sent = [0, 1, 0, 1, 0, 1, 0, 1];
+    assert_eq!(send(&mut account, [0x02, 0x00]), (Ok(4), sent));
+    assert_eq!(account, Account::from_parts(1, 0.5));
+    assert_eq!(send(&mut account, [0x00, 0x10]), (Err(Refusal::SpareBits), sent));
+    assert_eq!(account, Account::from_parts(1, 0.5));
+    for count in [Account::MAX_COUNT, u32::MAX] {
+        let full = Account::from_parts(count, -1.5);
+        account = full;
+        assert!(account.is_full());
+        assert_eq!(send(&mut account, [0x00, 0x10]), (Err(Refusal::SpareBits), sent));
+        assert_eq!(send(&mut account, [0x00, 0x00]), (Err(Refusal::AccountFull), sent));
+        assert_eq!(account, full);
+    }
+    account = Account::from_parts(999_999, 0.25);
+    assert!(!account.is_full());
+    assert_eq!(send(&mut account, [0x00, 0x00]), (Ok(0), [0; 8]));
+    assert_eq!((account.count(), account.sum(), account.is_full()), (1_000_000, 0.25, true));
+    let mut account = Account::begin();
+    assert_eq!(account.send_to_vec(Kind::Three, Grade::One, &[0x00, 0x04]), Ok((vec![0, 0, 0, 0, 0, 0, 0, 2], 4)));
+    assert_eq!((account.count(), account.sum()), (1, 0.5));
+}
+
+#[test]
+fn refusals() {
+    for number in 0..=255 {
+        match Refusal::try_from(number) {
+            Ok(refusal) => assert_eq!((refusal.number(), u8::from(refusal)), (number, number)),
+            Err(unknown) => assert_eq!(unknown.0, number),
+        }
+    }
+    let numbers: Vec<u8> = Refusal::ALL.iter().map(|refusal| refusal.number()).collect();
+    assert_eq!(numbers, [1, 2, 3, 4, 5, 6, 7, 8, 9, 11]);
+    assert_eq!(Refusal::Unshaped.to_string(), "refused 9: the frame is not the one that is sent for its message");
+}
