@@ -1,0 +1,47 @@
+/* Reads lines `kind grade energy coordinates`, as a listing has them, and prints what the two readings say of each frame. */
+#include <stdio.h>
+#include <stdlib.h>
+#include "frame_coder.h"
+
+static void show(const char *reading, int64_t answer, const uint8_t *message, size_t length)
+{
+    if (answer < 0) {
+        printf("%s refused %d (%s)", reading, (int)-answer, coder_refusal_name(answer));
+        return;
+    }
+    printf("%s energy %lld, message", reading, (long long)answer);
+    for (size_t i = 0; i < length; i++)
+        printf(" %02X", (unsigned)message[i]);
+}
+
+int main(void)
+{
+    char line[1024];
+    for (int number = 1; fgets(line, sizeof line, stdin); number++) {
+        char *at = line, *end;
+        int head[3]; /* kind, grade, energy; the energy is not used */
+        int32_t frame[CODER_MAX_FRAME_LENGTH + 1];
+        uint8_t message[CODER_MAX_MESSAGE_LENGTH] = {0};
+        size_t n = 0;
+        for (int i = 0; i < 3; i++, at = end)
+            head[i] = (int)strtol(at, &end, 10);
+        for (; n <= CODER_MAX_FRAME_LENGTH; n++, at = end) {
+            long x = strtol(at, &end, 10);
+            if (end == at)
+                break;
+            /* what is too large for int32_t is over range all the same */
+            frame[n] = (int32_t)(x > 2000000 ? 2000000 : x < -2000000 ? -2000000 : x);
+        }
+        size_t length = coder_message_length(head[0], head[1]);
+        printf("line %d: ", number);
+        if (length == 0) {
+            printf("no kind and grade\n");
+            continue;
+        }
+        uint8_t kind = (uint8_t)head[0], grade = (uint8_t)head[1];
+        show("strictly", coder_read_strict(kind, grade, frame, n, message, length), message, length);
+        show("; openly", coder_read_open(kind, grade, frame, n, message, length), message, length);
+        printf("\n");
+    }
+    return 0;
+}
