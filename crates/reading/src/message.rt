@@ -25,7 +25,10 @@ pub fn write_levels(kind: u8, words: [u64; 3], out: &mut [u8])
     let count = kind_table::levels(kind);
     let mut from: usize = 0;
     let mut i: usize = 0;
-    while i < count {
+    while i < 3 {
+        if count <= i {
+            return;
+        }
         let degree = kind_table::degree(kind, i);
         let bits = words[i];
         reed_muller::put_message(bits, m, degree, out, from);

@@ -33,7 +33,10 @@ fn broken_level(kind: u8, words: [u64; 3]) -> u8
     let m = kind as usize;
     let count = kind_table::levels(kind);
     let mut i: usize = 0;
-    while i < count {
+    while i < 3 {
+        if count <= i {
+            return 0;
+        }
         let degree = kind_table::degree(kind, i);
         let bits = words[i];
         if !reed_muller::clear_above(bits, m, degree) {
