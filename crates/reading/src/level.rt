@@ -49,7 +49,7 @@ pub fn level_word(frame: &[i32], i: usize) -> u64
 }
 
 // All levels of a frame, each taken backwards. 0 where there is no such level.
-// Three turns at most, here and below: so many are laid out one by one, and no level waits in memory.
+// Three turns at most: such a loop is compiled turn by turn, and the words stay in registers.
 pub fn level_words(kind: u8, frame: &[i32]) -> [u64; 3]
     requires { ⌜ (isKind kind ≡ true) × (length (now frame) ≡ 2 ^ kind) ⌝ }
     ensures { λ r. ⌜ r ≡ backwardWords kind (now (frame .entry)) ⌝ }

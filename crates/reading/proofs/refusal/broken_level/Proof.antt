@@ -9,7 +9,7 @@ use borrow.Author.Tests.{not-true, not-false}
 use Rattle.reed_muller.specs.Level.{clearAbove}
 use Rattle.bits.proofs.Digits.{digit}
 use Rattle.frames.specs.Kind.{degrees, levels}
-use Rattle.frames.proofs.Limits.{some-level, few-levels, levels-numbered, tabled, degree-fits}
+use Rattle.frames.proofs.Limits.{few-levels, levels-numbered, tabled, degree-fits}
 use Rattle.reading.specs.Words.{brokenIn}
 use Rattle.reading.proofs.Words.{clear-at, broken-at, whole-at, no-more}
 use Rattle.reading.proofs.refusal.broken_level.Statement.{statement}
