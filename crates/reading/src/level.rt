@@ -49,6 +49,7 @@ pub fn level_word(frame: &[i32], i: usize) -> u64
 }
 
 // All levels of a frame, each taken backwards. 0 where there is no such level.
+// Three turns at most: such a loop is compiled turn by turn, and the words stay in registers.
 pub fn level_words(kind: u8, frame: &[i32]) -> [u64; 3]
     requires { ⌜ (isKind kind ≡ true) × (length (now frame) ≡ 2 ^ kind) ⌝ }
     ensures { λ r. ⌜ r ≡ backwardWords kind (now (frame .entry)) ⌝ }
@@ -57,7 +58,10 @@ pub fn level_words(kind: u8, frame: &[i32]) -> [u64; 3]
     let count = kind_table::levels(kind);
     let mut words = [0u64; 3];
     let mut i: usize = 0;
-    while i < count {
+    while i < 3 {
+        if count <= i {
+            return words;
+        }
         words[i] = reed_muller::transformed(level_word(frame, i), m);
         i += 1;
     }

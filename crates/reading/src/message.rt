@@ -17,6 +17,7 @@ ghost use Rattle.reading.specs.Words.{heldMessages, heldMessage};
 ghost use Rattle.reading.specs.Written.{written};
 
 // The bits of the levels, from bit 0 on; the words hold the levels, taken backwards.
+// Three turns at most, as in `level_words`.
 pub fn write_levels(kind: u8, words: [u64; 3], out: &mut [u8])
     requires { ⌜ (isKind kind ≡ true) × (levelBits kind ≤ 8 * length (now out)) ⌝ }
     ensures { λ _. ⌜ now (out .exit) ≡ written 0 (heldMessages kind 0 (degrees kind) words) (now (out .entry)) ⌝ }
@@ -25,7 +26,10 @@ pub fn write_levels(kind: u8, words: [u64; 3], out: &mut [u8])
     let count = kind_table::levels(kind);
     let mut from: usize = 0;
     let mut i: usize = 0;
-    while i < count {
+    while i < 3 {
+        if count <= i {
+            return;
+        }
         let degree = kind_table::degree(kind, i);
         let bits = words[i];
         reed_muller::put_message(bits, m, degree, out, from);

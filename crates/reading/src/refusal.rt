@@ -26,6 +26,7 @@ fn refused(number: u8) -> Tested
 }
 
 // The number of the first level that is not a codeword, 0 where each one is; the words hold the levels, taken backwards.
+// Three turns at most, as in `level_words`.
 fn broken_level(kind: u8, words: [u64; 3]) -> u8
     requires { ⌜ isKind kind ≡ true ⌝ }
     ensures { λ r. ⌜ r ≡ brokenIn kind 0 (degrees kind) words ⌝ }
@@ -33,7 +34,10 @@ fn broken_level(kind: u8, words: [u64; 3]) -> u8
     let m = kind as usize;
     let count = kind_table::levels(kind);
     let mut i: usize = 0;
-    while i < count {
+    while i < 3 {
+        if count <= i {
+            return 0;
+        }
         let degree = kind_table::degree(kind, i);
         let bits = words[i];
         if !reed_muller::clear_above(bits, m, degree) {

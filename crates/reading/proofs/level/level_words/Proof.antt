@@ -25,12 +25,12 @@ abbrev Inv-loop : tie.InvT-loop
 Inv-loop kind frame m count words₀ i₀ words i = (i ≤ count) × (words ≡ filled 3 (back kind frame) i)
 
 abbrev μ-loop : tie.MeasureT-loop
-μ-loop kind frame m count words₀ i₀ words i = count - i
+μ-loop kind frame m count words₀ i₀ words i = 3 - i
 
--- a turn of the loop
-module _ (c : tie.In-loop Inv-loop μ-loop) where
+-- a turn of the loop, past its test
+module _ (c : tie.Else1 Inv-loop μ-loop) where
   abbrev called : tie.After-levels Inv-loop μ-loop
-  called = c .before .before
+  called = c .before .before .before
 
   abbrev s : tie.Start Inv-loop μ-loop
   s = called .before
@@ -42,10 +42,10 @@ module _ (c : tie.In-loop Inv-loop μ-loop) where
   f = s .args .frame .now
 
   abbrev i : ℕ
-  i = c .before .loop .i
+  i = c .before .before .loop .i
 
   inside : i < levels k
-  inside = omega (arith, called .levels .ensures)
+  inside = omega (arith, c .if1 .left, called .levels .ensures)
 
   whole : 8 * (length f / 8) ≡ length f
   whole = ap (λ (n : ℕ). 8 * (n / 8)) (s .pre .1) ∙ whole-blocks k (s .pre .0) ∙ sym (s .pre .1)
@@ -83,21 +83,30 @@ loop-again : tie.Need-loop-again Inv-loop μ-loop
 loop-again c =
     let w = c .before in
     let t = w .before in
-    let l = t .before .loop in (
-      omega arith,
+    let l = t .before .before .loop in (
+      omega (arith, inside t, called t .levels .ensures),
       ap₂ (λ (ws : List ℕ) (x : ℕ). set ws (i t) x) (l .inv .1)
           (c .transformed .ensures ∙ word-backwards (k t) (length (f t)) (i t) (f t) (w .level-word .result) (s t .pre .1) (w .level-word .ensures))
           ∙ filled-more 3 (back (k t) (f t)) (i t) (omega (arith, inside t, few-levels (k t) (s t .pre .0))),
     )
 
+-- no level more
+module _ (c : tie.At-loop Inv-loop μ-loop) where
+  abbrev start : tie.Start Inv-loop μ-loop
+  start = c .before .before
+
+  all-held : levels (start .args .kind) ≤ c .loop .i → c .loop .words ≡ backwardWords (start .args .kind) (start .args .frame .now)
+  unfolding backwardWords
+  all-held h =
+      let a = start .args in
+      let e : c .loop .i ≡ levels (a .kind) = omega (arith, c .before .levels .ensures, c .loop .inv .0) in
+      c .loop .inv .1 ∙ ap (filled 3 (back (a .kind) (a .frame .now))) e
+
 returns : tie.Need-returns Inv-loop μ-loop
-unfolding backwardWords
-returns c =
-    let l = c .before .loop in
-    let called = c .before .before in
-    let a = called .before .args in
-    let e : l .i ≡ levels (a .kind) = omega (arith, called .levels .ensures) in
-    l .inv .1 ∙ ap (filled 3 (back (a .kind) (a .frame .now))) e
+returns c = all-held (c .before .before) (omega (arith, c .before .before .before .levels .ensures, c .if1 .taken))
+
+returns-2 : tie.Need-returns-2 Inv-loop μ-loop
+returns-2 c = let s = c .before .before .before in all-held (c .before) (omega (arith, few-levels (s .args .kind) (s .pre .0)))
 
 pub level-words-spec : {M : Type 1} → statement M
 level-words-spec =
@@ -107,6 +116,7 @@ level-words-spec =
     μ-loop
     levels-requires
     loop-holds
+    returns
     level-word-requires
     transformed-requires
     mul-words
@@ -114,4 +124,4 @@ level-words-spec =
     add-i
     loop-less
     loop-again
-    returns)
+    returns-2)

@@ -22,12 +22,12 @@ Inv-loop kind out₀ words m count from₀ i₀ out from i =
     (i ≤ count) × (from ≡ dimensions kind (take i (degrees kind))) × (out ≡ written 0 (heldMessages kind 0 (take i (degrees kind)) words) out₀)
 
 abbrev μ-loop : tie.MeasureT-loop
-μ-loop kind out₀ words m count from₀ i₀ out from i = count - i
+μ-loop kind out₀ words m count from₀ i₀ out from i = 3 - i
 
--- a turn of the loop
-module _ (c : tie.In-loop Inv-loop μ-loop) where
+-- a turn of the loop, past its test
+module _ (c : tie.Else1 Inv-loop μ-loop) where
   abbrev called : tie.After-levels Inv-loop μ-loop
-  called = c .before .before
+  called = c .before .before .before
 
   abbrev s : tie.Start Inv-loop μ-loop
   s = called .before .before
@@ -39,10 +39,10 @@ module _ (c : tie.In-loop Inv-loop μ-loop) where
   words = s .args .t2
 
   abbrev i : ℕ
-  i = c .before .loop .i
+  i = c .before .before .loop .i
 
   inside : i < levels k
-  inside = omega (arith, called .levels .ensures)
+  inside = omega (arith, c .if1 .left, called .levels .ensures)
 
   early : i < 2
   early = omega (arith, inside, few-levels k (s .pre .0))
@@ -51,11 +51,11 @@ module _ (c : tie.In-loop Inv-loop μ-loop) where
   piece : Piece (dimensions k (take i (degrees k))) (dimension (getD (degrees k) i 0) k) (levelBits k)
   piece = level-piece k i (s .pre .0) inside
 
-  same : length (c .before .loop .out) ≡ length (s .args .out .now)
-  same = ap length (c .before .loop .inv .2) ∙ written-length 0 (heldMessages k 0 (take i (degrees k)) words) (s .args .out .now)
+  same : length (c .before .before .loop .out) ≡ length (s .args .out .now)
+  same = ap length (c .before .before .loop .inv .2) ∙ written-length 0 (heldMessages k 0 (take i (degrees k)) words) (s .args .out .now)
 
 module _ (c : tie.After-degree Inv-loop μ-loop) where
-  abbrev turn : tie.In-loop Inv-loop μ-loop
+  abbrev turn : tie.Else1 Inv-loop μ-loop
   turn = c .before
 
   low : c .degree .result ≤ k turn
@@ -85,7 +85,7 @@ put-message-requires c κs =
     let d = c .before in
     let t = turn d in
     let p = piece t in
-    let from = t .before .loop .inv .1 in
+    let from = t .before .before .loop .inv .1 in
     (tabled (k t) (s t .pre .0), low d, omega (arith, wide d, from, p .word), omega (arith, wide d, from, p .inside, same t, s t .pre .1))
 
 dimension-of-requires : tie.Need-dimension-of-requires Inv-loop μ-loop
@@ -97,7 +97,7 @@ add-from : tie.Need-add-from Inv-loop μ-loop
 add-from c =
     let d = c .before .before .before .before .before in
     let t = turn d in
-    record { fits = omega (arith, piece t .inside, few-level-bits (k t) (s t .pre .0), t .before .loop .inv .1, c .dimension-of .ensures, wide d) }
+    record { fits = omega (arith, piece t .inside, few-level-bits (k t) (s t .pre .0), t .before .before .loop .inv .1, c .dimension-of .ensures, wide d) }
 
 add-i : tie.Need-add-i Inv-loop μ-loop
 add-i c = search needs
@@ -110,9 +110,9 @@ loop-again c =
     let w = c .before .before .before in
     let d = w .before .before in
     let t = turn d in
-    let l = t .before .loop in
+    let l = t .before .before .loop in
     let r = getD (degrees (k t)) (i t) 0 in (
-      omega arith,
+      omega (arith, inside t, called t .levels .ensures),
       omega (arith, l .inv .1, level-end (k t) (i t) (inside t), c .dimension-of .ensures, wide d),
       w .put-message .ensures
           ∙ put-is (l .from) (dimension (d .degree .result) (k t)) (λ n. digit (getD (words t) (i t) 0) (getD (order (k t)) n 0)) (l .out)
@@ -121,18 +121,35 @@ loop-again c =
           ∙ level-more (k t) (i t) (inside t) (words t) (l .from) (s t .args .out .now) (l .inv .1),
     )
 
+-- no level more
+module _ (c : tie.At-loop Inv-loop μ-loop) where
+  abbrev start : tie.Start Inv-loop μ-loop
+  start = c .before .before .before
+
+  kept : length (c .loop .out) ≡ length (start .args .out .now)
+  kept =
+      let a = start .args in
+      ap length (c .loop .inv .2) ∙ written-length 0 (heldMessages (a .kind) 0 (take (c .loop .i) (degrees (a .kind))) (a .t2)) (a .out .now)
+
+  all-written : levels (start .args .kind) ≤ c .loop .i
+      → c .loop .out ≡ written 0 (heldMessages (start .args .kind) 0 (degrees (start .args .kind)) (start .args .t2)) (start .args .out .now)
+  all-written h =
+      let a = start .args in
+      c .loop .inv .2 ∙ ap (λ (row : List ℕ). written 0 row (a .out .now)) (levels-all (a .kind) (c .loop .i) (a .t2) h)
+
 same-length : tie.Need-same-length Inv-loop μ-loop
-same-length c =
-    let l = c .before .loop in
-    let a = c .before .before .before .before .args in
-    ap length (l .inv .2) ∙ written-length 0 (heldMessages (a .kind) 0 (take (l .i) (degrees (a .kind))) (a .t2)) (a .out .now)
+same-length c = kept (c .before .before)
 
 returns : tie.Need-returns Inv-loop μ-loop
-returns c =
-    let l = c .before .loop in
-    let called = c .before .before in
-    let a = called .before .before .args in
-    l .inv .2 ∙ ap (λ (row : List ℕ). written 0 row (a .out .now)) (levels-all (a .kind) (l .i) (a .t2) (omega (arith, called .levels .ensures)))
+returns c = all-written (c .before .before) (omega (arith, c .before .before .before .levels .ensures, c .if1 .taken))
+
+same-length-2 : tie.Need-same-length-2 Inv-loop μ-loop
+same-length-2 c = kept (c .before)
+
+returns-2 : tie.Need-returns-2 Inv-loop μ-loop
+returns-2 c =
+    let s = start (c .before) in
+    all-written (c .before) (omega (arith, few-levels (s .args .kind) (s .pre .0)))
 
 pub write-levels-spec : {M : Type 1} → statement M
 write-levels-spec =
@@ -142,6 +159,8 @@ write-levels-spec =
     μ-loop
     levels-requires
     loop-holds
+    same-length
+    returns
     degree-requires
     mul-bits
     array-read-bits
@@ -151,5 +170,5 @@ write-levels-spec =
     add-i
     loop-less
     loop-again
-    same-length
-    returns)
+    same-length-2
+    returns-2)

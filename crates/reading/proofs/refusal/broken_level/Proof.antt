@@ -9,7 +9,7 @@ use borrow.Author.Tests.{not-true, not-false}
 use Rattle.reed_muller.specs.Level.{clearAbove}
 use Rattle.bits.proofs.Digits.{digit}
 use Rattle.frames.specs.Kind.{degrees, levels}
-use Rattle.frames.proofs.Limits.{some-level, few-levels, levels-numbered, tabled, degree-fits}
+use Rattle.frames.proofs.Limits.{few-levels, levels-numbered, tabled, degree-fits}
 use Rattle.reading.specs.Words.{brokenIn}
 use Rattle.reading.proofs.Words.{clear-at, broken-at, whole-at, no-more}
 use Rattle.reading.proofs.refusal.broken_level.Statement.{statement}
@@ -19,12 +19,12 @@ abbrev Inv-loop : tie.InvT-loop
 Inv-loop kind words m count i₀ i = (i ≤ count) × (brokenIn kind 0 (degrees kind) words ≡ brokenIn kind i (drop i (degrees kind)) words)
 
 abbrev μ-loop : tie.MeasureT-loop
-μ-loop kind words m count i₀ i = count - i
+μ-loop kind words m count i₀ i = 3 - i
 
--- a turn of the loop
-module _ (c : tie.In-loop Inv-loop μ-loop) where
+-- a turn of the loop, past its first test
+module _ (c : tie.Else1 Inv-loop μ-loop) where
   abbrev called : tie.After-levels Inv-loop μ-loop
-  called = c .before .before
+  called = c .before .before .before
 
   abbrev s : tie.Start Inv-loop μ-loop
   s = called .before
@@ -36,16 +36,16 @@ module _ (c : tie.In-loop Inv-loop μ-loop) where
   words = s .args .t2
 
   abbrev i : ℕ
-  i = c .before .loop .i
+  i = c .before .before .loop .i
 
   inside : i < levels k
-  inside = omega (arith, called .levels .ensures, some-level k (s .pre))
+  inside = omega (arith, c .if1 .left, called .levels .ensures)
 
   early : i < 2
   early = omega (arith, inside, few-levels k (s .pre))
 
   so-far : brokenIn k 0 (degrees k) words ≡ brokenIn k i (drop i (degrees k)) words
-  so-far = c .before .loop .inv .1
+  so-far = c .before .before .loop .inv .1
 
 tested : (c : tie.After-clear-above Inv-loop μ-loop) → let t = c .before .before in c .clear-above .result ≡ clear-at (k t) (words t) (i t)
 tested c =
@@ -53,11 +53,19 @@ tested c =
     let t = d .before in
     c .clear-above .ensures ∙ ap (λ (r : ℕ). clearAbove r (digit (getD (words t) (i t) 0)) (2 ^ k t)) (d .degree .ensures)
 
+-- no level more
+none-broken : (c : tie.At-loop Inv-loop μ-loop)
+    → let a = c .before .before .args in levels (a .kind) ≤ c .loop .i → 0 ≡ brokenIn (a .kind) 0 (degrees (a .kind)) (a .t2)
+none-broken c h = let a = c .before .before .args in sym (c .loop .inv .1 ∙ no-more (a .kind) (a .t2) (c .loop .i) h)
+
 levels-requires : tie.Need-levels-requires Inv-loop μ-loop
 levels-requires c κs = search needs
 
 loop-holds : tie.Need-loop-holds Inv-loop μ-loop
 loop-holds c = (search needs, refl)
+
+returns : tie.Need-returns Inv-loop μ-loop
+returns c = none-broken (c .before .before) (omega (arith, c .before .before .before .levels .ensures, c .if1 .taken))
 
 degree-requires : tie.Need-degree-requires Inv-loop μ-loop
 degree-requires c κs = (s c .pre, inside c)
@@ -76,33 +84,29 @@ clear-above-requires c κs =
 broken-requires : tie.Need-broken-requires Inv-loop μ-loop
 broken-requires c κs = let t = c .before .before .before in omega (arith, inside t, levels-numbered (k t) (s t .pre))
 
-returns : tie.Need-returns Inv-loop μ-loop
-returns c =
+returns-2 : tie.Need-returns-2 Inv-loop μ-loop
+returns-2 c =
     let d = c .before .before in
     let t = d .before .before in
     c .broken .ensures
-    ∙ sym (so-far t ∙ broken-at (k t) (words t) (i t) (inside t) (sym (tested d) ∙ not-true (d .clear-above .result) (c .before .if1 .taken)))
+    ∙ sym (so-far t ∙ broken-at (k t) (words t) (i t) (inside t) (sym (tested d) ∙ not-true (d .clear-above .result) (c .before .if2 .taken)))
 
 add-i : tie.Need-add-i Inv-loop μ-loop
 add-i c = search needs
 
 loop-less : tie.Need-loop-less Inv-loop μ-loop
-loop-less c = let t = c .before .before .before in omega (arith, inside t, called t .levels .ensures)
+loop-less c = search needs
 
 loop-again : tie.Need-loop-again Inv-loop μ-loop
 loop-again c =
     let d = c .before in
     let t = d .before .before in (
       omega (arith, inside t, called t .levels .ensures),
-      so-far t ∙ whole-at (k t) (words t) (i t) (inside t) (sym (tested d) ∙ not-false (d .clear-above .result) (c .if1 .left)),
+      so-far t ∙ whole-at (k t) (words t) (i t) (inside t) (sym (tested d) ∙ not-false (d .clear-above .result) (c .if2 .left)),
     )
 
-returns-2 : tie.Need-returns-2 Inv-loop μ-loop
-returns-2 c =
-    let l = c .before .loop in
-    let called = c .before .before in
-    let a = called .before .args in
-    sym (l .inv .1 ∙ no-more (a .kind) (a .t2) (l .i) (omega (arith, called .levels .ensures)))
+returns-3 : tie.Need-returns-3 Inv-loop μ-loop
+returns-3 c = let s = c .before .before .before in none-broken (c .before) (omega (arith, few-levels (s .args .kind) (s .pre)))
 
 pub broken-level-spec : {M : Type 1} → statement M
 broken-level-spec =
@@ -112,13 +116,14 @@ broken-level-spec =
     μ-loop
     levels-requires
     loop-holds
+    returns
     degree-requires
     mul-bits
     array-read-bits
     clear-above-requires
     broken-requires
-    returns
+    returns-2
     add-i
     loop-less
     loop-again
-    returns-2)
+    returns-3)
