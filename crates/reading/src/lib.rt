@@ -47,9 +47,9 @@ fn read(strict: bool, kind: u8, grade: u8, frame: &[i32], message: &mut [u8]) ->
     if number != 0 {
         return Reading { number, energy: 0 };
     }
+    let energy = frame_energy(frame);
     let words = t.words;
     write_message(kind, grade, frame, words, message);
-    let energy = frame_energy(frame);
     Reading { number, energy }
 }
 

@@ -38,34 +38,34 @@ module _ (c : tie.Else1) where
       fits (a .kind) (a .grade) (a .frame .now) (length (a .message .now)) (a .strict)
       (λ e. omega (arith, e, r)) (λ e. omega (arith, e, r)) (λ e. omega (arith, e, r)) (λ e. omega (arith, e, r)) (λ e. omega (arith, e, r))
 
-write-message-requires : tie.Need-write-message-requires
-write-message-requires c κs =
-    let p = passed (c .before .before) in
-    (p .kind, p .grade, p .coordinates, p .range, p .bytes)
-
 frame-energy-requires : tie.Need-frame-energy-requires
 frame-energy-requires c κs =
-    let d = c .before .before .before .before .before in
-    let a = start d .args in
-    let p = passed d in (
+    let a = start c .args in
+    let p = passed c in (
       omega (arith, p .coordinates, whole-blocks (a .kind) (p .kind)),
       omega (arith, p .coordinates, few-positions (a .kind) (p .kind)),
       within-to 1048576 (2 ^ 24) (a .frame .now) (omega arith) (range-within (a .frame .now) (p .range)),
     )
+
+write-message-requires : tie.Need-write-message-requires
+write-message-requires c κs =
+    let p = passed (c .before .before .before) in
+    (p .kind, p .grade, p .coordinates, p .range, p .bytes)
 
 same-length : tie.Need-same-length
 same-length c = search needs
 
 returns-2 : tie.Need-returns-2
 returns-2 c =
-    let w = c .before .before .before in
-    let d = w .before .before .before in
+    let w = c .before .before in
+    let n = w .before .before .before in
+    let d = n .before in
     let a = start d .args in
     let t = called d .tests in
     let r = t .result in
     let message = message-given (r .number) (a .kind) (a .grade) (a .frame .now) (a .message .now) (r .words) (passed d .kind) (t .ensures .1) in
-    let energy = energy-given (t .result .number) (a .frame .now) in
-    (t .ensures .0, (w .write-message .ensures ∙ message (omega arith), c .frame-energy .ensures ∙ energy (omega arith)))
+    let energy = energy-given (r .number) (a .frame .now) in
+    (t .ensures .0, (w .write-message .ensures ∙ message (omega (arith, d .if1 .left)), n .frame-energy .ensures ∙ energy (omega (arith, d .if1 .left))))
 
 pub read-spec : {M : Type 1} → statement M
 read-spec =
@@ -73,7 +73,7 @@ read-spec =
     (tie.spec
     tests-requires
     returns
-    write-message-requires
     frame-energy-requires
+    write-message-requires
     same-length
     returns-2)
