@@ -2,7 +2,7 @@
  *
  * A block is eight whole numbers, lent as a pointer and a length. The archive is for x86-64 Linux, as libframe_coder.a is; what
  * crates/frame_coder/frame_coder.h says for firmware holds for it too (1236 bytes of text, no undefined symbols, no data).
- * What a caller must keep, since nothing here can test it:
+ * What a caller has to see to, since nothing here can test it:
  *   - a pointer is valid for as many elements as the length says, and aligned; where the length is 0 it may be anything, null too:
  *     the answer is false before anything is read or written;
  *   - `block` and `least` do not overlap;

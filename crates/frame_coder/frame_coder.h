@@ -22,7 +22,7 @@
  * TIES. The sent frame is the one of least energy in the class of the message. Among frames of least energy it is the first in
  *     reading order: at the first coordinate where two differ, the smaller comes first.
  *
- * WHAT A CALLER MUST KEEP, since nothing here can test it:
+ * WHAT A CALLER HAS TO SEE TO, since nothing here can test it:
  *   - a pointer is valid for as many elements as its length says, and aligned for its type. Where the length is 0 it may be
  *     anything, null too: no message and no frame has length 0, and the call is refused before anything is read or written;
  *   - `count` and `sum`, or `account`, are valid in every call, and never null, also where the call is refused;

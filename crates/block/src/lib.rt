@@ -1,4 +1,4 @@
-// The shaping of one block by itself, as other languages call it: a slice passes as a pointer and a length. `block.h` says what a caller must keep.
+// The shaping of one block by itself, as other languages call it: a slice passes as a pointer and a length. `block.h` says what a caller has to see to.
 ghost use mathlib.Core.Path.{_≡_};
 ghost use mathlib.Core.Bool.{cond};
 ghost use Prim.Native.Nat.{_^_};

@@ -1,4 +1,4 @@
-// The library as other languages call it: a slice passes as a pointer and a length. `frame_coder.h` says what a caller must keep.
+// The library as other languages call it: a slice passes as a pointer and a length. `frame_coder.h` says what a caller has to see to.
 ghost use mathlib.Core.Path.{_≡_};
 ghost use Prim.Native.Nat.{_≤_, _^_};
 ghost use lib.ListN.{length};

@@ -23,6 +23,19 @@ fn write_files() -> std::io::Result<()> {
     let vectors: usize = counts.iter().map(|count| count.vectors).sum();
     let tied: usize = counts.iter().map(|count| count.tied).sum();
     println!("\nvectors.bin: {vectors} vectors, {tied} with ties, {} bytes", file.len());
+    // A frame moved by two is a question at kinds with a second level alone.
+    let second: usize = counts.iter().filter(|count| count.kind > 3).map(|count| count.vectors).sum();
+    let checks = [
+        "vectors",
+        "sent",
+        "read openly",
+        "read strictly",
+        "moved by a whole point",
+        "moved by a half point",
+        "moved by one",
+    ];
+    let printed: String = checks.iter().map(|check| format!("{check} {vectors}\n")).collect();
+    std::fs::write(crates("vectors/stdout"), format!("{printed}moved by two {second}\ndifferent 0\n"))?;
     let sheets = vectors::sheet_file();
     std::fs::write(crates("sheets/data/sheets.bin"), &sheets)?;
     let count = vectors::sheets().len();
