@@ -16,6 +16,15 @@ pub fn magnitude(z: i32) -> i32
     if z < 0 { 0 - z } else { z }
 }
 
+// The square of a coordinate, which i64 has room for.
+fn wide_square(z: i32) -> u64
+    requires { ⌜ natAbs z ≤ 2 ^ 24 ⌝ }
+    ensures { λ r. ⌜ r ≡ sq z ⌝ }
+{
+    let y = z as i64;
+    (y * y) as u64
+}
+
 // The energy of a block or of a whole frame.
 pub fn energy(part: &[i32]) -> u64
     requires { ⌜ (length (now part) ≤ 1024) × Within (2 ^ 24) (now part) ⌝ }
@@ -25,8 +34,7 @@ pub fn energy(part: &[i32]) -> u64
     let mut i: usize = 0;
     while i < part.len() {
         let z = part[i];
-        let m = magnitude(z) as u64;
-        sum += m * m;
+        sum += wide_square(z);
         i += 1;
     }
     sum
