@@ -208,6 +208,12 @@ block-room k b j kind h =
 pub block-piece : (k b j : ℕ) → isKind k ≡ true → b ≤ 4 → j < blocks k → Piece (levelBits k + 8 * b * j) (8 * b) (messageBits k b)
 block-piece k b j kind high h = record { few = omega arith; word = omega arith; inside = block-room k b j kind h }
 
+-- ---- grades
+
+-- one that is none of the first three
+pub last-grade : {b : ℕ} → 1 ≤ b → b ≤ 4 → (b ≡ 1 → ⊥) → (b ≡ 2 → ⊥) → (b ≡ 3 → ⊥) → 4 ≡ b
+last-grade l h x y z = omega arith
+
 -- ---- the scale
 
 pub scale-64 : (k b : ℕ) → isKind k ≡ true → isGrade b ≡ true → scale k b ≤ 64

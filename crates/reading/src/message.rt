@@ -39,7 +39,7 @@ pub fn write_levels(kind: u8, words: [u64; 3], out: &mut [u8])
 }
 
 // A block's numbers s1 to s8 as one number of 8b bits, those of s1 lowest.
-pub fn packed(s: [i32; 8], grade: usize) -> u64
+fn packed_by(s: [i32; 8], grade: usize) -> u64
     requires { ⌜ (1 ≤ grade) × (grade ≤ 4) × ((i : ℕ) → T (nonNeg (getD s i (pos 0)))) ⌝ }
     ensures { λ r. ⌜ r ≡ number (8 * grade) (λ t. getD (allDigits (widths grade) (map natAbs s)) t 0) ⌝ }
 {
@@ -52,6 +52,23 @@ pub fn packed(s: [i32; 8], grade: usize) -> u64
         bits = (bits << w) + (z as u64) % (1u64 << w);
     }
     bits
+}
+
+// The same, by a grade that is a constant in each call: the compiler then has a code with constant shifts for each grade.
+pub fn packed(s: [i32; 8], grade: usize) -> u64
+    requires { ⌜ (1 ≤ grade) × (grade ≤ 4) × ((i : ℕ) → T (nonNeg (getD s i (pos 0)))) ⌝ }
+    ensures { λ r. ⌜ r ≡ number (8 * grade) (λ t. getD (allDigits (widths grade) (map natAbs s)) t 0) ⌝ }
+{
+    if grade == 1 {
+        return packed_by(s, 1);
+    }
+    if grade == 2 {
+        return packed_by(s, 2);
+    }
+    if grade == 3 {
+        return packed_by(s, 3);
+    }
+    packed_by(s, 4)
 }
 
 // A block's coordinates without their level bits, divided by 2^a.

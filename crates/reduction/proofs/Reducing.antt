@@ -78,7 +78,7 @@ module _ {h : ℕ} {y r : List ℤ} {q : ℤ} {i : ℕ} (h-scale : Scale h) (eig
         size = subst (λ (z : ℤ). natAbs z ≤ B) (sym w′)
             (abs! (` q ⊕ (` at ⊖ # n)) B (omega (arith, s .size, a, b, c, small, lt)) (omega (arith, s .size, a, b, c, small, lt)));
         left = simp add-one (ap (drop 1) f);
-        filled = filled-next t r i v (s .filled) (omega (arith, result-length h y eight)) (ev ∙ sym (ap (λ l. getD l 0 (pos 0)) f));
+        filled = filled-next (pos 0) t r i v (s .filled) (omega (arith, result-length h y eight)) (ev ∙ sym (ap (λ l. getD l 0 (pos 0)) f));
       }
 
   pub rows-last : (v : ℤ) → i ≡ 7 → v ≡ pos (modZ (getD y 7 (pos 0) -ℤ q) (4 * h)) → set r 7 v ≡ result h y
@@ -89,7 +89,7 @@ module _ {h : ℕ} {y r : List ℤ} {q : ℤ} {i : ℕ} (h-scale : Scale h) (eig
       let g : getD t 7 (pos 0) ≡ pos (modZ (getD y 7 (pos 0) -ℤ pos (2 * h) *ℤ s .Q) (4 * h)) =
       ap (λ l. getD l 0 (pos 0)) (sym (drop-last t 7 (result-length h y eight)) ∙ f ∙ ap (λ l. ints (remainders h (s .Q) l)) (drop-last y 7 eight)) in
       filled-all t (set r 7 v) 8
-      (filled-next t r 7 v seven (omega (arith, result-length h y eight)) (ev ∙ ap (λ (z : ℤ). pos (modZ (getD y 7 (pos 0) -ℤ z) (4 * h))) (s .off) ∙ sym g))
+      (filled-next (pos 0) t r 7 v seven (omega (arith, result-length h y eight)) (ev ∙ ap (λ (z : ℤ). pos (modZ (getD y 7 (pos 0) -ℤ z) (4 * h))) (s .off) ∙ sym g))
       (omega (arith, result-length h y eight))
 
 -- the first row

@@ -1,16 +1,14 @@
--- A block of the leader, made number by number. Assumes nothing.
-use Prim.Native.Nat.{ℕ, zero, suc, _+_, _-_, _*_, _^_, _≤_, _<_}
-use mathlib.Core.Path.{_≡_, refl, sym, ap, _∙_}
-use mathlib.Core.List.{List, [], _∷_, _++_}
-use native.Mathlib.Nat.{mul-le-mul}
+-- The numbers of a block: where each begins, how large it is, and how it is taken from the number that holds the block's bits. Assumes nothing.
+use Prim.Native.Nat.{ℕ, zero, suc, _+_, _-_, _/_, _%_, _^_, _≤_, _<_}
+use mathlib.Core.Path.{_≡_, refl, sym, ap, ap₂, _∙_}
+use mathlib.Core.List.{List, [], _∷_}
+use native.Mathlib.Nat.{zero-add}
 use native.Mathlib.Omega.{arith}
-use native.Mathlib.Numerals.{add-one}
-use lib.ListN.{length, getD, take, set}
-use lib.Seq.{take-suc-set}
+use lib.ListN.{length, getD, take}
 use lib.Pow.{pow-mono}
-use lib.IntN.{ℤ, pos}
-use Rattle.bits.specs.Number.{table, number}
-use Rattle.e8.specs.Rows.{ints}
+use Rattle.bits.specs.Number.{number}
+use Rattle.bits.proofs.Message.{number-lt, number-ext, number-mod}
+use Rattle.bits.proofs.Digits.{digit, digit-from}
 use Rattle.frames.specs.Message.{widths, numbers}
 use Rattle.frames.proofs.Numbers.{total}
 
@@ -24,6 +22,15 @@ numbers-at bit from (w ∷ ws) (suc c) h =
     let e : from + w + total (take c ws) ≡ from + (w + total (take c ws)) = omega arith in
     numbers-at bit (from + w) ws c (omega arith) ∙ ap (λ (n : ℕ). number (getD ws c 0) (λ i. bit (n + i))) e
 
+pub numbers-length : (bit : ℕ → ℕ) (from : ℕ) (ws : List ℕ) → length (numbers bit from ws) ≡ length ws
+unfolding numbers
+numbers-length bit from [] = refl
+numbers-length bit from (w ∷ ws) = ap suc (numbers-length bit (from + w) ws)
+
+-- w bits of a number from bit `at` on
+pub number-cut : (x at w : ℕ) → x / 2 ^ at % 2 ^ w ≡ number w (λ i. digit x (0 + at + i))
+number-cut x at w = number-mod (x / 2 ^ at) w (λ i l. digit-from x at i ∙ ap (λ (n : ℕ). digit x (n + i)) (sym (zero-add at)))
+
 pub total-suc : (ws : List ℕ) (c : ℕ) → c < length ws → total (take (suc c) ws) ≡ total (take c ws) + getD ws c 0
 total-suc [] c h = absurd (omega arith)
 total-suc (w ∷ ws) zero h = omega arith
@@ -34,19 +41,6 @@ total-le [] zero = omega arith
 total-le [] (suc c) = omega arith
 total-le (w ∷ ws) zero = omega arith
 total-le (w ∷ ws) (suc c) = omega (arith, total-le ws c)
-
-ints-append : (xs ys : List ℕ) → ints (xs ++ ys) ≡ ints xs ++ ints ys
-ints-append [] ys = refl
-ints-append (x ∷ xs) ys = ap (λ (l : List ℤ). pos x ∷ l) (ints-append xs ys)
-
--- one coordinate more
-pub ints-more : (f : ℕ → ℕ) (x : List ℤ) (c : ℕ) (v : ℤ) → c < length x → v ≡ pos (f c) → take c x ≡ ints (table c f) → take (c + 1) (set x c v) ≡ ints (table (c + 1) f)
-unfolding table
-ints-more f x c v h e t = rw (add-one, take-suc-set x c v h, t, e) (sym (ints-append (table c f) (f c ∷ [])))
-
-pub ints-none : (f : ℕ → ℕ) → [] ≡ ints (table 0 f)
-unfolding table
-ints-none f = refl
 
 -- the widths are small, and together 8b
 pub width-small : (b c : ℕ) → b ≤ 4 → c < 8 → getD (widths b) c 0 ≤ 5
@@ -60,6 +54,24 @@ width-small b (suc (suc (suc (suc (suc (suc zero)))))) h k = omega arith
 width-small b (suc (suc (suc (suc (suc (suc (suc zero))))))) h k = omega arith
 width-small b (suc (suc (suc (suc (suc (suc (suc (suc c)))))))) h k = absurd (omega arith)
 
--- a number of at most five bits, 2^a times, for a up to 3
-pub scaled-small : (s a : ℕ) → s < 32 → a ≤ 3 → s * 2 ^ a ≤ 31 * 8
-scaled-small s a h k = mul-le-mul {n₂ = 31} (omega arith) (pow-mono {j = 3} k)
+-- a number of at most five bits
+pub number-small : (bit : ℕ → ℕ) → ((i : ℕ) → bit i < 2) → (from w : ℕ) → w ≤ 5 → number w (λ i. bit (from + i)) < 32
+number-small bit small from w h = omega (arith, number-lt (λ i. bit (from + i)) w (λ i l. small (from + i)), pow-mono {j = 5} h)
+
+-- each of a block's numbers is one
+pub numbers-below : (bit : ℕ → ℕ) → ((i : ℕ) → bit i < 2) → (from b o : ℕ) → b ≤ 4 → o < 8 → getD (numbers bit from (widths b)) o 0 < 32
+numbers-below bit small from b o h l =
+    rw (numbers-at bit from (widths b) o l) (number-small bit small (from + total (take o (widths b))) (getD (widths b) o 0) (width-small b o h l))
+
+-- numbers of the same bits
+pub numbers-ext : (f g : ℕ → ℕ) (from from′ : ℕ) (ws : List ℕ) → ((i : ℕ) → i < total ws → f (from + i) ≡ g (from′ + i)) → numbers f from ws ≡ numbers g from′ ws
+unfolding numbers
+numbers-ext f g from from′ [] h = refl
+numbers-ext f g from from′ (w ∷ ws) h =
+    ap₂ _∷_ (number-ext w (λ i l. h i (omega arith))) (numbers-ext f g (from + w) (from′ + w) ws later)
+  where
+    later : (i : ℕ) → i < total ws → f (from + w + i) ≡ g (from′ + w + i)
+    later i l =
+        let x : from + w + i ≡ from + (w + i) = omega arith in
+        let y : from′ + (w + i) ≡ from′ + w + i = omega arith in
+        ap f x ∙ h (w + i) (omega arith) ∙ ap g y

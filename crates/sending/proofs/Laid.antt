@@ -1,5 +1,5 @@
 -- The coset leader, block by block, and the size of its coordinates. Assumes nothing.
-use Prim.Native.Nat.{ℕ, _+_, _-_, _*_, _/_, _%_, _^_, _≤_, _<_}
+use Prim.Native.Nat.{ℕ, _+_, _*_, _/_, _%_, _^_, _≤_, _<_}
 use mathlib.Core.Path.{_≡_, sym, ap, ap₂, _∙_}
 use mathlib.Core.Bool.{true}
 use mathlib.Core.List.{List}
@@ -13,7 +13,6 @@ use Rattle.bits.specs.Number.{table}
 use Rattle.bits.specs.Message.{messageBit}
 use Rattle.bits.proofs.Message.{message-small}
 use Rattle.bits.proofs.Table.{length-table, table-at}
-use Rattle.bits.proofs.Digits.{digit, digit-from}
 use Rattle.e8.specs.Energy.{Within}
 use Rattle.e8.proofs.Within.{within-all}
 use Rattle.e8.specs.Lattice.{part}
@@ -23,17 +22,14 @@ use Rattle.frames.specs.Kind.{isKind, degrees, levels, blocks, levelBits}
 use Rattle.frames.specs.Message.{widths, numbers, blockNumbers, stacked, coordinate, leader}
 use Rattle.frames.proofs.Frame.{at, ints-at, part-length, part-at}
 use Rattle.frames.proofs.One.{leader-length, leader-at}
-use Rattle.frames.proofs.Numbers.{total}
 use Rattle.frames.proofs.Limits.{few-levels, whole-blocks}
-use Rattle.sending.proofs.Bits.{number-small}
-use Rattle.sending.proofs.Block.{numbers-at, width-small}
-use Rattle.sending.specs.Words.{codewordsOf}
+use Rattle.sending.specs.Words.{codewordsOf, over}
+use Rattle.sending.proofs.Block.{numbers-below}
 use Rattle.sending.proofs.Stack.{stacked-below, stacked-words}
 
--- coordinate o of the block at position q, from the numbers ws that hold the codewords of the levels and the block's numbers ns
+-- coordinate o of the block at position q: the levels that the numbers ws hold, under the block's numbers ns
 abbrev pub laid : ℕ → List ℕ → ℕ → List ℕ → ℕ → ℕ
-laid a ws q ns o =
-    getD ws 0 0 / 2 ^ q / 2 ^ o % 2 + 2 * (getD ws 1 0 / 2 ^ q / 2 ^ o % 2) + 4 * (getD ws 2 0 / 2 ^ q / 2 ^ o % 2) + 2 ^ a * getD ns o 0
+laid a ws q ns o = over a (λ i. getD ws i 0 / 2 ^ (q + o) % 2) (getD ns o 0)
 
 module _ (k b : ℕ) (kind : isKind k ≡ true) (bytes : List ℕ) where
   pub long : length (leader k b bytes) ≡ 8 * blocks k
@@ -59,17 +55,13 @@ module _ (k b : ℕ) (kind : isKind k ≡ true) (bytes : List ℕ) where
       F : ℕ → ℕ
       F = laid (levels k) W (8 * j) (blockNumbers k b bytes j)
 
-      -- a digit of the shifted word is one of the word
-      digits : (o : ℕ) → F o ≡ digit (getD W 0 0) (8 * j + o) + 2 * digit (getD W 1 0) (8 * j + o) + 4 * digit (getD W 2 0) (8 * j + o) + 2 ^ levels k * N o
-      digits o = omega (arith, digit-from (getD W 0 0) (8 * j) o, digit-from (getD W 1 0) (8 * j) o, digit-from (getD W 2 0) (8 * j) o)
-
       at-o : (o : ℕ) → o < 8 → at (ints (table 8 F)) o ≡ at (part j L) o
       at-o o ho =
           let p : 8 * j + o < 2 ^ k = omega (arith, whole-blocks k kind) in
           let ej : (8 * j + o) / 8 ≡ j = omega arith in
           let eo : (8 * j + o) % 8 ≡ o = omega arith in
           ints-at (table 8 F) o
-          ∙ ap pos (table-at F 8 o ho ∙ digits o ∙ sym (stacked-words k (messageBit bytes) (8 * j + o) p (omega (arith, few-levels k kind)) (N o))
+          ∙ ap pos (table-at F 8 o ho ∙ sym (stacked-words k (messageBit bytes) (8 * j + o) p (omega (arith, few-levels k kind)) (N o))
           ∙ ap₂ (λ (i r : ℕ). stacked k (degrees k) (messageBit bytes) 0 (getD (blockNumbers k b bytes i) r 0) (8 * j + o)) (sym ej) (sym eo))
           ∙ sym (leader-at k b bytes (8 * j + o) p) ∙ sym (part-at L (blocks k) j long h o ho)
 
@@ -78,9 +70,7 @@ module _ (k b : ℕ) (kind : isKind k ≡ true) (bytes : List ℕ) where
   module _ (high : b ≤ 4) where
     number-below : (j r : ℕ) → r < 8 → getD (blockNumbers k b bytes j) r 0 < 32
     unfolding blockNumbers
-    number-below j r h =
-        rw (numbers-at (messageBit bytes) (levelBits k + 8 * b * j) (widths b) r h)
-        (number-small (messageBit bytes) (message-small bytes) (levelBits k + 8 * b * j + total (take r (widths b))) (getD (widths b) r 0) (width-small b r high h))
+    number-below j r h = numbers-below (messageBit bytes) (message-small bytes) (levelBits k + 8 * b * j) b r high h
 
     coordinate-below : (p : ℕ) → coordinate k b bytes p ≤ 127
     unfolding coordinate levels

@@ -1,5 +1,4 @@
 pub mod Tests
-pub mod Bits
 pub mod Answers
 pub mod Stack
 pub mod Block

@@ -1,81 +1,90 @@
--- The levels of a kind: the stack of their codewords as a sum, by the numbers that hold them. Assumes nothing.
-use Prim.Native.Nat.{ℕ, zero, suc, _+_, _*_, _/_, _%_, _^_, _≤_, _<_}
+-- The levels of a kind: the stack of their codewords, by the numbers that hold them. Assumes nothing.
+use Prim.Native.Nat.{ℕ, zero, suc, _+_, _-_, _*_, _^_, _≤_, _<_}
 use mathlib.Core.Path.{_≡_, refl, sym, ap, _∙_}
-use mathlib.Core.Bool.{Bool, true, false}
 use mathlib.Core.List.{List, [], _∷_}
 use native.Mathlib.Nat.{pow-suc}
+use native.Mathlib.Decide.{decLt}
 use native.Mathlib.Omega.{arith}
 use lib.Dec.{ltb}
 use lib.ListN.{length, getD, take}
-use Rattle.bits.specs.Number.{given, sumTo, table, number}
-use Rattle.bits.proofs.Sum.{sum-ext, sum-first, sum-times, sum-given}
+use borrow.Author.Tests.{lt-ltb, le-ltb}
+use Rattle.bits.specs.Number.{pick, given, number}
 use Rattle.bits.proofs.Table.{table-at}
 use Rattle.bits.proofs.Message.{number-bit}
-use Rattle.bits.proofs.Digits.{digit, digit-none}
+use Rattle.bits.proofs.Digits.{digit}
 use Rattle.reed_muller.specs.Level.{dimension, codeword}
 use Rattle.reed_muller.proofs.Codeword.{codeword-small}
 use Rattle.frames.specs.Kind.{degrees, levels, dimensions}
 use Rattle.frames.specs.Message.{stacked}
-use Rattle.sending.specs.Words.{levelValue, codewordsOf}
+use Rattle.sending.specs.Words.{levelValue, codewordsOf, over}
 
--- a stack of a levels over s stays below 2^a·(s + 1)
-pub stacked-below : (m : ℕ) (rs : List ℕ) (bit : ℕ → ℕ) (from s p : ℕ) → stacked m rs bit from s p < 2 ^ length rs * (s + 1)
-unfolding stacked
-stacked-below m [] bit from s p = omega arith
-stacked-below m (r ∷ rs) bit from s p =
-    rw (pow-suc 2 (length rs)) (omega (arith, codeword-small r m (λ i. bit (from + i)) p, stacked-below m rs bit (from + dimension r m) s p))
+-- ---- levels under a number
+
+pub over-ext : (n : ℕ) {f g : ℕ → ℕ} (s : ℕ) → ((i : ℕ) → i < n → f i ≡ g i) → over n f s ≡ over n g s
+unfolding over
+over-ext zero s h = refl
+over-ext (suc n) s h = omega (arith, h 0 (omega arith), over-ext n s (λ i l. h (suc i) (omega arith)))
+
+-- n levels under s stay below 2^n·(s + 1)
+pub over-below : (n : ℕ) (c : ℕ → ℕ) (s : ℕ) → ((i : ℕ) → c i < 2) → over n c s < 2 ^ n * (s + 1)
+unfolding over
+over-below zero c s h = omega arith
+over-below (suc n) c s h = rw (pow-suc 2 n) (omega (arith, h 0, over-below n (λ i. c (suc i)) s (λ i. h (suc i))))
+
+-- those of n levels from i + 1 on, and level i under them where there is one
+pub over-more : (n i : ℕ) (c : ℕ → ℕ) (s : ℕ)
+    → pick (ltb i n) (c i + 2 * over (n - suc i) (λ t. c (suc i + t)) s) (over (n - suc i) (λ t. c (suc i + t)) s) ≡ over (n - i) (λ t. c (i + t)) s
+unfolding over
+over-more n i c s = go (decLt i n)
+  where
+    go : Dec (i < n) → pick (ltb i n) (c i + 2 * over (n - suc i) (λ t. c (suc i + t)) s) (over (n - suc i) (λ t. c (suc i + t)) s) ≡ over (n - i) (λ t. c (i + t)) s
+    go (yes l) =
+        let e : n - i ≡ suc (n - suc i) = omega arith in
+        let first : i + 0 ≡ i = omega arith in
+        let each : (t : ℕ) → t < n - suc i → c (suc i + t) ≡ c (i + suc t) = λ t u. ap c (omega arith) in
+        rw (lt-ltb i n l, e) (omega (arith, ap c first, over-ext (n - suc i) s each))
+    go (no l) =
+        let e : n - i ≡ 0 = omega arith in
+        let f : n - suc i ≡ 0 = omega arith in
+        rw (le-ltb i n (omega arith), e, f) refl
+
+-- ---- the levels of a kind
 
 -- the value at p of level i of those of degrees rs, whose message bits begin at `from`
 abbrev valueOf : ℕ → List ℕ → (ℕ → ℕ) → ℕ → ℕ → ℕ → ℕ
 valueOf m rs bit from p i = codeword (getD rs i 0) m (λ t. bit (from + dimensions m (take i rs) + t)) p
 
--- c0 + 2·c1 + 4·c2 + .. + 2^a·s
-stacked-sum : (m : ℕ) (rs : List ℕ) (bit : ℕ → ℕ) (from s p : ℕ) → stacked m rs bit from s p ≡ sumTo (length rs) (λ i. 2 ^ i * valueOf m rs bit from p i) + 2 ^ length rs * s
-unfolding stacked sumTo
-stacked-sum m [] bit from s p = omega arith
-stacked-sum m (r ∷ rs) bit from s p =
-    rw (pow-suc 2 (length rs), sum-first (length rs) (λ i. 2 ^ i * valueOf m (r ∷ rs) bit from p i))
-    (omega (arith, stacked-sum m rs bit (from + dimension r m) s p, later, ap (λ (n : ℕ). codeword r m (λ t. bit (n + t)) p) zero-more))
+-- the stack is the levels' values under s
+stacked-over : (m : ℕ) (rs : List ℕ) (bit : ℕ → ℕ) (from s p : ℕ) → stacked m rs bit from s p ≡ over (length rs) (valueOf m rs bit from p) s
+unfolding stacked over
+stacked-over m [] bit from s p = refl
+stacked-over m (r ∷ rs) bit from s p =
+    omega (arith, first, stacked-over m rs bit (from + dimension r m) s p, over-ext (length rs) s (λ i l. each i))
   where
-    zero-more : from + 0 ≡ from
-    zero-more = omega arith
+    first : codeword r m (λ t. bit (from + t)) p ≡ valueOf m (r ∷ rs) bit from p 0
+    first = let e : from ≡ from + 0 = omega arith in ap (λ (n : ℕ). codeword r m (λ t. bit (n + t)) p) e
 
-    each : (i : ℕ) → 2 ^ suc i * valueOf m (r ∷ rs) bit from p (suc i) ≡ 2 * (2 ^ i * valueOf m rs bit (from + dimension r m) p i)
+    each : (i : ℕ) → valueOf m rs bit (from + dimension r m) p i ≡ valueOf m (r ∷ rs) bit from p (suc i)
     each i =
-        let e : from + (dimension r m + dimensions m (take i rs)) ≡ from + dimension r m + dimensions m (take i rs) = omega arith in
-        ap (λ (n : ℕ). 2 ^ suc i * codeword (getD rs i 0) m (λ t. bit (n + t)) p) e ∙ ap (λ (n : ℕ). n * valueOf m rs bit (from + dimension r m) p i) (pow-suc 2 i)
-        ∙ omega arith
+        let e : from + dimension r m + dimensions m (take i rs) ≡ from + (dimension r m + dimensions m (take i rs)) = omega arith in
+        ap (λ (n : ℕ). codeword (getD rs i 0) m (λ t. bit (n + t)) p) e
 
-    later : sumTo (length rs) (λ i. 2 ^ suc i * valueOf m (r ∷ rs) bit from p (suc i)) ≡ 2 * sumTo (length rs) (λ i. 2 ^ i * valueOf m rs bit (from + dimension r m) p i)
-    later = sum-ext (length rs) (λ i l. each i) ∙ sum-times (length rs) 2 (λ i. 2 ^ i * valueOf m rs bit (from + dimension r m) p i)
+-- a stack over s stays below 2^a·(s + 1)
+pub stacked-below : (m : ℕ) (rs : List ℕ) (bit : ℕ → ℕ) (from s p : ℕ) → stacked m rs bit from s p < 2 ^ length rs * (s + 1)
+stacked-below m rs bit from s p =
+    omega (arith, stacked-over m rs bit from s p, over-below (length rs) (valueOf m rs bit from p) s (λ i. codeword-small _ m _ p))
 
--- ---- by the numbers that hold the codewords
+-- the stack at p, from the numbers that hold the codewords
+pub stacked-words : (k : ℕ) (bit : ℕ → ℕ) (p : ℕ) → p < 2 ^ k → levels k ≤ 3 → (s : ℕ)
+    → stacked k (degrees k) bit 0 s p ≡ over (levels k) (λ i. digit (getD (codewordsOf k bit) i 0) p) s
+unfolding codewordsOf levels
+stacked-words k bit p h few s = stacked-over k (degrees k) bit 0 s p ∙ over-ext (levels k) s each
+  where
+    held : (i : ℕ) → i < levels k → getD (codewordsOf k bit) i 0 ≡ number (2 ^ k) (levelValue k bit i)
+    held i l = table-at (λ i. given (ltb i (levels k)) (number (2 ^ k) (levelValue k bit i))) 3 i (omega arith) ∙ rw (lt-ltb i (levels k) l) refl
 
-module _ (k : ℕ) (bit : ℕ → ℕ) (p : ℕ) (h : p < 2 ^ k) where
-  -- bit p of number i
-  word-bit : (i : ℕ) → i < 3 → digit (getD (codewordsOf k bit) i 0) p ≡ given (ltb i (levels k)) (levelValue k bit i p)
-  unfolding codewordsOf
-  word-bit i l = ap (λ (x : ℕ). digit x p) (table-at (λ i. given (ltb i (levels k)) (number (2 ^ k) (levelValue k bit i))) 3 i l) ∙ go (ltb i (levels k))
-    where
-      go : (t : Bool) → digit (given t (number (2 ^ k) (levelValue k bit i))) p ≡ given t (levelValue k bit i p)
-      go true = number-bit (levelValue k bit i) (2 ^ k) (λ q u. codeword-small _ k _ q) p h
-      go false = digit-none p
-
-  -- 2^i times the value, from the number
-  term : (i : ℕ) → i < 3 → given (ltb i (levels k)) (2 ^ i * valueOf k (degrees k) bit 0 p i) ≡ 2 ^ i * digit (getD (codewordsOf k bit) i 0) p
-  term i l =
-      let e : 0 + dimensions k (take i (degrees k)) ≡ dimensions k (take i (degrees k)) = omega arith in
-      ap (λ (n : ℕ). given (ltb i (levels k)) (2 ^ i * codeword (getD (degrees k) i 0) k (λ t. bit (n + t)) p)) e
-      ∙ go (ltb i (levels k)) (levelValue k bit i p) ∙ ap (λ (x : ℕ). 2 ^ i * x) (sym (word-bit i l))
-    where
-      go : (t : Bool) (v : ℕ) → given t (2 ^ i * v) ≡ 2 ^ i * given t v
-      go true v = refl
-      go false v = omega arith
-
-  -- the stack at p, from three numbers
-  pub stacked-words : levels k ≤ 3 → (s : ℕ) → stacked k (degrees k) bit 0 s p
-      ≡ digit (getD (codewordsOf k bit) 0 0) p + 2 * digit (getD (codewordsOf k bit) 1 0) p + 4 * digit (getD (codewordsOf k bit) 2 0) p + 2 ^ levels k * s
-  unfolding sumTo levels
-  stacked-words few s =
-      stacked-sum k (degrees k) bit 0 s p
-      ∙ omega (arith, sum-given 3 (levels k) (λ i. 2 ^ i * valueOf k (degrees k) bit 0 p i) few, term 0 (omega arith), term 1 (omega arith), term 2 (omega arith))
+    each : (i : ℕ) → i < levels k → valueOf k (degrees k) bit 0 p i ≡ digit (getD (codewordsOf k bit) i 0) p
+    each i l =
+        let e : 0 + dimensions k (take i (degrees k)) ≡ dimensions k (take i (degrees k)) = omega arith in
+        ap (λ (n : ℕ). codeword (getD (degrees k) i 0) k (λ t. bit (n + t)) p) e
+        ∙ sym (ap (λ (x : ℕ). digit x p) (held i l) ∙ number-bit (levelValue k bit i) (2 ^ k) (λ q u. codeword-small _ k _ q) p h)

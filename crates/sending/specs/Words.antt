@@ -1,5 +1,5 @@
 -- The codewords of a message's levels as the code holds them. The contracts of private functions cite it; clients need none of it. Assumes nothing.
-use Prim.Native.Nat.{ℕ, _+_, _^_}
+use Prim.Native.Nat.{ℕ, zero, suc, _+_, _*_, _^_}
 use mathlib.Core.List.{List}
 use lib.Dec.{ltb}
 use lib.ListN.{getD, take}
@@ -19,3 +19,8 @@ levelValue k bit i p = codeword (getD (degrees k) i 0) k (λ t. bit (levelStart 
 unfoldable pub codewordsOf : ℕ → (ℕ → ℕ) → List ℕ
 unfolding table levels
 codewordsOf k bit = table 3 (λ i. given (ltb i (levels k)) (number (2 ^ k) (levelValue k bit i)))
+
+-- the values c 0, c 1, .. of n levels under s: c 0 + 2·s with one, c 0 + 2·(c 1 + 2·s) with two, and so on
+unfoldable pub over : ℕ → (ℕ → ℕ) → ℕ → ℕ
+over zero c s = s
+over (suc n) c s = c 0 + 2 * over n (λ i. c (suc i)) s

@@ -1,14 +1,14 @@
 // From the bits of a message to the coset leader, block by block.
 ghost use mathlib.Core.Path.{_≡_};
 ghost use mathlib.Core.Bool.{true};
-ghost use Prim.Native.Nat.{_+_, _*_, _/_, _%_, _≤_, _^_};
+ghost use Prim.Native.Nat.{ℕ, _+_, _*_, _/_, _%_, _<_, _≤_, _^_};
 ghost use lib.ListN.{length, getD};
-ghost use Rattle.bits.specs.Number.{table};
+ghost use Rattle.bits.specs.Number.{pick, table};
 ghost use Rattle.bits.specs.Message.{messageBit};
 ghost use Rattle.e8.specs.Rows.{ints};
 ghost use Rattle.frames.specs.Kind.{isKind, levelBits};
 ghost use Rattle.frames.specs.Message.{widths, numbers};
-ghost use Rattle.sending.specs.Words.{codewordsOf};
+ghost use Rattle.sending.specs.Words.{codewordsOf, over};
 
 // The codewords of a message's levels, each held in a number: bit p is the value at p. 0 where there is no such level.
 pub fn codewords(kind: u8, message: &[u8]) -> [u64; 3]
@@ -33,30 +33,95 @@ pub fn codewords(kind: u8, message: &[u8]) -> [u64; 3]
     words
 }
 
-// A block of the leader, from the block's message bits and the values c0, c1, c2 of the levels at its eight positions: c0 + 2·c1 + 4·c2 + 2^a·s.
-pub fn block(
-    message: &[u8],
-    from: usize,
-    grade: usize,
-    a: u32,
-    c0: u64,
-    c1: u64,
-    c2: u64,
-) -> [i32; 8]
-    requires { ⌜ (1 ≤ grade) × (grade ≤ 4) × (a ≤ 3) × (from % 8 + 8 * grade ≤ 64) × (from + 8 * grade ≤ 8 * length (now message)) ⌝ }
-    ensures { λ x. ⌜ x ≡ ints (table 8 (λ o. c0 / 2 ^ o % 2 + 2 * (c1 / 2 ^ o % 2) + 4 * (c2 / 2 ^ o % 2)
-        + 2 ^ a * getD (numbers (messageBit (now (message .entry))) from (widths grade)) o 0)) ⌝ }
+// A block's numbers s1 to s8, from its message bits, held in a number.
+fn unpacked_by(bits: u64, grade: usize) -> [u32; 8]
+    requires { ⌜ (1 ≤ grade) × (grade ≤ 4) ⌝ }
+    ensures { λ s. ⌜ s ≡ numbers (λ t. bits / 2 ^ t % 2) 0 (widths grade) ⌝ }
 {
-    let bits = bits::bits_at(message, from, 8 * grade);
-    let mut x = [0i32; 8];
+    let mut s = [0u32; 8];
     let mut at: usize = 0;
     let mut o: usize = 0;
     while o < 8 {
         let w = kind_table::width(grade, o);
-        let s = (bits >> at) % (1u64 << w);
-        x[o] = ((c0 >> o) % 2 + 2 * ((c1 >> o) % 2) + 4 * ((c2 >> o) % 2) + (s << a)) as i32;
+        s[o] = ((bits >> at) % (1u64 << w)) as u32;
         at += w;
         o += 1;
     }
+    s
+}
+
+// The same, by a grade that is a constant in each call: the compiler then has a code with constant shifts for each grade.
+fn unpacked(bits: u64, grade: usize) -> [u32; 8]
+    requires { ⌜ (1 ≤ grade) × (grade ≤ 4) ⌝ }
+    ensures { λ s. ⌜ s ≡ numbers (λ t. bits / 2 ^ t % 2) 0 (widths grade) ⌝ }
+{
+    if grade == 1 {
+        return unpacked_by(bits, 1);
+    }
+    if grade == 2 {
+        return unpacked_by(bits, 2);
+    }
+    if grade == 3 {
+        return unpacked_by(bits, 3);
+    }
+    unpacked_by(bits, 4)
+}
+
+// A level under a block's numbers: c + 2·s at each position, c being the bit of the word there; the numbers as they came where there is no such level.
+fn under(there: bool, word: u64, s: [u32; 8]) -> [u32; 8]
+    requires { ⌜ ((o : ℕ) → o < 8 → getD s o 0 < 2 ^ 30) ⌝ }
+    ensures { λ x. ⌜ x ≡ table 8 (λ o. pick there (word / 2 ^ o % 2 + 2 * getD s o 0) (getD s o 0)) ⌝ }
+{
+    if !there {
+        return s;
+    }
+    let mut x = s;
+    let mut o: usize = 0;
+    while o < 8 {
+        let z = s[o];
+        x[o] = ((word >> o) % 2) as u32 + 2 * z;
+        o += 1;
+    }
     x
+}
+
+// Eight numbers as coordinates.
+fn signed(s: [u32; 8]) -> [i32; 8]
+    requires { ⌜ ((o : ℕ) → o < 8 → getD s o 0 < 2 ^ 31) ⌝ }
+    ensures { λ x. ⌜ x ≡ ints s ⌝ }
+{
+    let mut x = [0i32; 8];
+    let mut o: usize = 0;
+    while o < 8 {
+        let z = s[o];
+        x[o] = z as i32;
+        o += 1;
+    }
+    x
+}
+
+// A block of the leader, at positions q to q + 7, from the block's message bits and the words of the levels: c0 + 2·(c1 + 2·s) with two levels.
+// Three turns, from the last level to the first, so that the compiler lays them out one by one.
+pub fn block(
+    message: &[u8],
+    from: usize,
+    grade: usize,
+    levels: usize,
+    words: [u64; 3],
+    q: usize,
+) -> [i32; 8]
+    requires { ⌜ (1 ≤ grade) × (grade ≤ 4) × (levels ≤ 3) × (q < 64) × (from % 8 + 8 * grade ≤ 64) × (from + 8 * grade ≤ 8 * length (now message)) ⌝ }
+    ensures { λ x. ⌜ x ≡ ints (table 8 (λ o. over levels (λ i. getD words i 0 / 2 ^ (q + o) % 2)
+        (getD (numbers (messageBit (now (message .entry))) from (widths grade)) o 0))) ⌝ }
+{
+    let bits = bits::bits_at(message, from, 8 * grade);
+    let mut x = unpacked(bits, grade);
+    let mut i: usize = 3;
+    while 0 < i {
+        i -= 1;
+        let word = words[i];
+        let y = under(i < levels, word >> q, x);
+        x = y;
+    }
+    signed(x)
 }

@@ -26,18 +26,15 @@ fn write_leader(kind: u8, grade: usize, message: &[u8], frame: &mut [i32])
     ensures { λ _. ⌜ now (frame .exit) ≡ leader kind grade (now (message .entry)) ⌝ }
 {
     let words = leader::codewords(kind, message);
-    let c0 = words[0];
-    let c1 = words[1];
-    let c2 = words[2];
     let base = kind_table::level_bits(kind);
-    let weight = kind_table::levels(kind) as u32;
+    let levels = kind_table::levels(kind);
     let blocks = frame.len() / 8;
     let mut j: usize = 0;
     while j < blocks {
         let s = 8 * j;
         let e = s + 8;
         let from = base + 8 * grade * j;
-        let x = leader::block(message, from, grade, weight, c0 >> s, c1 >> s, c2 >> s);
+        let x = leader::block(message, from, grade, levels, words, s);
         coordinates::store(x, &mut frame[s..e]);
         j += 1;
     }

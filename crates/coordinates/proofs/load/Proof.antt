@@ -2,6 +2,7 @@
 use mathlib.Core.Path.{_≡_, refl, sym}
 use Prim.Native.Nat.{_-_}
 use native.Mathlib.Omega.{arith}
+use lib.IntN.{pos}
 use lib.ListN.{length}
 use borrow.Author.Needs.{needs}
 use Rattle.integers.proofs.Zed.{tz}
@@ -40,7 +41,7 @@ loop-again : tie.Need-loop-again Inv-loop μ-loop
 loop-again c =
     let s = c .before .before .before in
     let l = c .before .before .loop in
-    (s .pre, filled-next (s .args .part .now) (l .r) (l .j) _ (l .inv .1) (omega (arith, s .pre)) (tz refl (record { sfits = c .z .given })))
+    (s .pre, filled-next (pos 0) (s .args .part .now) (l .r) (l .j) _ (l .inv .1) (omega (arith, s .pre)) (tz refl (record { sfits = c .z .given })))
 
 returns : tie.Need-returns Inv-loop μ-loop
 returns c =

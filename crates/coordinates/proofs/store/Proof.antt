@@ -2,6 +2,7 @@
 use mathlib.Core.Path.{_≡_, refl}
 use Prim.Native.Nat.{_-_}
 use native.Mathlib.Omega.{arith}
+use lib.IntN.{pos}
 use lib.ListN.{length}
 use borrow.Author.Needs.{needs}
 use Rattle.integers.proofs.Zed.{tz}
@@ -43,7 +44,7 @@ loop-again : tie.Need-loop-again Inv-loop μ-loop
 loop-again c =
     let s = c .before .before .before in
     let l = c .before .before .loop in
-    (eight s, filled-next (s .args .t1) (l .part) (l .p) _ (l .inv .1) (omega (arith, eight s)) (tz refl (record { sfits = c .z .given })))
+    (eight s, filled-next (pos 0) (s .args .t1) (l .part) (l .p) _ (l .inv .1) (omega (arith, eight s)) (tz refl (record { sfits = c .z .given })))
 
 same-length : tie.Need-same-length Inv-loop μ-loop
 same-length c = search needs

@@ -83,7 +83,7 @@ loop-again c =
     let s = l .before in
     let i = l .loop .i in (
       omega arith,
-      filled-next (target s) (l .loop .r) i _ (l .loop .inv .1) (omega (arith, long s))
+      filled-next (pos 0) (target s) (l .loop .r) i _ (l .loop .inv .1) (omega (arith, long s))
           (tz (one s i) (one-fits s i) ∙ sym (target-at s i (omega arith))),
     )
 

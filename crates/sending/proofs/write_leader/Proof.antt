@@ -21,11 +21,11 @@ use Rattle.sending.proofs.write_leader.Statement.{statement}
 use Rattle.sending.proofs.write_leader.Tie as tie
 
 abbrev Inv-loop : tie.InvT-loop
-Inv-loop kind grade message frame₀ c0 c1 c2 base weight blocks j₀ frame j =
+Inv-loop kind grade message frame₀ words base levels blocks j₀ frame j =
     Over (λ i. take (8 * i) (leader kind grade message)) frame₀ j frame
 
 abbrev μ-loop : tie.MeasureT-loop
-μ-loop kind grade message frame₀ c0 c1 c2 base weight blocks j₀ frame j = blocks-of kind - j
+μ-loop kind grade message frame₀ words base levels blocks j₀ frame j = blocks-of kind - j
 
 -- ---- the places before the loop, from the loop
 
@@ -67,7 +67,7 @@ record Turn (a : At) : Type 0 where
   base : at-bits a .level-bits .result ≡ levelBits (at-start a .args .kind)
   piece : Piece (levelBits (at-start a .args .kind) + 8 * at-start a .args .grade * a .loop .j) (8 * at-start a .args .grade) (messageBits (at-start a .args .kind) (at-start a .args .grade))
   short : messageBits (at-start a .args .kind) (at-start a .args .grade) ≤ 160
-  weight : at-levels a .levels .result ≤ 2
+  levels : at-levels a .levels .result ≤ 3
 
 turn : (c : tie.In-loop Inv-loop μ-loop) → Turn (c .before)
 turn c =
@@ -81,7 +81,7 @@ turn c =
       base = at-bits a .level-bits .ensures;
       piece = block-piece k (s .args .grade) (a .loop .j) (s .pre .0) (s .pre .2) h;
       short = few-message-bits k (s .args .grade) (s .pre .0) (s .pre .2);
-      weight = omega (arith, at-levels a .levels .ensures, few-levels k (s .pre .0));
+      levels = omega (arith, at-levels a .levels .ensures, few-levels k (s .pre .0));
     }
 
 -- ---- before the loop
@@ -91,25 +91,11 @@ codewords-requires c κs =
     let s = c .before in
     (s .pre .0, subst (λ (n : ℕ). levelBits (s .args .kind) ≤ 8 * n) (sym (s .pre .3)) (levels-hold (s .args .kind) (s .args .grade)))
 
-array-read-c0 : tie.Need-array-read-c0 Inv-loop μ-loop
-array-read-c0 c = search needs
-
-array-read-c1 : tie.Need-array-read-c1 Inv-loop μ-loop
-array-read-c1 c = search needs
-
-array-read-c2 : tie.Need-array-read-c2 Inv-loop μ-loop
-array-read-c2 c = search needs
-
 level-bits-requires : tie.Need-level-bits-requires Inv-loop μ-loop
 level-bits-requires c κs = c .before .before .pre .0
 
 levels-requires : tie.Need-levels-requires Inv-loop μ-loop
 levels-requires c κs = c .before .before .before .pre .0
-
-cast-weight : tie.Need-cast-weight Inv-loop μ-loop
-cast-weight c =
-    let s = c .before .before .before .before in
-    omega (arith, c .levels .ensures, few-levels (s .args .kind) (s .pre .0))
 
 loop-holds : tie.Need-loop-holds Inv-loop μ-loop
 loop-holds c =
@@ -133,22 +119,14 @@ mul-from-2 c = record { fits = omega (arith, turn c .piece .inside, turn c .shor
 add-from : tie.Need-add-from Inv-loop μ-loop
 add-from c = omega (arith, turn c .piece .inside, turn c .short, turn c .base)
 
-shr-block : tie.Need-shr-block Inv-loop μ-loop
-shr-block c = omega (arith, turn c .inside, turn c .few)
-
-shr-block-2 : tie.Need-shr-block-2 Inv-loop μ-loop
-shr-block-2 c = omega (arith, turn c .inside, turn c .few)
-
-shr-block-3 : tie.Need-shr-block-3 Inv-loop μ-loop
-shr-block-3 c = omega (arith, turn c .inside, turn c .few)
-
 block-requires : tie.Need-block-requires Inv-loop μ-loop
 block-requires c κs =
     let s = at-start (c .before) in
     let t = turn c in (
       s .pre .1,
       s .pre .2,
-      omega (arith, t .weight),
+      t .levels,
+      omega (arith, t .inside, t .few),
       omega (arith, t .base, t .piece .word),
       omega (arith, t .base, t .piece .inside, bytes-hold (s .args .kind) (s .args .grade), s .pre .3),
     )
@@ -218,21 +196,14 @@ write-leader-spec =
     Inv-loop
     μ-loop
     codewords-requires
-    array-read-c0
-    array-read-c1
-    array-read-c2
     level-bits-requires
     levels-requires
-    cast-weight
     loop-holds
     mul-s
     add-e
     mul-from
     mul-from-2
     add-from
-    shr-block
-    shr-block-2
-    shr-block-3
     block-requires
     mul-store
     sub-store

@@ -94,7 +94,7 @@ loop-again c =
     let i = l .loop .i in
     let e = plain (z s i) (omega (arith, small s i)) in (
       omega arith,
-      filled-next (target s) (l .loop .r) i _ (l .loop .inv .1) (omega (arith, long s))
+      filled-next (pos 0) (target s) (l .loop .r) i _ (l .loop .inv .1) (omega (arith, long s))
           (tz refl (record { sfits = c .member .ok }) ∙ c .member .ensures ∙ ap (λ (y : ℤ). memberOf (at s) (elsewhere s) (n s) y i) e
           ∙ sym (target-at s i (omega arith))),
     )

@@ -72,7 +72,7 @@ loop-again c =
     let s = l .before in
     let i = l .loop .i in (
       omega arith,
-      filled-next (cond (s .args .t) (s .args .t2) (s .args .t3)) (l .loop .r) i _ (l .loop .inv .1) (omega (arith, long s))
+      filled-next (pos 0) (cond (s .args .t) (s .args .t2) (s .args .t3)) (l .loop .r) i _ (l .loop .inv .1) (omega (arith, long s))
           (tz refl (record { sfits = c .choose .ok }) ∙ c .choose .ensures
           ∙ ap₂ (cond (s .args .t)) (tz refl (record { sfits = c .before .before .x .given })) (tz refl (record { sfits = c .before .y .given }))
           ∙ at (s .args .t) (s .args .t2) (s .args .t3) i),

@@ -60,7 +60,7 @@ loop-again c =
     let l = c .before .before .loop in
     let s = c .before .before .before in
     let f : SFits w32 (getD (s .args .t2) (l .i) (pos 0)) = record { sfits = c .z .given } in
-    filled-next (quotients (s .args .a) (s .args .t2)) (l .r) (l .i) _ (l .inv) (omega (arith, long s))
+    filled-next (pos 0) (quotients (s .args .a) (s .args .t2)) (l .r) (l .i) _ (l .inv) (omega (arith, long s))
     (tz (ap (λ (y : ℤ). shrZ y (2 ^ s .args .a)) (tz refl f)) (fits-quotient (2 ^ s .args .a) f)
     ∙ sym (quotient-at (s .args .a) (s .args .t2) (l .i) (omega (arith, eight s))))
 

@@ -1,38 +1,103 @@
--- `leader::block` meets its contract: the coordinates passed so far are made. Assumes nothing.
+-- `leader::block` meets its contract: the levels from i on are under the block's numbers. Assumes nothing.
 use Prim.Native.Nat.{ℕ, suc, _+_, _-_, _*_, _/_, _%_, _^_, _≤_, _<_}
 use mathlib.Core.Path.{_≡_, refl, sym, ap, ap₂, _∙_}
 use mathlib.Core.List.{List}
+use native.Mathlib.Nat.{zero-add, mul-le-mul}
 use native.Mathlib.Omega.{arith}
-use native.Mathlib.Numerals.{add-one}
-use lib.ListN.{length, getD, take, length-set}
-use lib.Seq.{take-all}
-use lib.Pow.{pow-mono, pow-pos}
-use lib.IntN.{pos}
-use mir.Syntax.{w32}
-use mir.Val.{toZ}
-use mir.Facts.{toZ-pos}
-use Rattle.bits.specs.Number.{table, number}
+use lib.Dec.{ltb}
+use lib.ListN.{getD}
+use lib.Pow.{pow-mono}
+use borrow.Author.Needs.{needs}
+use Rattle.bits.specs.Number.{pick, table, number}
 use Rattle.bits.specs.Message.{messageBit}
-use Rattle.bits.proofs.Message.{message-small}
+use Rattle.bits.proofs.Message.{bytes-are, number-bit, message-small}
+use Rattle.bits.proofs.Digits.{digit, digit-small, digit-from}
+use Rattle.bits.proofs.Table.{table-at, table-ext}
 use Rattle.e8.specs.Rows.{ints}
 use Rattle.frames.specs.Message.{widths, numbers}
 use Rattle.frames.proofs.Numbers.{total, total-widths}
-use Rattle.sending.proofs.Bits.{number-small, number-part}
-use Rattle.sending.proofs.Block.{numbers-at, total-suc, total-le, ints-more, ints-none, width-small, scaled-small}
+use Rattle.sending.specs.Words.{over}
+use Rattle.sending.proofs.Block.{numbers-length, numbers-below, numbers-ext}
+use Rattle.sending.proofs.Stack.{over-ext, over-below, over-more}
 use Rattle.sending.proofs.leader.block.Statement.{statement}
 use Rattle.sending.proofs.leader.block.Tie as tie
 
--- coordinate o of the block
-abbrev made : List ℕ → ℕ → ℕ → ℕ → ℕ → ℕ → ℕ → ℕ → ℕ
-made message from grade a c0 c1 c2 o =
-    c0 / 2 ^ o % 2 + 2 * (c1 / 2 ^ o % 2) + 4 * (c2 / 2 ^ o % 2) + 2 ^ a * getD (numbers (messageBit message) from (widths grade)) o 0
+-- number o of the block
+abbrev own : List ℕ → ℕ → ℕ → ℕ → ℕ
+own message from b o = getD (numbers (messageBit message) from (widths b)) o 0
+
+-- the levels from i on under number o
+abbrev made : List ℕ → ℕ → ℕ → ℕ → List ℕ → ℕ → ℕ → ℕ → ℕ
+made message from b n words q i o = over (n - i) (λ t. digit (getD words (i + t) 0) (q + o)) (own message from b o)
+
+module _ (message : List ℕ) (from b n : ℕ) (words : List ℕ) (q : ℕ) (low : 1 ≤ b) (high : b ≤ 4) (few : n ≤ 3) where
+  abbrev F : ℕ → ℕ → ℕ
+  F = made message from b n words q
+
+  -- no coordinate passes 255
+  small : (i o : ℕ) → o < 8 → F i o < 256
+  small i o l =
+      let s : ℕ = own message from b o in
+      let h : s < 32 = numbers-below (messageBit message) (message-small message) from b o high l in
+      let p : 2 ^ (n - i) * (s + 1) ≤ 8 * 32 = mul-le-mul {n₁ = 2 ^ (n - i)} {m₁ = s + 1} {n₂ = 8} {m₂ = 32} (pow-mono {j = 3} (omega arith)) (omega arith) in
+      omega (arith, over-below (n - i) (λ t. digit (getD words (i + t) 0) (q + o)) s (λ t. digit-small (getD words (i + t) 0) (q + o)))
+
+  at : (i : ℕ) {x : List ℕ} → x ≡ table 8 (F i) → (o : ℕ) → o < 8 → getD x o 0 ≡ F i o
+  at i e o l = ap (λ (y : List ℕ). getD y o 0) e ∙ table-at (F i) 8 o l
+
+  -- no level is under the numbers of the message bits
+  none-yet : (bits : ℕ) → bits ≡ number (8 * b) (λ t. messageBit message (from + t)) → numbers (digit bits) 0 (widths b) ≡ table 8 (F 3)
+  unfolding over
+  none-yet bits e =
+      numbers-ext (digit bits) (messageBit message) 0 from (widths b) each
+      ∙ sym (bytes-are ns (λ o. getD ns o 0) (λ o h. refl))
+      ∙ ap (λ (m : ℕ). table m (λ o. getD ns o 0)) (numbers-length (messageBit message) from (widths b))
+      ∙ table-ext 8 (λ o l. let z : n - 3 ≡ 0 = omega arith in rw z refl)
+    where
+      ns : List ℕ
+      ns = numbers (messageBit message) from (widths b)
+
+      each : (i : ℕ) → i < total (widths b) → digit bits (0 + i) ≡ messageBit message (from + i)
+      each i l =
+          ap (λ (x : ℕ). digit x (0 + i)) e ∙ ap (digit (number (8 * b) (λ t. messageBit message (from + t)))) (zero-add i)
+          ∙ number-bit (λ t. messageBit message (from + t)) (8 * b) (λ t u. message-small message (from + t)) i (omega (arith, total-widths b low))
+
+  -- level i under those from i + 1 on
+  one-more : (i : ℕ) {x : List ℕ} → x ≡ table 8 (F (suc i))
+      → table 8 (λ o. pick (ltb i n) (getD words i 0 / 2 ^ q / 2 ^ o % 2 + 2 * getD x o 0) (getD x o 0)) ≡ table 8 (F i)
+  one-more i {x} e = table-ext 8 (λ o l.
+      ap₂ (λ (d y : ℕ). pick (ltb i n) (d + 2 * y) y) (digit-from (getD words i 0) q o) (at (suc i) e o l)
+      ∙ over-more n i (λ t. digit (getD words t 0) (q + o)) (own message from b o))
+
+  all-there : {x : List ℕ} → x ≡ table 8 (F 0) → x ≡ table 8 (λ o. over n (λ i. digit (getD words i 0) (q + o)) (own message from b o))
+  all-there e = e ∙ table-ext 8 (λ o l. let z : n - 0 ≡ n = omega arith in
+      ap (λ (m : ℕ). over m (λ t. digit (getD words (0 + t) 0) (q + o)) (own message from b o)) z
+      ∙ over-ext n (own message from b o) (λ i u. ap (λ (t : ℕ). digit (getD words t 0) (q + o)) (zero-add i)))
 
 abbrev Inv-loop : tie.InvT-loop
-Inv-loop message from grade a c0 c1 c2 bits x₀ at₀ o₀ x at o =
-    (o ≤ 8) × (at ≡ total (take o (widths grade))) × (length x ≡ 8) × (take o x ≡ ints (table o (made message from grade a c0 c1 c2)))
+Inv-loop message from grade levels q words bits x₀ i₀ x i = (i ≤ 3) × (x ≡ table 8 (made message from grade levels words q i))
 
 abbrev μ-loop : tie.MeasureT-loop
-μ-loop message from grade a c0 c1 c2 bits x₀ at₀ o₀ x at o = 8 - o
+μ-loop message from grade levels q words bits x₀ i₀ x i = i
+
+-- ---- the start, from the loop, and the laws at its arguments
+
+abbrev At : Type 0
+At = tie.At-loop Inv-loop μ-loop
+
+abbrev at-start : At → tie.Start Inv-loop μ-loop
+at-start a = a .before .before .before .before
+
+bounded : (a : At) (o : ℕ) → o < 8 → getD (a .loop .x) o 0 < 256
+bounded a o l =
+    let s = at-start a in
+    let g = s .args in
+    let i = a .loop .i in
+    omega (
+      arith,
+      at (g .message .now) (g .from) (g .grade) (g .levels) (g .t5) (g .q) (s .pre .0) (s .pre .1) (s .pre .2) i (a .loop .inv .1) o l,
+      small (g .message .now) (g .from) (g .grade) (g .levels) (g .t5) (g .q) (s .pre .0) (s .pre .1) (s .pre .2) i o l,
+    )
 
 mul-bits-at : tie.Need-mul-bits-at Inv-loop μ-loop
 mul-bits-at c = omega arith
@@ -40,148 +105,54 @@ mul-bits-at c = omega arith
 bits-at-requires : tie.Need-bits-at-requires Inv-loop μ-loop
 bits-at-requires c κs = (omega arith, omega arith, omega arith)
 
+unpacked-requires : tie.Need-unpacked-requires Inv-loop μ-loop
+unpacked-requires c κs = (c .before .before .pre .0, c .before .before .pre .1)
+
 loop-holds : tie.Need-loop-holds Inv-loop μ-loop
-loop-holds c = (omega arith, refl, refl, ints-none _)
+loop-holds c =
+    let s = c .before .before .before in
+    let g = s .args in
+    (omega arith, c .unpacked .ensures ∙ none-yet (g .message .now) (g .from) (g .grade) (g .levels) (g .t5) (g .q) (s .pre .0) (s .pre .1) (s .pre .2) (c .before .bits-at .result) (c .before .bits-at .ensures))
 
-width-requires : tie.Need-width-requires Inv-loop μ-loop
-width-requires c κs =
-    let s = c .before .before .before .before in
-    (s .pre .0, s .pre .1, omega (arith, c .loop-test .taken))
+sub-i : tie.Need-sub-i Inv-loop μ-loop
+sub-i c = search needs
 
--- a number of at most five bits, among the block's
-record Fit (c : tie.After-width Inv-loop μ-loop) : Type 0 where
-  narrow : c .width .result ≤ 5
-  inside : c .before .before .loop .at + c .width .result ≤ 8 * c .before .before .before .before .before .args .grade
+mul-word : tie.Need-mul-word Inv-loop μ-loop
+mul-word c = omega arith
 
-fit : (c : tie.After-width Inv-loop μ-loop) → Fit c
-fit c =
-    let a = c .before .before in
-    let s = a .before .before .before in
-    let b = s .args .grade in
-    let lt : a .loop .o < 8 = omega (arith, c .before .loop-test .taken) in record {
-      narrow = omega (arith, c .width .ensures, width-small b (a .loop .o) (s .pre .1) lt);
-      inside = omega (arith, c .width .ensures, a .loop .inv .1, total-suc (widths b) (a .loop .o) lt, total-le (widths b) (suc (a .loop .o)), total-widths b (s .pre .0));
-    }
+array-read-word : tie.Need-array-read-word Inv-loop μ-loop
+array-read-word c = omega arith
 
--- the number that is taken, and 2^a times it
-abbrev taken : (c : tie.After-width Inv-loop μ-loop) → ℕ
-taken c =
-    let a = c .before .before in
-    a .before .bits-at .result / 2 ^ a .loop .at % (1 * 2 ^ c .width .result % 18446744073709551616)
+shr-under : tie.Need-shr-under Inv-loop μ-loop
+shr-under c = c .before .before .before .before .before .pre .3
 
-taken-is : (c : tie.After-width Inv-loop μ-loop) → let a = c .before .before in let s = a .before .before .before in
-    taken c ≡ number (c .width .result) (λ i. messageBit (s .args .message .now) (s .args .from + a .loop .at + i))
-taken-is c =
-    let a = c .before .before in
-    let s = a .before .before .before in
-    let w = c .width .result in
-    let bit = messageBit (s .args .message .now) in
-    let p : 1 * 2 ^ w % 18446744073709551616 ≡ 2 ^ w = omega (arith, pow-mono {i = w} {j = 5} (fit c .narrow)) in
-    ap (λ (n : ℕ). a .before .bits-at .result / 2 ^ a .loop .at % n) p
-    ∙ ap (λ (n : ℕ). n / 2 ^ a .loop .at % 2 ^ w) (a .before .bits-at .ensures)
-    ∙ number-part bit (message-small (s .args .message .now)) (s .args .from) (8 * s .args .grade) (a .loop .at) w (fit c .inside)
-
-small : (c : tie.After-width Inv-loop μ-loop) → taken c * 2 ^ c .before .before .before .before .before .args .a ≤ 248
-small c =
-    let a = c .before .before in
-    let s = a .before .before .before in
-    scaled-small (taken c) (s .args .a)
-    (omega (arith, taken-is c, number-small (messageBit (s .args .message .now)) (message-small (s .args .message .now)) (s .args .from + a .loop .at) (c .width .result) (fit c .narrow)))
-    (s .pre .2)
-
-shr-s : tie.Need-shr-s Inv-loop μ-loop
-shr-s c = omega (arith, fit c .inside)
-
-shl-s : tie.Need-shl-s Inv-loop μ-loop
-shl-s c = omega (arith, fit c .narrow)
-
-rem-s : tie.Need-rem-s Inv-loop μ-loop
-rem-s c = omega (arith, pow-mono {i = c .width .result} {j = 5} (fit c .narrow), pow-pos (c .width .result))
-
-shr-x : tie.Need-shr-x Inv-loop μ-loop
-shr-x c = omega arith
-
-shr-x-2 : tie.Need-shr-x-2 Inv-loop μ-loop
-shr-x-2 c = omega arith
-
-mul-x : tie.Need-mul-x Inv-loop μ-loop
-mul-x c = omega arith
-
-add-x : tie.Need-add-x Inv-loop μ-loop
-add-x c = omega arith
-
-shr-x-3 : tie.Need-shr-x-3 Inv-loop μ-loop
-shr-x-3 c = omega arith
-
-mul-x-2 : tie.Need-mul-x-2 Inv-loop μ-loop
-mul-x-2 c = omega arith
-
-add-x-2 : tie.Need-add-x-2 Inv-loop μ-loop
-add-x-2 c = omega arith
-
-shl-x : tie.Need-shl-x Inv-loop μ-loop
-shl-x c = omega arith
-
-add-x-3 : tie.Need-add-x-3 Inv-loop μ-loop
-add-x-3 c = omega (arith, small c)
-
-cast-x : tie.Need-cast-x Inv-loop μ-loop
-cast-x c = record { sfits = omega (arith, small c) }
-
-mul-x-3 : tie.Need-mul-x-3 Inv-loop μ-loop
-mul-x-3 c = omega arith
-
-array-set-from-x : tie.Need-array-set-from-x Inv-loop μ-loop
-array-set-from-x c = omega arith
-
-add-at : tie.Need-add-at Inv-loop μ-loop
-add-at c = omega (arith, fit c .inside)
-
-add-o : tie.Need-add-o Inv-loop μ-loop
-add-o c = omega arith
+under-requires : tie.Need-under-requires Inv-loop μ-loop
+under-requires c κs o l = omega (arith, bounded (c .before) o l)
 
 loop-less : tie.Need-loop-less Inv-loop μ-loop
-loop-less c = omega arith
-
--- the coordinate that is made
-abbrev low : (c : tie.After-width Inv-loop μ-loop) → ℕ
-low c =
-    let a = c .before .before in
-    let g = a .before .before .before .args in
-    g .c0 / 2 ^ a .loop .o % 2 + 2 * (g .c1 / 2 ^ a .loop .o % 2) + 4 * (g .c2 / 2 ^ a .loop .o % 2)
-
-abbrev stored : (c : tie.After-width Inv-loop μ-loop) → ℕ
-stored c = low c + taken c * 2 ^ c .before .before .before .before .before .args .a % 18446744073709551616
-
-value : (c : tie.After-width Inv-loop μ-loop) → let a = c .before .before in let g = a .before .before .before .args in
-    stored c ≡ made (g .message .now) (g .from) (g .grade) (g .a) (g .c0) (g .c1) (g .c2) (a .loop .o)
-value c =
-    let a = c .before .before in
-    let g = a .before .before .before .args in
-    let bit = messageBit (g .message .now) in
-    let e : taken c ≡ getD (numbers bit (g .from) (widths (g .grade))) (a .loop .o) 0 =
-    taken-is c
-    ∙ ap₂ (λ (n w : ℕ). number w (λ i. bit (g .from + n + i))) (a .loop .inv .1) (c .width .ensures)
-    ∙ sym (numbers-at bit (g .from) (widths (g .grade)) (a .loop .o) (omega (arith, c .before .loop-test .taken))) in
-    omega (arith, small c, ap (λ (n : ℕ). n * 2 ^ g .a) e)
+loop-less c = search needs
 
 loop-again : tie.Need-loop-again Inv-loop μ-loop
 loop-again c =
     let a = c .before .before in
-    let s = a .before .before .before in
-    let lt : a .loop .o < 8 = omega (arith, c .before .loop-test .taken) in (
-      omega arith,
-      rw add-one (omega (arith, total-suc (widths (s .args .grade)) (a .loop .o) lt, a .loop .inv .1, c .width .ensures)),
-      length-set (a .loop .x) (a .loop .o) (toZ w32 (stored c)) ∙ a .loop .inv .2,
-      ints-more _ (a .loop .x) (a .loop .o) (toZ w32 (stored c)) (omega (arith, a .loop .inv .2))
-          (toZ-pos w32 {n = stored c} (omega (arith, small c)) ∙ ap pos (value c)) (a .loop .inv .3),
-    )
+    let s = at-start a in
+    let g = s .args in
+    let i : ℕ = a .loop .i - 1 in
+    let up : a .loop .i ≡ suc i = omega arith in
+    let x = a .loop .inv .1 ∙ ap (λ (m : ℕ). table 8 (made (g .message .now) (g .from) (g .grade) (g .levels) (g .t5) (g .q) m)) up in
+    (omega arith, c .under .ensures ∙ one-more (g .message .now) (g .from) (g .grade) (g .levels) (g .t5) (g .q) (s .pre .0) (s .pre .1) (s .pre .2) i x)
+
+signed-requires : tie.Need-signed-requires Inv-loop μ-loop
+signed-requires c κs o l = omega (arith, bounded (c .before) o l)
 
 returns : tie.Need-returns Inv-loop μ-loop
 returns c =
-    let l = c .before .loop in
-    let q : l .o ≡ 8 = omega arith in
-    sym (take-all 8 (l .x) (omega (arith, l .inv .2))) ∙ (rw q at (l .inv .3))
+    let a = c .before .before in
+    let s = at-start a in
+    let g = s .args in
+    let none : a .loop .i ≡ 0 = omega arith in
+    let x = a .loop .inv .1 ∙ ap (λ (m : ℕ). table 8 (made (g .message .now) (g .from) (g .grade) (g .levels) (g .t5) (g .q) m)) none in
+    c .signed .ensures ∙ ap ints (all-there (g .message .now) (g .from) (g .grade) (g .levels) (g .t5) (g .q) (s .pre .0) (s .pre .1) (s .pre .2) x)
 
 pub block-spec : {M : Type 1} → statement M
 block-spec =
@@ -191,25 +162,14 @@ block-spec =
     μ-loop
     mul-bits-at
     bits-at-requires
+    unpacked-requires
     loop-holds
-    width-requires
-    shr-s
-    shl-s
-    rem-s
-    shr-x
-    shr-x-2
-    mul-x
-    add-x
-    shr-x-3
-    mul-x-2
-    add-x-2
-    shl-x
-    add-x-3
-    cast-x
-    mul-x-3
-    array-set-from-x
-    add-at
-    add-o
+    sub-i
+    mul-word
+    array-read-word
+    shr-under
+    under-requires
     loop-less
     loop-again
+    signed-requires
     returns)
