@@ -40,12 +40,12 @@ fn unpacked_by(bits: u64, grade: usize) -> [u32; 8]
 {
     let mut s = [0u32; 8];
     let mut at: usize = 0;
-    let mut o: usize = 0;
-    while o < 8 {
-        let w = kind_table::width(grade, o);
-        s[o] = ((bits >> at) % (1u64 << w)) as u32;
+    let mut i: usize = 0;
+    while i < 8 {
+        let w = kind_table::width(grade, i);
+        s[i] = ((bits >> at) % (1u64 << w)) as u32;
         at += w;
-        o += 1;
+        i += 1;
     }
     s
 }
@@ -76,11 +76,11 @@ fn under(there: bool, word: u64, s: [u32; 8]) -> [u32; 8]
         return s;
     }
     let mut x = s;
-    let mut o: usize = 0;
-    while o < 8 {
-        let z = s[o];
-        x[o] = ((word >> o) % 2) as u32 + 2 * z;
-        o += 1;
+    let mut p: usize = 0;
+    while p < 8 {
+        let z = s[p];
+        x[p] = ((word >> p) % 2) as u32 + 2 * z;
+        p += 1;
     }
     x
 }

@@ -30,17 +30,43 @@ own message from b o = getD (numbers (messageBit message) from (widths b)) o 0
 abbrev made : List ℕ → ℕ → ℕ → ℕ → List ℕ → ℕ → ℕ → ℕ → ℕ
 made message from b n words q i o = over (n - i) (λ t. digit (getD words (i + t) 0) (q + o)) (own message from b o)
 
-module _ (message : List ℕ) (from b n : ℕ) (words : List ℕ) (q : ℕ) (low : 1 ≤ b) (high : b ≤ 4) (few : n ≤ 3) where
+abbrev Inv-loop : tie.InvT-loop
+Inv-loop message from grade levels q words bits x₀ i₀ x i = (i ≤ 3) × (x ≡ table 8 (made message from grade levels words q i))
+
+abbrev μ-loop : tie.MeasureT-loop
+μ-loop message from grade levels q words bits x₀ i₀ x i = i
+
+-- ---- the laws of a block, from what the function is given
+
+module _ (s : tie.Start Inv-loop μ-loop) where
+  abbrev message : List ℕ
+  message = s .args .message .now
+
+  abbrev from : ℕ
+  from = s .args .from
+
+  abbrev b : ℕ
+  b = s .args .grade
+
+  abbrev n : ℕ
+  n = s .args .levels
+
+  abbrev words : List ℕ
+  words = s .args .t5
+
+  abbrev q : ℕ
+  q = s .args .q
+
   abbrev F : ℕ → ℕ → ℕ
   F = made message from b n words q
 
   -- no coordinate passes 255
   small : (i o : ℕ) → o < 8 → F i o < 256
   small i o l =
-      let s : ℕ = own message from b o in
-      let h : s < 32 = numbers-below (messageBit message) (message-small message) from b o high l in
-      let p : 2 ^ (n - i) * (s + 1) ≤ 8 * 32 = mul-le-mul {n₁ = 2 ^ (n - i)} {m₁ = s + 1} {n₂ = 8} {m₂ = 32} (pow-mono {j = 3} (omega arith)) (omega arith) in
-      omega (arith, over-below (n - i) (λ t. digit (getD words (i + t) 0) (q + o)) s (λ t. digit-small (getD words (i + t) 0) (q + o)))
+      let v : ℕ = own message from b o in
+      let h : v < 32 = numbers-below (messageBit message) (message-small message) from b o (s .pre .1) l in
+      let p : 2 ^ (n - i) * (v + 1) ≤ 8 * 32 = mul-le-mul {n₁ = 2 ^ (n - i)} {m₁ = v + 1} {n₂ = 8} {m₂ = 32} (pow-mono {j = 3} (omega (arith, s .pre .2))) (omega arith) in
+      omega (arith, over-below (n - i) (λ t. digit (getD words (i + t) 0) (q + o)) v (λ t. digit-small (getD words (i + t) 0) (q + o)))
 
   at : (i : ℕ) {x : List ℕ} → x ≡ table 8 (F i) → (o : ℕ) → o < 8 → getD x o 0 ≡ F i o
   at i e o l = ap (λ (y : List ℕ). getD y o 0) e ∙ table-at (F i) 8 o l
@@ -52,7 +78,7 @@ module _ (message : List ℕ) (from b n : ℕ) (words : List ℕ) (q : ℕ) (low
       numbers-ext (digit bits) (messageBit message) 0 from (widths b) each
       ∙ sym (bytes-are ns (λ o. getD ns o 0) (λ o h. refl))
       ∙ ap (λ (m : ℕ). table m (λ o. getD ns o 0)) (numbers-length (messageBit message) from (widths b))
-      ∙ table-ext 8 (λ o l. let z : n - 3 ≡ 0 = omega arith in rw z refl)
+      ∙ table-ext 8 (λ o l. let z : n - 3 ≡ 0 = omega (arith, s .pre .2) in rw z refl)
     where
       ns : List ℕ
       ns = numbers (messageBit message) from (widths b)
@@ -60,7 +86,7 @@ module _ (message : List ℕ) (from b n : ℕ) (words : List ℕ) (q : ℕ) (low
       each : (i : ℕ) → i < total (widths b) → digit bits (0 + i) ≡ messageBit message (from + i)
       each i l =
           ap (λ (x : ℕ). digit x (0 + i)) e ∙ ap (digit (number (8 * b) (λ t. messageBit message (from + t)))) (zero-add i)
-          ∙ number-bit (λ t. messageBit message (from + t)) (8 * b) (λ t u. message-small message (from + t)) i (omega (arith, total-widths b low))
+          ∙ number-bit (λ t. messageBit message (from + t)) (8 * b) (λ t u. message-small message (from + t)) i (omega (arith, total-widths b (s .pre .0)))
 
   -- level i under those from i + 1 on
   one-more : (i : ℕ) {x : List ℕ} → x ≡ table 8 (F (suc i))
@@ -74,12 +100,6 @@ module _ (message : List ℕ) (from b n : ℕ) (words : List ℕ) (q : ℕ) (low
       ap (λ (m : ℕ). over m (λ t. digit (getD words (0 + t) 0) (q + o)) (own message from b o)) z
       ∙ over-ext n (own message from b o) (λ i u. ap (λ (t : ℕ). digit (getD words t 0) (q + o)) (zero-add i)))
 
-abbrev Inv-loop : tie.InvT-loop
-Inv-loop message from grade levels q words bits x₀ i₀ x i = (i ≤ 3) × (x ≡ table 8 (made message from grade levels words q i))
-
-abbrev μ-loop : tie.MeasureT-loop
-μ-loop message from grade levels q words bits x₀ i₀ x i = i
-
 -- ---- the start, from the loop, and the laws at its arguments
 
 abbrev At : Type 0
@@ -91,13 +111,8 @@ at-start a = a .before .before .before .before
 bounded : (a : At) (o : ℕ) → o < 8 → getD (a .loop .x) o 0 < 256
 bounded a o l =
     let s = at-start a in
-    let g = s .args in
     let i = a .loop .i in
-    omega (
-      arith,
-      at (g .message .now) (g .from) (g .grade) (g .levels) (g .t5) (g .q) (s .pre .0) (s .pre .1) (s .pre .2) i (a .loop .inv .1) o l,
-      small (g .message .now) (g .from) (g .grade) (g .levels) (g .t5) (g .q) (s .pre .0) (s .pre .1) (s .pre .2) i o l,
-    )
+    omega (arith, at s i (a .loop .inv .1) o l, small s i o l)
 
 mul-bits-at : tie.Need-mul-bits-at Inv-loop μ-loop
 mul-bits-at c = omega arith
@@ -111,8 +126,7 @@ unpacked-requires c κs = (c .before .before .pre .0, c .before .before .pre .1)
 loop-holds : tie.Need-loop-holds Inv-loop μ-loop
 loop-holds c =
     let s = c .before .before .before in
-    let g = s .args in
-    (omega arith, c .unpacked .ensures ∙ none-yet (g .message .now) (g .from) (g .grade) (g .levels) (g .t5) (g .q) (s .pre .0) (s .pre .1) (s .pre .2) (c .before .bits-at .result) (c .before .bits-at .ensures))
+    (omega arith, c .unpacked .ensures ∙ none-yet s (c .before .bits-at .result) (c .before .bits-at .ensures))
 
 sub-i : tie.Need-sub-i Inv-loop μ-loop
 sub-i c = search needs
@@ -136,11 +150,10 @@ loop-again : tie.Need-loop-again Inv-loop μ-loop
 loop-again c =
     let a = c .before .before in
     let s = at-start a in
-    let g = s .args in
     let i : ℕ = a .loop .i - 1 in
     let up : a .loop .i ≡ suc i = omega arith in
-    let x = a .loop .inv .1 ∙ ap (λ (m : ℕ). table 8 (made (g .message .now) (g .from) (g .grade) (g .levels) (g .t5) (g .q) m)) up in
-    (omega arith, c .under .ensures ∙ one-more (g .message .now) (g .from) (g .grade) (g .levels) (g .t5) (g .q) (s .pre .0) (s .pre .1) (s .pre .2) i x)
+    let x = a .loop .inv .1 ∙ ap (λ (m : ℕ). table 8 (F s m)) up in
+    (omega arith, c .under .ensures ∙ one-more s i x)
 
 signed-requires : tie.Need-signed-requires Inv-loop μ-loop
 signed-requires c κs o l = omega (arith, bounded (c .before) o l)
@@ -149,10 +162,9 @@ returns : tie.Need-returns Inv-loop μ-loop
 returns c =
     let a = c .before .before in
     let s = at-start a in
-    let g = s .args in
     let none : a .loop .i ≡ 0 = omega arith in
-    let x = a .loop .inv .1 ∙ ap (λ (m : ℕ). table 8 (made (g .message .now) (g .from) (g .grade) (g .levels) (g .t5) (g .q) m)) none in
-    c .signed .ensures ∙ ap ints (all-there (g .message .now) (g .from) (g .grade) (g .levels) (g .t5) (g .q) (s .pre .0) (s .pre .1) (s .pre .2) x)
+    let x = a .loop .inv .1 ∙ ap (λ (m : ℕ). table 8 (F s m)) none in
+    c .signed .ensures ∙ ap ints (all-there s x)
 
 pub block-spec : {M : Type 1} → statement M
 block-spec =

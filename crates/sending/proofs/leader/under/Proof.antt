@@ -18,10 +18,10 @@ abbrev made : Bool → ℕ → List ℕ → ℕ → ℕ
 made there word s o = pick there (word / 2 ^ o % 2 + 2 * getD s o 0) (getD s o 0)
 
 abbrev Inv-loop : tie.InvT-loop
-Inv-loop there word s x₀ o₀ x o = Filled (table 8 (made there word s)) x o
+Inv-loop there word s x₀ p₀ x p = Filled (table 8 (made there word s)) x p
 
 abbrev μ-loop : tie.MeasureT-loop
-μ-loop there word s x₀ o₀ x o = 8 - o
+μ-loop there word s x₀ p₀ x p = 8 - p
 
 eight : (c : tie.Start Inv-loop μ-loop) → length (c .args .t3) ≡ 8
 eight c = search needs
@@ -57,10 +57,10 @@ cast-x : tie.Need-cast-x Inv-loop μ-loop
 cast-x c = search needs
 
 mul-x : tie.Need-mul-x Inv-loop μ-loop
-mul-x c = record { fits = omega (arith, c .before .before .before .pre (c .before .loop .o) (omega arith)) }
+mul-x c = record { fits = omega (arith, c .before .before .before .pre (c .before .loop .p) (omega arith)) }
 
 add-x : tie.Need-add-x Inv-loop μ-loop
-add-x c = record { fits = omega (arith, c .before .before .before .pre (c .before .loop .o) (omega arith)) }
+add-x c = record { fits = omega (arith, c .before .before .before .pre (c .before .loop .p) (omega arith)) }
 
 mul-x-2 : tie.Need-mul-x-2 Inv-loop μ-loop
 mul-x-2 c = search needs
@@ -68,8 +68,8 @@ mul-x-2 c = search needs
 array-write-x : tie.Need-array-write-x Inv-loop μ-loop
 array-write-x c = omega arith
 
-add-o : tie.Need-add-o Inv-loop μ-loop
-add-o c = search needs
+add-p : tie.Need-add-p Inv-loop μ-loop
+add-p c = search needs
 
 loop-less : tie.Need-loop-less Inv-loop μ-loop
 loop-less c = search needs
@@ -78,13 +78,13 @@ loop-again : tie.Need-loop-again Inv-loop μ-loop
 loop-again c =
     let l = c .before .loop in
     let g = c .before .before .before .args in
-    let h : l .o < 8 = omega arith in
-    filled-next 0 _ _ (l .o) _ (l .inv) (omega (arith, long (g .there) (g .word) (g .t3)))
-    (present (g .word) (g .t3) (l .o) (g .there) (c .before .before .if1 .left) ∙ sym (table-at (made (g .there) (g .word) (g .t3)) 8 (l .o) h))
+    let h : l .p < 8 = omega arith in
+    filled-next 0 _ _ (l .p) _ (l .inv) (omega (arith, long (g .there) (g .word) (g .t3)))
+    (present (g .word) (g .t3) (l .p) (g .there) (c .before .before .if1 .left) ∙ sym (table-at (made (g .there) (g .word) (g .t3)) 8 (l .p) h))
 
 returns-2 : tie.Need-returns-2 Inv-loop μ-loop
 returns-2 c =
-    let g = c .before .before .before .args in filled-all _ _ (c .before .loop .o) (c .before .loop .inv) (omega (arith, long (g .there) (g .word) (g .t3)))
+    let g = c .before .before .before .args in filled-all _ _ (c .before .loop .p) (c .before .loop .inv) (omega (arith, long (g .there) (g .word) (g .t3)))
 
 pub under-spec : {M : Type 1} → statement M
 under-spec =
@@ -102,7 +102,7 @@ under-spec =
     add-x
     mul-x-2
     array-write-x
-    add-o
+    add-p
     loop-less
     loop-again
     returns-2)

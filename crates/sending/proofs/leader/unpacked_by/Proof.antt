@@ -21,10 +21,10 @@ abbrev made : ℕ → ℕ → List ℕ
 made bits b = numbers (digit bits) 0 (widths b)
 
 abbrev Inv-loop : tie.InvT-loop
-Inv-loop bits grade s₀ at₀ o₀ s at o = (at ≡ total (take o (widths grade))) × Filled (made bits grade) s o
+Inv-loop bits grade s₀ at₀ i₀ s at i = (at ≡ total (take i (widths grade))) × Filled (made bits grade) s i
 
 abbrev μ-loop : tie.MeasureT-loop
-μ-loop bits grade s₀ at₀ o₀ s at o = 8 - o
+μ-loop bits grade s₀ at₀ i₀ s at i = 8 - i
 
 long : (bits b : ℕ) → length (made bits b) ≡ 8
 long bits b = numbers-length (digit bits) 0 (widths b)
@@ -41,26 +41,26 @@ record Fit (c : tie.After-width Inv-loop μ-loop) : Type 0 where
   inside : c .before .before .loop .at + c .width .result ≤ 32
   small : c .before .before .before .args .bits / 2 ^ c .before .before .loop .at % (1 * 2 ^ c .width .result % 2 ^ 64) < 32
   value : c .before .before .before .args .bits / 2 ^ c .before .before .loop .at % (1 * 2 ^ c .width .result % 2 ^ 64)
-      ≡ getD (made (c .before .before .before .args .bits) (c .before .before .before .args .grade)) (c .before .before .loop .o) 0
+      ≡ getD (made (c .before .before .before .args .bits) (c .before .before .before .args .grade)) (c .before .before .loop .i) 0
 
 fit : (c : tie.After-width Inv-loop μ-loop) → Fit c
 fit c =
     let a = c .before .before in
     let s = a .before in
     let b = s .args .grade in
-    let o = a .loop .o in
+    let i = a .loop .i in
     let w = c .width .result in
     let x = s .args .bits in
-    let lt : o < 8 = omega arith in
-    let n : w ≤ 5 = omega (arith, c .width .ensures, width-small b o (s .pre .1) lt) in
-    let cut : x / 2 ^ a .loop .at % (1 * 2 ^ w % 2 ^ 64) ≡ number w (λ i. digit x (0 + a .loop .at + i)) =
+    let lt : i < 8 = omega arith in
+    let n : w ≤ 5 = omega (arith, c .width .ensures, width-small b i (s .pre .1) lt) in
+    let cut : x / 2 ^ a .loop .at % (1 * 2 ^ w % 2 ^ 64) ≡ number w (λ t. digit x (0 + a .loop .at + t)) =
     ap (λ (m : ℕ). x / 2 ^ a .loop .at % m) (one-shifted w 64 (omega (arith, n))) ∙ number-cut x (a .loop .at) w in record {
       narrow = n;
-      inside = omega (arith, c .width .ensures, a .loop .inv .0, total-suc (widths b) o lt, total-le (widths b) (suc o), total-widths b (s .pre .0), s .pre .1);
+      inside = omega (arith, c .width .ensures, a .loop .inv .0, total-suc (widths b) i lt, total-le (widths b) (suc i), total-widths b (s .pre .0), s .pre .1);
       small = omega (arith, cut, number-small (digit x) (digit-small x) (0 + a .loop .at) w n);
       value =
-          cut ∙ ap₂ (λ (t v : ℕ). number v (λ i. digit x (0 + t + i))) (a .loop .inv .0) (c .width .ensures)
-          ∙ sym (numbers-at (digit x) 0 (widths b) o lt);
+          cut ∙ ap₂ (λ (l v : ℕ). number v (λ t. digit x (0 + l + t))) (a .loop .inv .0) (c .width .ensures)
+          ∙ sym (numbers-at (digit x) 0 (widths b) i lt);
     }
 
 shr-s : tie.Need-shr-s Inv-loop μ-loop
@@ -84,8 +84,8 @@ array-write-s c = omega (arith, c .before .before .loop .inv .1 .long)
 add-at : tie.Need-add-at Inv-loop μ-loop
 add-at c = omega (arith, fit c .inside)
 
-add-o : tie.Need-add-o Inv-loop μ-loop
-add-o c = search needs
+add-i : tie.Need-add-i Inv-loop μ-loop
+add-i c = search needs
 
 loop-less : tie.Need-loop-less Inv-loop μ-loop
 loop-less c = search needs
@@ -94,15 +94,15 @@ loop-again : tie.Need-loop-again Inv-loop μ-loop
 loop-again c =
     let a = c .before .before in
     let g = a .before .args in
-    let lt : a .loop .o < 8 = omega arith in (
-      rw add-one (omega (arith, total-suc (widths (g .grade)) (a .loop .o) lt, a .loop .inv .0, c .width .ensures)),
-      filled-next 0 _ _ (a .loop .o) _ (a .loop .inv .1) (omega (arith, long (g .bits) (g .grade))) (fit c .value),
+    let lt : a .loop .i < 8 = omega arith in (
+      rw add-one (omega (arith, total-suc (widths (g .grade)) (a .loop .i) lt, a .loop .inv .0, c .width .ensures)),
+      filled-next 0 _ _ (a .loop .i) _ (a .loop .inv .1) (omega (arith, long (g .bits) (g .grade))) (fit c .value),
     )
 
 returns : tie.Need-returns Inv-loop μ-loop
 returns c =
     let s = c .before .before in
-    filled-all _ _ (c .before .loop .o) (c .before .loop .inv .1) (omega (arith, long (s .args .bits) (s .args .grade)))
+    filled-all _ _ (c .before .loop .i) (c .before .loop .inv .1) (omega (arith, long (s .args .bits) (s .args .grade)))
 
 pub unpacked-by-spec : {M : Type 1} → statement M
 unpacked-by-spec =
@@ -119,7 +119,7 @@ unpacked-by-spec =
     mul-s
     array-write-s
     add-at
-    add-o
+    add-i
     loop-less
     loop-again
     returns)
