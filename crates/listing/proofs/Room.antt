@@ -26,22 +26,24 @@ module _ (room : ℕ) (s : List ℕ) where
       go true = (refl, refl)
       go false = (simp (lt-ltb 32768 (length s) h), simp (lt-ltb 32768 (length s) h))
 
-  module _ (p : ℕ) (roomy : 512 ≤ room) (short : length s ≤ 32768) where
-    pub no-record : length s ≤ p → ([] ≡ lineInto room s p) × (length s ≡ nextInto room s p)
-    unfolding lineInto nextInto
-    no-record e =
-        let r = le-ltb room 512 roomy in
-        let l = le-ltb 32768 (length s) short in
-        let i = le-leb (length s) p e in
-        (simp (r, l, i), simp (r, l, i))
+  -- and from its end on a sheet has none, be it long or not
+  pub no-record : (p : ℕ) → length s ≤ p → ([] ≡ lineInto room s p) × (length s ≡ nextInto room s p)
+  unfolding lineInto nextInto
+  no-record p h = go (ltb room 512) (long s)
+    where
+      go : (v w : Bool) → ([] ≡ cond v [] (cond w [] (cond (leb (length s) p) [] (lineAt s p))))
+          × (length s ≡ cond v (length s) (cond w (length s) (cond (leb (length s) p) (length s) (nextAt s p))))
+      go true w = (refl, refl)
+      go false true = (refl, refl)
+      go false false = (simp (le-leb (length s) p h), simp (le-leb (length s) p h))
 
-    pub a-record : p < length s → (lineAt s p ≡ lineInto room s p) × (nextAt s p ≡ nextInto room s p)
-    unfolding lineInto nextInto
-    a-record e =
-        let r = le-ltb room 512 roomy in
-        let l = le-ltb 32768 (length s) short in
-        let i = lt-leb (length s) p e in
-        (simp (r, l, i), simp (r, l, i))
+  pub a-record : (p : ℕ) → 512 ≤ room → length s ≤ 32768 → p < length s → (lineAt s p ≡ lineInto room s p) × (nextAt s p ≡ nextInto room s p)
+  unfolding lineInto nextInto
+  a-record p roomy short e =
+      let r = le-ltb room 512 roomy in
+      let l = le-ltb 32768 (length s) short in
+      let i = lt-leb (length s) p e in
+      (simp (r, l, i), simp (r, l, i))
 
   pub no-beginning : room < 512 → ([] ≡ beginningInto room s) × (length s ≡ startInto room s)
   unfolding beginningInto startInto

@@ -16,9 +16,9 @@ read-strict-requires c κs = search needs
 
 answer-requires : tie.Need-answer-requires
 answer-requires c κs =
-    let s = c .before .before .before .before .before .args in
     let e = c .before .before .read-strict .ensures in
-    omega (arith, e .1 .1, strict-fits (c .before .before .read-strict .result .number) (s .kind) (s .grade) (s .frame .now) (length (s .message .now)) (e .0))
+    let f = strict-fits _ _ _ _ _ (e .0) in
+    omega (arith, e .1 .1, f)
 
 same-length : tie.Need-same-length
 same-length c = search needs

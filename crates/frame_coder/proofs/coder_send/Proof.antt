@@ -16,9 +16,9 @@ send-requires c κs = search needs
 
 answer-requires : tie.Need-answer-requires
 answer-requires c κs =
-    let s = c .before .before .before .before .args in
     let e = c .before .send .ensures in
-    omega (arith, e .1 .1 .0, sent-fits (c .before .send .result .number) (s .kind) (s .grade) (s .message .now) (length (s .frame .now)) (e .0))
+    let f = sent-fits _ _ _ _ _ (e .0) in
+    omega (arith, e .1 .1 .0, f)
 
 same-length : tie.Need-same-length
 same-length c = search needs

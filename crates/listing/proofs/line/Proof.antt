@@ -29,7 +29,7 @@ returns-3 : tie.Need-returns-3
 returns-3 c =
     let s = c .before .before .before .before .before .args in
     let o = s .out .now in
-    let r = no-record (length o) (s .sheet .now) (s .p) (c .before .before .if1 .left) (omega (arith, c .before .if2 .left)) (omega (arith, c .if3 .taken)) in
+    let r = no-record (length o) (s .sheet .now) (s .p) (omega (arith, c .if3 .taken)) in
     (subst (λ (x : List ℕ). Put o 0 x 0 o) (r .0) (put-none o 0), (omega arith, (r .1, (λ h. h))))
 
 record-line-requires : tie.Need-record-line-requires
