@@ -21,9 +21,9 @@ use Rattle.frames.proofs.Refusals.{passed}
 
 -- ---- the tests of sending: an answer of 0 says that each was passed
 
-clear : (t : Bool) (a : ℕ) → cond t (suc a) 0 ≡ 0 → t ≡ false
-clear true a e = let z : ⊥ = omega arith in absurd z
-clear false a e = refl
+clear : (t : Bool) (a b : ℕ) → cond t (suc a) b ≡ 0 → t ≡ false
+clear true a b e = let z : ⊥ = omega arith in absurd z
+clear false a b e = refl
 
 pub record Passed (k b : ℕ) (bytes : List ℕ) (n : ℕ) : Type 0 where
   pub kind : isKind k ≡ true
@@ -44,7 +44,7 @@ all-passed k b bytes n e =
       grade = e₂ .0;
       long = eqb-true (length bytes) (messageBytes k b) (e₃ .0);
       coordinates = eqb-true n (2 ^ k) (e₄ .0);
-      spare = clear (spareSet k b bytes) 4 (e₄ .1);
+      spare = clear (spareSet k b bytes) 4 _ (e₄ .1);
     }
 
 -- ---- bits in a row, none of them set

@@ -5,6 +5,7 @@ use mathlib.Core.Logic.{_⊎_, inl, inr}
 use mathlib.Core.Bool.{Bool, true, false, true≢false}
 use mathlib.Core.List.{List, [], _∷_}
 use native.Mathlib.Nat.{zero-add}
+use native.Mathlib.Decide.{ℕ-discrete}
 use native.Mathlib.Omega.{arith}
 use lib.Dec.{eqb}
 use lib.ListN.{length, getD}
@@ -170,12 +171,13 @@ pub broken-refuses : (k : ℕ) (f : List ℤ) (n : ℕ) → isKind k ≡ true �
 broken-refuses k f n kind b = rw (b .given) (number-refuses (b .level) (omega (arith, b .inside, levels-numbered k kind)))
 
 pub seven-or-eight : (k : ℕ) (f : List ℤ) (n : ℕ) → isKind k ≡ true → FirstBroken k f n → (n ≡ 7) ⊎ (n ≡ 8)
-seven-or-eight k f n kind b = go (b .level) (b .given) (omega (arith, b .inside, few-levels k kind))
+seven-or-eight k f n kind b = go (b .level) (b .given) (omega (arith, b .inside, few-levels k kind)) (ℕ-discrete n 7)
   where
-    go : (i : ℕ) → n ≡ brokenNumber i → i < 2 → (n ≡ 7) ⊎ (n ≡ 8)
-    go zero e h = inl e
-    go (suc zero) e h = inr e
-    go (suc (suc i)) e h = absurd (omega arith)
+    go : (i : ℕ) → n ≡ brokenNumber i → i < 2 → Dec (n ≡ 7) → (n ≡ 7) ⊎ (n ≡ 8)
+    go i e h (yes seven) = inl seven
+    go zero e h (no other) = inr (omega arith)
+    go (suc zero) e h (no other) = inr (omega arith)
+    go (suc (suc i)) e h (no other) = absurd (omega arith)
 
 -- ---- the open reading's tests
 

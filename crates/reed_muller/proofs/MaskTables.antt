@@ -1,17 +1,17 @@
 -- The constant tables of masks, places and dimensions, one record of computed tests for each length. Assumes nothing.
-use Prim.Native.Nat.{ℕ, suc, _^_, _≤_, _<_}
+use Prim.Native.Nat.{ℕ, zero, suc, _+_, _/_, _^_, _≤_, _<_}
 use mathlib.Core.Path.{_≡_, refl, sym, ap, ap₂, _∙_, subst}
 use mathlib.Core.List.{List, [], _∷_}
 use native.Mathlib.Omega.{arith}
 use lib.Count.{ones}
-use lib.ListN.{length, getD}
+use lib.ListN.{getD}
 use lib.Pow.{pow-mono}
 use Rattle.bits.specs.Number.{table, number}
-use Rattle.bits.proofs.Table.{length-table, table-at}
+use Rattle.bits.proofs.Table.{table-at}
 use Rattle.bits.proofs.Message.{number-ext}
 use Rattle.bits.proofs.Digits.{digit}
 use Rattle.reed_muller.specs.Level.{ofWeight, masks, order, place, dimension, Tabled}
-use Rattle.reed_muller.proofs.Order.{order-below, place-order, dimension-fits, dimension-small}
+use Rattle.reed_muller.proofs.Order.{dimension-small}
 
 -- the tables of length 2 ^ m: the masks in order, their places, the dimensions for r = 0, .., m
 pub record Right (m : ℕ) (os ps ds : List ℕ) : Type 0 where
@@ -64,9 +64,33 @@ short h = pow-mono {j = 6} (omega arith)
 pub few-bits : {m r : ℕ} → Tabled m → r ≤ m → dimension r m ≤ 32
 few-bits {m} {r} h hr = omega (arith, dimension-small r m hr, pow-mono {i = m} {j = 5} (h .1))
 
--- the first k of the places are there, and each is that of a digit of 64
-abbrev Within : ℕ → List ℕ → Type 0
-Within k places = (k ≤ 64) × (k ≤ length places) × ((i : ℕ) → i < k → getD places i 0 < 64)
+-- the first k of n places are there, and each is that of a digit of 64
+abbrev Within : ℕ → ℕ → (ℕ → ℕ) → Type 0
+Within k n at = (k ≤ 64) × (k ≤ n) × ((i : ℕ) → i < k → at i < 64)
+
+-- how far the first n places go past the digits, to be computed: 0 where each is below 64
+abbrev past : ℕ → (ℕ → ℕ) → ℕ
+past zero at = 0
+past (suc n) at = at 0 / 64 + past n (λ i. at (suc i))
+
+none-past : (n : ℕ) (at : ℕ → ℕ) → past n at ≡ 0 → (i : ℕ) → i < n → at i < 64
+none-past zero at e i h = absurd (omega arith)
+none-past (suc n) at e zero h = omega arith
+none-past (suc n) at e (suc i) h = none-past n (λ i. at (suc i)) (omega arith) i (omega arith)
+
+-- the bits gathered at all places of a table of length 2 ^ n, whichever it is
+module _ {m n : ℕ} (e : m ≡ n) (h : Tabled m) {at : ℕ → ℕ} (none : past (2 ^ n) at ≡ 0) where
+  few-within : {k : ℕ} → k ≤ 2 ^ m → Within k (2 ^ n) at
+  few-within l =
+      let same : 2 ^ n ≡ 2 ^ m = ap (λ (x : ℕ). 2 ^ x) (sym e) in
+      (omega (arith, short h, l), omega (arith, same, l), λ i q. none-past (2 ^ n) at none i (omega (arith, same, l, q)))
+
+  pub places-within : Within (2 ^ n) (2 ^ n) at
+  places-within = few-within (omega (arith, ap (λ (x : ℕ). 2 ^ x) e))
+
+  -- and at the first of them, for the message bits of RM(r,m)
+  pub masks-within : (r : ℕ) → r ≤ m → (k : ℕ) → k ≡ dimension r m → Within k (2 ^ n) at
+  masks-within r hr k d = few-within (omega (arith, d, dimension-small r m hr))
 
 -- ---- the tables of length 2 ^ n, read where m is n
 
@@ -86,26 +110,11 @@ module _ {m n : ℕ} (e : m ≡ n) {os ps ds : List ℕ} (t : Right n os ps ds) 
       ap (λ (xs : List ℕ). getD xs r 0) (t .dimensions) ∙ table-at (λ r. dimension r n) (suc n) r h ∙ ap (dimension r) (sym e)
 
   -- the bits gathered at the places of all masks
-  pub places-within : Tabled m → Within (2 ^ n) ps
-  places-within h =
-      let same : 2 ^ n ≡ 2 ^ m = ap (λ (x : ℕ). 2 ^ x) (sym e) in (
-        omega (arith, same, short h),
-        omega (arith, ap length (t .places), length-table (place (order n)) (2 ^ n)),
-        λ S l. omega (arith, place-entry S l, place-order m S (omega (arith, same, l)) .0, short h),
-      )
-
   pub by-places : (bits : ℕ) → number (2 ^ n) (λ S. digit bits (getD ps S 0)) ≡ number (2 ^ m) (λ S. digit bits (place (order m) S))
   by-places bits =
       number-ext (2 ^ n) (λ S l. ap (digit bits) (place-entry S l)) ∙ ap (λ (x : ℕ). number (2 ^ x) (λ S. digit bits (place (order m) S))) (sym e)
 
   -- and at the first masks of the order
   module _ (r : ℕ) (hr : r ≤ m) (k : ℕ) (d : k ≡ dimension r m) where
-    pub masks-within : Tabled m → Within k os
-    masks-within h = (
-      omega (arith, d, dimension-small r m hr, short h),
-      omega (arith, d, dimension-fits r m hr, ap length order-entry),
-      λ i l. omega (arith, mask-entry i, order-below m i (omega (arith, l, d, dimension-small r m hr)), short h),
-    )
-
     pub by-masks : (bits : ℕ) → number k (λ i. digit bits (getD os i 0)) ≡ number (dimension r m) (λ i. digit bits (getD (order m) i 0))
     by-masks bits = ap₂ (λ (k : ℕ) (xs : List ℕ). number k (λ i. digit bits (getD xs i 0))) d order-entry

@@ -1,5 +1,5 @@
 -- `coefficients`: the bits at the places of the masks, by the table of each length. Assumes nothing.
-use mathlib.Core.Path.{_∙_}
+use mathlib.Core.Path.{refl, _∙_}
 use borrow.Author.Needs.{needs}
 use Rattle.reed_muller.proofs.MaskTables.{right-8, right-16, right-32, places-within, by-places, last}
 use Rattle.reed_muller.proofs.coefficients.Statement.{statement}
@@ -9,7 +9,7 @@ slice-aggregate-gathered : tie.Need-slice-aggregate-gathered
 slice-aggregate-gathered c = search needs
 
 gathered-requires : tie.Need-gathered-requires
-gathered-requires c κs = places-within (c .before .if1 .taken) right-8 (c .before .before .pre)
+gathered-requires c κs = places-within (c .before .if1 .taken) (c .before .before .pre) refl
 
 returns : tie.Need-returns
 returns c =
@@ -19,7 +19,7 @@ slice-aggregate-gathered-2 : tie.Need-slice-aggregate-gathered-2
 slice-aggregate-gathered-2 c = search needs
 
 gathered-requires-2 : tie.Need-gathered-requires-2
-gathered-requires-2 c κs = places-within (c .before .if2 .taken) right-16 (c .before .before .before .pre)
+gathered-requires-2 c κs = places-within (c .before .if2 .taken) (c .before .before .before .pre) refl
 
 returns-2 : tie.Need-returns-2
 returns-2 c =
@@ -32,7 +32,7 @@ gathered-requires-3 : tie.Need-gathered-requires-3
 gathered-requires-3 c κs =
     let at = c .before in
     let start = at .before .before in
-    places-within (last (start .pre) (at .before .if1 .left) (at .if2 .left)) right-32 (start .pre)
+    places-within (last (start .pre) (at .before .if1 .left) (at .if2 .left)) (start .pre) refl
 
 returns-3 : tie.Need-returns-3
 returns-3 c =

@@ -1,5 +1,5 @@
 -- `message_held`: the bits at the first masks of the order, by the table of each length. Assumes nothing.
-use mathlib.Core.Path.{_≡_, _∙_}
+use mathlib.Core.Path.{_≡_, refl, _∙_}
 use borrow.Author.Needs.{needs}
 use Rattle.reed_muller.proofs.MaskTables.{right-8, right-16, right-32, masks-within, by-masks, last}
 use Rattle.reed_muller.proofs.message_held.Statement.{statement}
@@ -16,7 +16,7 @@ gathered-requires c κs =
     let at = c .before in
     let start = at .before .before in
     let count = at .before .dimension-of in
-    masks-within (at .if1 .taken) right-8 (start .args .r) (start .pre .1) (count .result) (count .ensures) (start .pre .0)
+    masks-within (at .if1 .taken) (start .pre .0) refl (start .args .r) (start .pre .1) (count .result) (count .ensures)
 
 returns : tie.Need-returns
 returns c =
@@ -33,7 +33,7 @@ gathered-requires-2 c κs =
     let at = c .before in
     let start = at .before .before .before in
     let count = at .before .before .dimension-of in
-    masks-within (at .if2 .taken) right-16 (start .args .r) (start .pre .1) (count .result) (count .ensures) (start .pre .0)
+    masks-within (at .if2 .taken) (start .pre .0) refl (start .args .r) (start .pre .1) (count .result) (count .ensures)
 
 returns-2 : tie.Need-returns-2
 returns-2 c =
@@ -54,7 +54,7 @@ gathered-requires-3 c κs =
     let at = c .before in
     let start = at .before .before .before in
     let count = at .before .before .dimension-of in
-    masks-within (is-last at) right-32 (start .args .r) (start .pre .1) (count .result) (count .ensures) (start .pre .0)
+    masks-within (is-last at) (start .pre .0) refl (start .args .r) (start .pre .1) (count .result) (count .ensures)
 
 returns-3 : tie.Need-returns-3
 returns-3 c =

@@ -14,6 +14,10 @@ use Rattle.reed_muller.proofs.transformed.Tie as tie
 length-is : (m : ℕ) → m ≤ 6 → 1 * 2 ^ m % 2 ^ 64 ≡ 2 ^ m
 length-is m h = one-shifted m 64 (omega arith)
 
+-- and it is one of a word, whichever
+in-word : {m : ℕ} → m ≤ 6 → (1 ≤ 1 * 2 ^ m % 2 ^ 64) × (1 * 2 ^ m % 2 ^ 64 ≤ 64)
+in-word {m} h = let e = length-is m h in (omega (arith, e, pow-pos m), omega (arith, e, pow-mono {i = m} {j = 6} h))
+
 abbrev Inv-loop : tie.InvT-loop
 Inv-loop w m t₀ j₀ t j =
     (j ≤ 6) × ((p : ℕ) → p < 64 → digit t p ≡ stages j (digit w) p)
@@ -56,8 +60,7 @@ shl-low-bits : tie.Need-shl-low-bits Inv-loop μ-loop
 shl-low-bits c = omega arith
 
 low-bits-requires : tie.Need-low-bits-requires Inv-loop μ-loop
-low-bits-requires c κs =
-    let m : ℕ = c .before .before .args .m in omega (arith, length-is m (c .before .before .pre), pow-pos m, pow-mono {i = m} {j = 6} (c .before .before .pre))
+low-bits-requires c κs = in-word (omega arith)
 
 returns : tie.Need-returns Inv-loop μ-loop
 returns c =

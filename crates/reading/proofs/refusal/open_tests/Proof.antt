@@ -1,5 +1,5 @@
 -- `open_tests`: at each return the definition takes the arms of the tests that led there. Assumes nothing.
-use Prim.Native.Nat.{ℕ, _^_}
+use Prim.Native.Nat.{ℕ, _^_, _≤_}
 use mathlib.Core.Path.{_≡_, sym, ap, _∙_}
 use mathlib.Core.Bool.{true}
 use mathlib.Core.List.{List}
@@ -8,10 +8,12 @@ use lib.IntN.{ℤ}
 use lib.ListN.{length}
 use borrow.Author.Needs.{needs}
 use borrow.Author.Tests.{not-true, not-false}
+use Rattle.e8.specs.Energy.{isWithin}
+use Rattle.e8.proofs.Within.{within-to, test-within}
 use Rattle.frames.specs.Kind.{isKind, isGrade, degrees, messageBytes}
 use Rattle.frames.specs.Reading.{inRange, openRefusal}
 use Rattle.frames.proofs.Rows.{grade-high}
-use Rattle.frames.proofs.Refusals.{good-row, wrong-row, levels-decide}
+use Rattle.frames.proofs.Refusals.{good-row, wrong-row, within-range, levels-decide}
 use Rattle.reading.specs.Words.{noWords, wordsAfter, brokenIn}
 use Rattle.reading.proofs.Answers.{by-4, by-3, by-6}
 use Rattle.reading.proofs.Words.{broken-words, words-none, words-given}
@@ -21,6 +23,10 @@ use Rattle.reading.proofs.refusal.open_tests.Tie as tie
 -- a refusal: what is given is no words
 none-by : (number : ℕ) (words : List ℕ) (k : ℕ) (f : List ℤ) → words ≡ noWords → (number ≡ 0 → ⊥) → words ≡ wordsAfter number k f
 none-by number words k f e n = e ∙ words-none number k f n
+
+-- within any bound up to 1,048,576
+small-enough : (B : ℕ) (f : List ℤ) → isWithin B f ≡ true → B ≤ 1048576 → inRange f ≡ true
+small-enough B f e h = within-range f (within-to B 1048576 f h (test-within B f e))
 
 -- ---- the tests that were passed, one after the other
 
@@ -46,8 +52,7 @@ p3 : (c : tie.Else3) → start3 c .args .n ≡ messageBytes (start3 c .args .kin
 p3 c = c .if3 .left ∙ c .before .message-bytes .ensures
 
 p6 : (c : tie.Else4) → inRange (start4 c .args .frame .now) ≡ true
-unfolding inRange
-p6 c = sym (c .before .within .ensures) ∙ not-false (c .before .within .result) (c .if4 .left)
+p6 c = small-enough _ (start4 c .args .frame .now) (sym (c .before .within .ensures) ∙ not-false (c .before .within .result) (c .if4 .left)) (omega arith)
 
 -- the number of the levels is the answer
 levels-answer : (c : tie.After-broken-level)
