@@ -14,7 +14,7 @@ use Rattle.integers.proofs.Zed.{`_, #_, _⊕_, _⊖_, _⊗_, eq!, eq?}
 use Rattle.integers.proofs.Floor.{div-mod, modZ-lt}
 use Rattle.bits.specs.Number.{sumTo}
 use Rattle.reed_muller.specs.Level.{belongs}
-use Rattle.bits.proofs.Sum.{sum-ext, sum-term}
+use Rattle.bits.proofs.Sum.{sum-ext, sum-term, sum-times}
 use Rattle.reed_muller.proofs.Weight.{Odd, look}
 use Rattle.reed_muller.proofs.Belongs.{belongs-distance}
 use Rattle.e8.specs.Energy.{sq}
@@ -40,11 +40,6 @@ sum-le : (n : ℕ) (f g : ℕ → ℕ) → ((i : ℕ) → f i ≤ g i) → sumTo
 unfolding sumTo
 sum-le zero f g h = omega arith
 sum-le (suc n) f g h = omega (arith, sum-le n f g h, h n)
-
-sum-times : (n c : ℕ) (f : ℕ → ℕ) → sumTo n (λ i. c * f i) ≡ c * sumTo n f
-unfolding sumTo
-sum-times zero c f = omega arith
-sum-times (suc n) c f = omega (arith, sum-times n c f)
 
 -- ---- squares
 

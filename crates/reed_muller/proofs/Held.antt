@@ -13,16 +13,14 @@ use lib.Pow.{pow-pos}
 use lib.ListN.{getD}
 use borrow.Author.Tests.{eq-eqb, ne-eqb, le-leb, lt-leb, lt-ltb, le-ltb}
 use Rattle.bits.specs.Number.{sumTo, table, given, number}
-use Rattle.bits.specs.Message.{bytesOf, withBits}
 use Rattle.bits.proofs.Sum.{sum-zero}
 use Rattle.bits.proofs.Table.{table-at}
-use Rattle.bits.proofs.Message.{number-of, number-ext, digit-of, bytes-ext}
+use Rattle.bits.proofs.Message.{number-of, number-ext, digit-of}
 use Rattle.bits.proofs.Digits.{digit, digit-small, digit-none, digit-past, and-clear, and-keep, shift-digit, shift-low}
-use Rattle.bits.proofs.Bytewise.{with-ext}
 use Rattle.reed_muller.specs.Level.{weight, order, place, dimension, codeword, backwards, clearAbove}
-use Rattle.reed_muller.proofs.Order.{order-below, place-order, order-light, dimension-small}
+use Rattle.reed_muller.proofs.Order.{place-order, order-light}
 use Rattle.reed_muller.proofs.Transform.{backwards-cong}
-use Rattle.reed_muller.proofs.Codeword.{coefficient, codeword-transform, readBits}
+use Rattle.reed_muller.proofs.Codeword.{coefficient, codeword-transform}
 use Rattle.reed_muller.proofs.Belongs.{clear-true, clear-zero}
 
 -- ---- a codeword held in a number, from its message held in a number
@@ -44,15 +42,6 @@ module _ (r m : ℕ) (hr : r ≤ m) (bits : ℕ) (few : bits < 2 ^ dimension r m
       backwards-cong m (digit w) (coefficient r m (digit bits))
       (λ S h. ap (λ (x : ℕ). x % 2) (digit-of e (λ S l. digit-small bits (place (order m) S)) S h ∙ held-coefficient S h)) p
       ∙ sym (codeword-transform r m hr (digit bits) p))
-
--- ---- the message bits read, put into bytes
-
-module _ (r m : ℕ) (hr : r ≤ m) (bit v : ℕ → ℕ) (is : (S : ℕ) → S < 2 ^ m → bit S ≡ backwards m v S) where
-  pub put-read : (n from : ℕ) (old : ℕ → ℕ)
-      → bytesOf n (withBits from (dimension r m) (λ k. bit (getD (order m) k 0)) old) ≡ bytesOf n (withBits from (dimension r m) (readBits m v) old)
-  put-read n from old =
-      bytes-ext n _ _ (λ i l. with-ext from (dimension r m) (λ k. bit (getD (order m) k 0)) (readBits m v) old
-      (λ k h. is (getD (order m) k 0) (order-below m k (omega (arith, dimension-small r m hr)))) i)
 
 -- ---- the test of the bits of the masks, held in a number of W digits
 

@@ -5,7 +5,7 @@ use mathlib.Core.Bool.{true}
 use mathlib.Core.List.{List}
 use native.Mathlib.Nat.{mul-le-mul}
 use native.Mathlib.Omega.{arith}
-use lib.ListN.{length, getD, take}
+use lib.ListN.{length, getD}
 use lib.Seq.{ext-getD}
 use lib.Pow.{pow-mono}
 use lib.IntN.{ℤ, pos}
@@ -19,7 +19,7 @@ use Rattle.e8.specs.Lattice.{part}
 use Rattle.e8.specs.Rows.{ints}
 use Rattle.e8.proofs.Rows.{ints-length}
 use Rattle.frames.specs.Kind.{isKind, degrees, levels, blocks, levelBits}
-use Rattle.frames.specs.Message.{widths, numbers, blockNumbers, stacked, coordinate, leader}
+use Rattle.frames.specs.Message.{numbers, blockNumbers, stacked, coordinate, leader}
 use Rattle.frames.proofs.Frame.{at, ints-at, part-length, part-at}
 use Rattle.frames.proofs.One.{leader-length, leader-at}
 use Rattle.frames.proofs.Limits.{few-levels, whole-blocks}

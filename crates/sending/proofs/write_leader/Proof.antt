@@ -1,6 +1,6 @@
 -- `write_leader` meets its contract. The loop writes block after block: the blocks below j are those of the leader, and the rest of the frame is as it was
 -- (Over). A turn's block is made of the levels' values at its positions, which the numbers of `codewords` hold, and of its own piece of the message. Assumes nothing.
-use Prim.Native.Nat.{ℕ, _+_, _-_, _*_, _^_, _≤_, _<_}
+use Prim.Native.Nat.{ℕ, _+_, _-_, _*_, _≤_, _<_}
 use mathlib.Core.Path.{_≡_, sym, ap, ap₂, _∙_, subst}
 use mathlib.Core.List.{List}
 use native.Mathlib.Omega.{arith}

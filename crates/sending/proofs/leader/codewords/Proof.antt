@@ -1,9 +1,9 @@
 -- `leader::codewords` meets its contract: the levels passed so far are held, each by its own message bits. Assumes nothing.
-use Prim.Native.Nat.{ℕ, _+_, _-_, _*_, _/_, _%_, _^_, _≤_, _<_}
+use Prim.Native.Nat.{ℕ, _+_, _-_, _/_, _%_, _^_, _≤_, _<_}
 use mathlib.Core.Path.{_≡_, refl, sym, ap, ap₂, _∙_, subst}
 use mathlib.Core.List.{List}
 use native.Mathlib.Omega.{arith}
-use lib.ListN.{length, getD, take, set}
+use lib.ListN.{getD, set}
 use borrow.Author.Needs.{needs}
 use Rattle.bits.specs.Number.{table, number}
 use Rattle.bits.specs.Message.{messageBit}
@@ -11,7 +11,7 @@ use Rattle.bits.proofs.Table.{filled, filled-none, filled-more}
 use Rattle.bits.proofs.Message.{number-lt, number-ext, digit-of, message-small}
 use Rattle.reed_muller.specs.Level.{dimension, codeword}
 use Rattle.reed_muller.proofs.Codeword.{codeword-cong}
-use Rattle.frames.specs.Kind.{isKind, degrees, levels as levels-of, levelBits}
+use Rattle.frames.specs.Kind.{degrees, levels as levels-of, levelBits}
 use Rattle.frames.proofs.Lengths.{level-end}
 use Rattle.frames.proofs.Limits.{tabled, few-levels, few-level-bits, kind-high, degree-fits, Piece, level-piece}
 use Rattle.kind_table.proofs.Entry.{entry-levels, entry-degree}
