@@ -110,7 +110,8 @@ pub fn block(
     words: [u64; 3],
     q: usize,
 ) -> [i32; 8]
-    requires { ⌜ (1 ≤ grade) × (grade ≤ 4) × (levels ≤ 3) × (q < 64) × (from % 8 + 8 * grade ≤ 64) × (from + 8 * grade ≤ 8 * length (now message)) ⌝ }
+    requires { ⌜ (1 ≤ grade) × (grade ≤ 4) × (levels ≤ 3) × (q < 64)
+        × (from % 8 + 8 * grade ≤ 64) × (from + 8 * grade ≤ 8 * length (now message)) ⌝ }
     ensures { λ x. ⌜ x ≡ ints (table 8 (λ o. over levels (λ i. getD words i 0 / 2 ^ (q + o) % 2)
         (getD (numbers (messageBit (now (message .entry))) from (widths grade)) o 0))) ⌝ }
 {

@@ -138,7 +138,7 @@ array-read-word : tie.Need-array-read-word Inv-loop μ-loop
 array-read-word c = omega arith
 
 shr-under : tie.Need-shr-under Inv-loop μ-loop
-shr-under c = c .before .before .before .before .before .pre .3
+shr-under c = omega (arith, at-start (c .before) .pre .3)
 
 under-requires : tie.Need-under-requires Inv-loop μ-loop
 under-requires c κs o l = omega (arith, bounded (c .before) o l)
