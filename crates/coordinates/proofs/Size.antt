@@ -10,7 +10,7 @@ use lib.ListN.{length, drop, getD}
 use lib.Seq.{drop-cons}
 use lib.IntN.{ℤ, pos, negsuc, _+ℤ_, _-ℤ_, _*ℤ_, natAbs}
 use lib.Signed.{shrZ}
-use mir.Syntax.{w32}
+use mir.Syntax.{w32, w64}
 use mir.Val.{SFits}
 use Rattle.integers.proofs.Zed.{E, `_, #_, _⊕_, _⊖_, _⊗_, P, N, ⟦_⟧, eq?, up, down, sfits!, abs-ud}
 use Rattle.e8.specs.Energy.{sq, energy, Within}
@@ -38,6 +38,14 @@ sq-le m B h = mul-le-mul h h
 pub energy-drop : (xs : List ℤ) (i : ℕ) → i < length xs → energy (drop i xs) ≡ sq (getD xs i (pos 0)) + energy (drop (i + 1) xs)
 unfolding energy
 energy-drop xs i h = rw (drop-cons xs i (pos 0) h, add-one)
+
+-- the product of two coordinates, which i64 has room for
+pub product-fits : (x y : ℤ) → natAbs x ≤ 2 ^ 24 → natAbs y ≤ 2 ^ 24 → SFits w64 (x *ℤ y)
+product-fits x y a b =
+    let m : up x + down x ≤ 2 ^ 24 = omega (arith, a, abs-ud x) in
+    let n : up y + down y ≤ 2 ^ 24 = omega (arith, b, abs-ud y) in
+    let h : (up x + down x) * (up y + down y) ≤ 2 ^ 24 * 2 ^ 24 = mul-le-mul m n in
+    sfits! w64 (` x ⊗ ` y) (omega (arith, h)) (omega (arith, h))
 
 -- ---- a block with one number off each coordinate
 
