@@ -10,7 +10,7 @@ use lib.ListN.{length, drop, getD}
 use lib.Seq.{drop-cons}
 use lib.IntN.{ℤ, pos, negsuc, _+ℤ_, _-ℤ_, _*ℤ_, natAbs}
 use lib.Signed.{shrZ}
-use mir.Syntax.{w32, w64}
+use mir.Syntax.{w32}
 use mir.Val.{SFits}
 use Rattle.integers.proofs.Zed.{E, `_, #_, _⊕_, _⊖_, _⊗_, P, N, ⟦_⟧, eq?, up, down, sfits!, abs-ud}
 use Rattle.e8.specs.Energy.{sq, energy, Within}
@@ -39,14 +39,6 @@ pub energy-drop : (xs : List ℤ) (i : ℕ) → i < length xs → energy (drop i
 unfolding energy
 energy-drop xs i h = rw (drop-cons xs i (pos 0) h, add-one)
 
--- the product of two coordinates, which i64 has room for
-pub product-fits : (x y : ℤ) → natAbs x ≤ 2 ^ 24 → natAbs y ≤ 2 ^ 24 → SFits w64 (x *ℤ y)
-product-fits x y a b =
-    let m : up x + down x ≤ 2 ^ 24 = omega (arith, a, abs-ud x) in
-    let n : up y + down y ≤ 2 ^ 24 = omega (arith, b, abs-ud y) in
-    let h : (up x + down x) * (up y + down y) ≤ 2 ^ 24 * 2 ^ 24 = mul-le-mul m n in
-    sfits! w64 (` x ⊗ ` y) (omega (arith, h)) (omega (arith, h))
-
 -- ---- a block with one number off each coordinate
 
 pub lowered-at : (h : ℤ) (xs : List ℤ) (i : ℕ) → i < length xs → getD (lowered h xs) i (pos 0) ≡ getD xs i (pos 0) -ℤ h
@@ -68,6 +60,13 @@ sum-abs x y A B a b = abs! (` x ⊕ ` y) (A + B) (omega (arith, abs-ud x, abs-ud
 
 pub double-abs : (x : ℤ) (B : ℕ) → natAbs x ≤ B → natAbs (pos 2 *ℤ x) ≤ B + B
 double-abs x B b = abs! (# 2 ⊗ ` x) (B + B) (omega (arith, abs-ud x)) (omega (arith, abs-ud x))
+
+pub times-abs : (x y : ℤ) (A B : ℕ) → natAbs x ≤ A → natAbs y ≤ B → natAbs (x *ℤ y) ≤ A * B
+times-abs x y A B a b =
+    let m : up x + down x ≤ A = omega (arith, a, abs-ud x) in
+    let n : up y + down y ≤ B = omega (arith, b, abs-ud y) in
+    let h : (up x + down x) * (up y + down y) ≤ A * B = mul-le-mul m n in
+    abs! (` x ⊗ ` y) (A * B) (omega (arith, h)) (omega (arith, h))
 
 pub shr-abs : (z : ℤ) (m B : ℕ) → natAbs z ≤ B → natAbs (shrZ z m) ≤ B
 shr-abs (pos n) m B b = le-trans (div-le-self n m) b

@@ -10,10 +10,17 @@ use mir.Syntax.{w64}
 use mir.Val.{SFits, Fits, toZ, ofZ}
 use Rattle.integers.proofs.Zed.{`_, #_, sfits!, abs-ud, tz, sfits-to}
 use Rattle.e8.specs.Energy.{sq}
-use Rattle.coordinates.proofs.Size.{sq-le, product-sq, product-fits}
+use Rattle.coordinates.proofs.Size.{sq-le, product-sq, times-abs}
 use Rattle.coordinates.proofs.Reading.{read}
 use Rattle.coordinates.proofs.wide_square.Statement.{statement}
 use Rattle.coordinates.proofs.wide_square.Tie as tie
+
+-- the product of two coordinates
+product-fits : (x y : ℤ) → natAbs x ≤ 2 ^ 24 → natAbs y ≤ 2 ^ 24 → SFits w64 (x *ℤ y)
+product-fits x y a b =
+    let e = abs-ud (x *ℤ y) in
+    let h = times-abs x y (2 ^ 24) (2 ^ 24) a b in
+    sfits! w64 (` (x *ℤ y)) (omega (arith, e, h)) (omega (arith, e, h))
 
 module _ (c : tie.Start) where
   wide-fits : SFits w64 (c .args .z)
