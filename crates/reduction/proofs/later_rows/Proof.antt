@@ -1,6 +1,6 @@
 -- `later_rows` meets its contract. Before place i the loop has written the remainders, and q is what came off the last place (`Rows`, of Reducing)
 use mathlib.Core.Path.{_≡_, refl, sym, _∙_, ap, ap₂, subst}
-use Prim.Native.Nat.{ℕ, _*_, _-_, _^_, _<_, _≤_}
+use Prim.Native.Nat.{ℕ, _*_, _-_, _^_, _≤_}
 use native.Mathlib.Omega.{arith}
 use lib.IntN.{ℤ, pos, _+ℤ_, _-ℤ_, natAbs}
 use lib.ListN.{length, getD}
