@@ -11,7 +11,7 @@ use mir.Syntax.{w32}
 use mir.Val.{SFits, toZ, ofZ}
 use mir.Facts.{toZ-pos, toZ-neg}
 use Rattle.integers.specs.Integer.{modZ}
-use Rattle.integers.proofs.Zed.{`_, #_, _⊕_, _⊖_, _⊗_, P, N, eq!, eq?, sfits!, abs-ud}
+use Rattle.integers.proofs.Zed.{`_, #_, _⊕_, _⊖_, _⊗_, P, N, eq!, eq?, sfits!, abs-ud, tz}
 use Rattle.integers.proofs.Floor.{modZ-lt, div-mod}
 use Rattle.coordinates.proofs.Size.{fits}
 
@@ -57,6 +57,19 @@ module _ (k : ℕ) (z : ℤ) (small : k ≤ 9) (size : natAbs z ≤ 2 ^ 30) wher
 
   pub fits-remainder : SFits w32 (pos (modZ z (2 ^ k)))
   fits-remainder = sfits! w32 (# (modZ z (2 ^ k))) (omega (arith, modZ-lt z (2 ^ k) M-pos, M-small)) (omega arith)
+
+-- a number and the multiple of m next below, as it is read: what lies between them, either way
+pub apart-fits : (z r : ℤ) (m : ℕ) → natAbs z ≤ 2 ^ 30 → r ≡ z -ℤ pos (modZ z m) → 0 < m → m ≤ 2 ^ 9
+    → SFits w32 (z -ℤ toZ w32 (ofZ w32 r)) × SFits w32 (toZ w32 (ofZ w32 r) -ℤ z)
+apart-fits z r m size e some small =
+    let l = modZ-lt z m some in
+    let low : ℤ = z -ℤ pos (modZ z m) in
+    let f : SFits w32 low = sfits! w32 (` z ⊖ # (modZ z m)) (omega (arith, l, small, abs-ud z, size)) (omega (arith, l, small, abs-ud z, size)) in
+    let y : ℤ = toZ w32 (ofZ w32 r) in
+    let d = eq? (` y) (` z ⊖ # (modZ z m)) (tz e f) in (
+      sfits! w32 (` z ⊖ ` y) (omega (arith, l, small, d)) (omega (arith, l, small, d)),
+      sfits! w32 (` y ⊖ ` z) (omega (arith, l, small, d)) (omega (arith, l, small, d)),
+    )
 
 -- ---- powers of two
 

@@ -61,6 +61,13 @@ sum-abs x y A B a b = abs! (` x ⊕ ` y) (A + B) (omega (arith, abs-ud x, abs-ud
 pub double-abs : (x : ℤ) (B : ℕ) → natAbs x ≤ B → natAbs (pos 2 *ℤ x) ≤ B + B
 double-abs x B b = abs! (# 2 ⊗ ` x) (B + B) (omega (arith, abs-ud x)) (omega (arith, abs-ud x))
 
+pub times-abs : (x y : ℤ) (A B : ℕ) → natAbs x ≤ A → natAbs y ≤ B → natAbs (x *ℤ y) ≤ A * B
+times-abs x y A B a b =
+    let m : up x + down x ≤ A = omega (arith, a, abs-ud x) in
+    let n : up y + down y ≤ B = omega (arith, b, abs-ud y) in
+    let h : (up x + down x) * (up y + down y) ≤ A * B = mul-le-mul m n in
+    abs! (` x ⊗ ` y) (A * B) (omega (arith, h)) (omega (arith, h))
+
 pub shr-abs : (z : ℤ) (m B : ℕ) → natAbs z ≤ B → natAbs (shrZ z m) ≤ B
 shr-abs (pos n) m B b = le-trans (div-le-self n m) b
 shr-abs (negsuc n) m B b = omega (arith, div-le-self n m)

@@ -21,14 +21,6 @@ pub range-abs : (M : ℕ) (c : ℤ) → Range M c → natAbs c ≤ M
 range-abs M (pos n) r = omega (arith, r .high)
 range-abs M (negsuc n) r = omega (arith, r .low)
 
-pub cent-range : (M : ℕ) (x : ℤ) → 0 < M → Range M (cent M x)
-unfolding cent
-cent-range M x h =
-    let r : ℕ = modZ (x +ℤ pos M) (2 * M) in
-    let k : r < 2 * M = modZ-lt (x +ℤ pos M) (2 * M) (omega arith) in
-    let e : up (pos r -ℤ pos M) + M ≡ r + down (pos r -ℤ pos M) = omega (arith, eq? (` (pos r -ℤ pos M)) (# r ⊖ # M) refl) in
-    record { low = omega arith; high = omega arith }
-
 pub turns : ℕ → ℤ → ℤ
 turns M x = shrZ (x +ℤ pos M) (2 * M)
 
@@ -38,6 +30,14 @@ cent-is M x h =
     let q : ℤ = shrZ (x +ℤ pos M) (2 * M) in
     let r : ℕ = modZ (x +ℤ pos M) (2 * M) in
     eq! (# r ⊖ # M) (` x ⊖ # M ⊗ (# 2 ⊗ ` q)) (omega (arith, eq? (` x ⊕ # M) (# (2 * M) ⊗ ` q ⊕ # r) (div-mod (x +ℤ pos M) (2 * M) (omega arith))))
+
+pub cent-range : (M : ℕ) (x : ℤ) → 0 < M → Range M (cent M x)
+unfolding cent
+cent-range M x h =
+    let r : ℕ = modZ (x +ℤ pos M) (2 * M) in
+    let k : r < 2 * M = modZ-lt (x +ℤ pos M) (2 * M) (omega arith) in
+    let e : up (pos r -ℤ pos M) + M ≡ r + down (pos r -ℤ pos M) = omega (arith, eq? (` (pos r -ℤ pos M)) (# r ⊖ # M) refl) in
+    record { low = omega arith; high = omega arith }
 
 -- ---- c comes first
 abbrev pub First : ℤ → ℤ → Type 0

@@ -9,13 +9,13 @@ use lib.Signed.{shrZ}
 use Rattle.integers.specs.Integer.{modZ}
 use Rattle.integers.proofs.Zed.{`_, #_, _⊕_, _⊗_, up, down, eq!, eq?, eq-ud, ud-eq}
 
-pub modZ-lt : (z : ℤ) (m : ℕ) → 0 < m → modZ z m < m
-modZ-lt (pos a) m h = mod-lt a h
-modZ-lt (negsuc a) m h = omega arith
-
 pub div-mod : (z : ℤ) (m : ℕ) → 0 < m → z ≡ pos m *ℤ shrZ z m +ℤ pos (modZ z m)
 div-mod (pos a) m h = eq! (` (pos a)) (# m ⊗ ` (pos (a / m)) ⊕ # (a % m)) (omega (arith, div-add-mod' a m))
 div-mod (negsuc a) m h = eq! (` (negsuc a)) (# m ⊗ ` (negsuc (a / m)) ⊕ # (m - suc (a % m))) (omega (arith, div-add-mod' a m, mod-lt a h))
+
+pub modZ-lt : (z : ℤ) (m : ℕ) → 0 < m → modZ z m < m
+modZ-lt (pos a) m h = mod-lt a h
+modZ-lt (negsuc a) m h = omega arith
 
 same-digits : (m a b r s : ℕ) → r < m → s < m → m * a + r ≡ m * b + s → a ≡ b
 same-digits m a b r s h k e = sym (digits-div a h) ∙ ap (λ (x : ℕ). x / m) {x = a * m + r} {y = b * m + s} (omega arith) ∙ digits-div b k

@@ -1,5 +1,5 @@
 -- `within`: `out` is 0 where the coordinates below q are within the bound. Assumes nothing.
-use Prim.Native.Nat.{ℕ, _-_, _≤_}
+use Prim.Native.Nat.{ℕ, _-_}
 use mathlib.Core.Path.{_≡_, refl, ap, ap₂, _∙_}
 use mathlib.Core.Bool.{cond}
 use native.Mathlib.Omega.{arith}
@@ -18,14 +18,14 @@ use Rattle.coordinates.proofs.within.Statement.{statement}
 use Rattle.coordinates.proofs.within.Tie as tie
 
 abbrev Inv-loop : tie.InvT-loop
-Inv-loop part bound out₀ q₀ out q = (q ≤ length part) × (out ≡ cond (isWithin bound (take q part)) 0 1)
+Inv-loop part bound out₀ q₀ out q = out ≡ cond (isWithin bound (take q part)) 0 1
 
 abbrev μ-loop : tie.MeasureT-loop
 μ-loop part bound out₀ q₀ out q = length part - q
 
 loop-holds : tie.Need-loop-holds Inv-loop μ-loop
 unfolding isWithin
-loop-holds c = (search needs, refl)
+loop-holds c = refl
 
 mul-z : tie.Need-mul-z Inv-loop μ-loop
 mul-z c = search needs
@@ -49,17 +49,15 @@ loop-again c =
     let x = s .args .part .now in
     let bound = s .args .bound in
     let z : ℤ = getD x (l .loop .q) (pos 0) in
-    let back : toZ w32 (ofZ w32 z) ≡ z = tz refl (record { sfits = c .before .z .given }) in (
-      omega arith,
-      ap₂ bitOr (l .loop .inv .1) (c .far .ensures ∙ ap (λ (y : ℤ). cond (leb (natAbs y) bound) 0 1) back) ∙ range-more bound x (l .loop .q) (omega arith),
-    )
+    let back : toZ w32 (ofZ w32 z) ≡ z = tz refl (record { sfits = c .before .z .given }) in
+    ap₂ bitOr (l .loop .inv) (c .far .ensures ∙ ap (λ (y : ℤ). cond (leb (natAbs y) bound) 0 1) back) ∙ range-more bound x (l .loop .q) (omega arith)
 
 returns : tie.Need-returns Inv-loop μ-loop
 returns c =
     let l = c .before .loop in
     let x = c .before .before .args .part .now in
     let bound = c .before .before .args .bound in
-    ap (λ (y : ℕ). eqb y 0) (l .inv .1) ∙ all-passed (isWithin bound (take (l .q) x)) ∙ ap (isWithin bound) (take-all (l .q) x (omega arith))
+    ap (λ (y : ℕ). eqb y 0) (l .inv) ∙ all-passed (isWithin bound (take (l .q) x)) ∙ ap (isWithin bound) (take-all (l .q) x (omega arith))
 
 pub within-spec : {M : Type 1} → statement M
 within-spec =

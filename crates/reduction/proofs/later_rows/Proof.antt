@@ -1,6 +1,6 @@
 -- `later_rows` meets its contract. Before place i the loop has written the remainders, and q is what came off the last place (`Rows`, of Reducing)
 use mathlib.Core.Path.{_≡_, refl, sym, _∙_, ap, ap₂, subst}
-use Prim.Native.Nat.{ℕ, _*_, _-_, _^_, _<_, _≤_}
+use Prim.Native.Nat.{ℕ, _*_, _-_, _^_, _≤_}
 use native.Mathlib.Omega.{arith}
 use lib.IntN.{ℤ, pos, _+ℤ_, _-ℤ_, natAbs}
 use lib.ListN.{length, getD}
@@ -23,6 +23,15 @@ Inv-loop k y r₀ q₀ i₀ r q i = (1 ≤ i) × ((i ≤ 7) × Rows (2 ^ k) y r 
 
 abbrev μ-loop : tie.MeasureT-loop
 μ-loop k y r₀ q₀ i₀ r q i = 7 - i
+
+-- one number off another, by itself and on top of a sum
+gap-fits : (a b : ℤ) → natAbs a ≤ 2 ^ 26 → natAbs b ≤ 2 ^ 26 → SFits w32 (a -ℤ b)
+gap-fits a b ha hb = fits (a -ℤ b) (omega (arith, less-abs a b (2 ^ 26) (2 ^ 26) ha hb))
+
+on-fits : (q a b : ℤ) → natAbs q ≤ 7 * 2 ^ 27 → natAbs a ≤ 2 ^ 26 → natAbs b ≤ 2 ^ 26 → SFits w32 (q +ℤ read (a -ℤ b))
+on-fits q a b hq ha hb =
+    let s = plain-size (a -ℤ b) (2 ^ 27) (omega (arith, less-abs a b (2 ^ 26) (2 ^ 26) ha hb)) (omega arith) in
+    fits (q +ℤ read (a -ℤ b)) (omega (arith, sum-abs q (read (a -ℤ b)) (7 * 2 ^ 27) (2 ^ 27) hq s))
 
 -- ---- the block that came
 
@@ -71,23 +80,17 @@ module _ (c : tie.After-remainder Inv-loop μ-loop) where
       tz refl (record { sfits = c .remainder .ok }) ∙ c .remainder .ensures
       ∙ ap₂ (λ a n. pos (modZ a n)) (is start i) (double (start .args .k))
 
-  taken : read z -ℤ read (c .remainder .result) ≡ z -ℤ pos m
-  taken = ap₂ _-ℤ_ (is start i) rest
+  z-size : natAbs (read z) ≤ 2 ^ 26
+  z-size = plain-size z (2 ^ 26) (small start i) (omega arith)
 
-  taken-size : natAbs (z -ℤ pos m) ≤ 2 ^ 27
-  taken-size =
-      let p : 0 < 2 * h start = omega (arith, h-scale start .some) in
-      let low : m ≤ 2 ^ 7 = omega (arith, modZ-lt z (2 * h start) p, h-scale start .small) in
-      omega (arith, less-abs z (pos m) (2 ^ 26) (2 ^ 7) (small start i) low)
+  m-low : m ≤ 2 ^ 26
+  m-low = omega (arith, modZ-lt z (2 * h start) (omega (arith, h-scale start .some)), h-scale start .small)
 
-  taken-fits : SFits w32 (z -ℤ pos m)
-  taken-fits = fits (z -ℤ pos m) (omega (arith, taken-size))
+  rest-size : natAbs (read (c .remainder .result)) ≤ 2 ^ 26
+  rest-size = subst (λ (a : ℤ). natAbs a ≤ 2 ^ 26) (sym rest) m-low
 
-  sum : q +ℤ read (read z -ℤ read (c .remainder .result)) ≡ q +ℤ (z -ℤ pos m)
-  sum = ap (λ (a : ℤ). q +ℤ a) (tz taken taken-fits)
-
-  sum-fits : SFits w32 (q +ℤ (z -ℤ pos m))
-  sum-fits = fits (q +ℤ (z -ℤ pos m)) (omega (arith, sum-abs q (z -ℤ pos m) (i * 2 ^ 27) (2 ^ 27) (at-loop .loop .inv .1 .1 .size) taken-size))
+  q-size : natAbs q ≤ 7 * 2 ^ 27
+  q-size = omega (arith, at-loop .loop .inv .1 .1 .size, at-loop .loop .inv .1 .0)
 
 -- ---- the last place
 
@@ -139,10 +142,10 @@ array-set-from-r : tie.Need-array-set-from-r Inv-loop μ-loop
 array-set-from-r c = search needs
 
 sub-q : tie.Need-sub-q Inv-loop μ-loop
-sub-q c = sfits-to (taken c) (taken-fits c)
+sub-q c = sfits-to refl (search (gap-fits, z-size c, rest-size c))
 
 add-q : tie.Need-add-q Inv-loop μ-loop
-add-q c = sfits-to (sum c) (sum-fits c)
+add-q c = sfits-to refl (search (on-fits, q-size c, z-size c, rest-size c))
 
 add-i : tie.Need-add-i Inv-loop μ-loop
 add-i c = search needs
@@ -153,12 +156,16 @@ loop-less c = omega arith
 loop-again : tie.Need-loop-again Inv-loop μ-loop
 loop-again c =
     let l = at-loop c in
-    let s = l .before in (
+    let s = l .before in
+    let n = read (c .remainder .result) in
+    let taken = tz (ap (λ (a : ℤ). a -ℤ n) (is s (i c))) (gap-fits (z c) n (small s (i c)) (rest-size c)) in
+    let low : natAbs (z c -ℤ n) ≤ 2 ^ 27 = omega (arith, less-abs (z c) n (2 ^ 26) (2 ^ 26) (small s (i c)) (rest-size c)) in
+    let sum-fits = fits (q c +ℤ (z c -ℤ n)) (omega (arith, sum-abs (q c) (z c -ℤ n) (7 * 2 ^ 27) (2 ^ 27) (q-size c) low)) in (
       omega arith,
       (
         omega arith,
         rows-next (h-scale s) (eight s) (l .loop .inv .1 .1) _ _ (omega arith) (small s (i c)) (rest c)
-            (tz (sum c) (sum-fits c) ∙ ap (λ (a : ℤ). q c +ℤ (z c -ℤ a)) (sym (rest c))),
+            (tz (ap (λ (a : ℤ). q c +ℤ a) taken) sum-fits),
       ),
     )
 

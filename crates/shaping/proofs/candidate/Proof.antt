@@ -51,6 +51,10 @@ module _ (s : tie.Start Inv-loop μ-loop) where
   target-at : (i : ℕ) → i < 8 → getD target i (pos 0) ≡ memberOf at elsewhere n (z i) i
   target-at i h = members-at at elsewhere n 0 (s .args .t4) i (omega (arith, eight)) ∙ ap (memberOf at elsewhere n (z i)) {x = i + 0} {y = i} (omega arith)
 
+  -- the size of either number
+  sizes : (natAbs at ≤ 2 ^ 7) × (natAbs elsewhere ≤ 2 ^ 7)
+  sizes = (plain-size (s .args .at) (2 ^ 7) (s .pre .0) (omega arith), plain-size (s .args .elsewhere) (2 ^ 7) (s .pre .1) (omega arith))
+
   -- the rank is not negative
   rank-is : read (s .args .t) ≡ pos n
   rank-is = let e = tz refl (s .fits .t) in e ∙ s .pre .2 ∙ ap (λ (y : ℤ). pos (natAbs y)) (sym e)
@@ -68,8 +72,8 @@ member-requires : tie.Need-member-requires Inv-loop μ-loop
 member-requires c κs =
     let l = c .before .before in
     let s = l .before in (
-      plain-size (s .args .at) (2 ^ 7) (s .pre .0) (omega arith),
-      plain-size (s .args .elsewhere) (2 ^ 7) (s .pre .1) (omega arith),
+      search (sizes s),
+      search (sizes s),
       rank-is s,
       plain-size (z s (l .loop .i)) (2 ^ 7) (small s (l .loop .i)) (omega arith),
       omega arith,

@@ -1,5 +1,5 @@
 -- `half_cost` meets its contract
-use mathlib.Core.Path.{_≡_, refl, _∙_, ap, ap₂}
+use mathlib.Core.Path.{_≡_, refl, sym, _∙_, ap, ap₂, subst}
 use mathlib.Core.Bool.{cond}
 use Prim.Native.Nat.{_^_, _≤_}
 use native.Mathlib.Omega.{arith}
@@ -9,10 +9,19 @@ use mir.Syntax.{w32}
 use mir.Val.{SFits}
 use borrow.Author.Needs.{needs}
 use Rattle.integers.proofs.Zed.{`_, #_, _⊗_, tz, sfits-to, abs-ud}
-use Rattle.coordinates.proofs.Size.{fits, abs!, sum-abs, double-abs, where-abs, shr-abs}
-use Rattle.coordinates.proofs.Reading.{read}
+use Rattle.coordinates.proofs.Size.{fits, abs!, sum-abs, double-abs, times-abs, where-abs, shr-abs}
+use Rattle.coordinates.proofs.Reading.{read, plain-size}
 use Rattle.shaping.proofs.half_cost.Statement.{statement}
 use Rattle.shaping.proofs.half_cost.Tie as tie
+
+-- a few times h, by itself and with a cost
+times-fits : (x y : ℤ) → natAbs x ≤ 4 → natAbs y ≤ 2 ^ 7 → SFits w32 (x *ℤ y)
+times-fits x y a b = fits (x *ℤ y) (omega (arith, times-abs x y 4 (2 ^ 7) a b))
+
+with-fits : (x y u : ℤ) → natAbs x ≤ 4 → natAbs y ≤ 2 ^ 7 → natAbs u ≤ 2 ^ 13 → SFits w32 (read (x *ℤ y) +ℤ u)
+with-fits x y u a b h =
+    fits (read (x *ℤ y) +ℤ u)
+    (omega (arith, sum-abs (read (x *ℤ y)) u (2 ^ 9) (2 ^ 13) (plain-size (x *ℤ y) (2 ^ 9) (times-abs x y 4 (2 ^ 7) a b) (omega arith)) h))
 
 module _ (s : tie.Start) where
   abbrev h : ℤ
@@ -64,7 +73,7 @@ module _ (c : tie.After-cost) where
   total-fits = fits (pos 4 *ℤ h s +ℤ cost) (omega (arith, sum-abs (pos 4 *ℤ h s) cost (2 ^ 9) (2 ^ 13) (four-size s) cost-size))
 
 mul-result : tie.Need-mul-result
-mul-result c = sfits-to (four c) (four-fits c)
+mul-result c = sfits-to refl (search (times-fits, plain-size (h c) (2 ^ 7) (c .pre .0) (omega arith), needs))
 
 mul-cost : tie.Need-mul-cost
 mul-cost c = sfits-to (twice c) (twice-fits c)
@@ -73,7 +82,9 @@ cost-requires : tie.Need-cost-requires
 cost-requires c κs = search needs
 
 add-result : tie.Need-add-result
-add-result c = sfits-to (total c) (total-fits c)
+add-result c =
+    let low : natAbs (read (c .cost .result)) ≤ 2 ^ 13 = subst (λ (z : ℤ). natAbs z ≤ 2 ^ 13) (sym (cost-is c)) (cost-size c) in
+    sfits-to refl (search (with-fits, plain-size (h (s c)) (2 ^ 7) (s c .pre .0) (omega arith), low, needs))
 
 returns : tie.Need-returns
 returns c = tz (total c) (total-fits c)

@@ -35,6 +35,10 @@ module _ (s : tie.Start) where
   c-size : natAbs (read c) ≤ 2 ^ 8
   c-size = plain-size c (2 ^ 8) (omega (arith, s .pre .3)) (omega arith)
 
+  -- the size of either number
+  sizes : (natAbs (read (s .args .at)) ≤ 2 ^ 7) × (natAbs (read (s .args .elsewhere)) ≤ 2 ^ 7)
+  sizes = (plain-size (s .args .at) (2 ^ 7) (s .pre .0) (omega arith), plain-size (s .args .elsewhere) (2 ^ 7) (s .pre .1) (omega arith))
+
   -- one of the two numbers, across 0
   across-is : (b : Bool) (m z : ℤ) → same ≡ b → m ≡ cond b (s .args .at) (s .args .elsewhere) → z ≡ across m c
       → z ≡ across (cond same (s .args .at) (s .args .elsewhere)) c
@@ -44,7 +48,7 @@ rank-requires : tie.Need-rank-requires
 rank-requires c κs = search needs
 
 across-requires : tie.Need-across-requires
-across-requires c κs = let s = c .before .before in (plain-size (s .args .at) (2 ^ 7) (s .pre .0) (omega arith), c-size s)
+across-requires c κs = let s = c .before .before in (search (sizes s), c-size s)
 
 returns : tie.Need-returns
 returns q =
@@ -54,7 +58,7 @@ returns q =
     (tz refl (record { sfits = q .across .ok }) ∙ q .across .ensures ∙ ap₂ across (tz refl (s .fits .at)) (tz refl (s .fits .c)))
 
 across-requires-2 : tie.Need-across-requires-2
-across-requires-2 c κs = let s = c .before .before in (plain-size (s .args .elsewhere) (2 ^ 7) (s .pre .1) (omega arith), c-size s)
+across-requires-2 c κs = let s = c .before .before in (search (sizes s), c-size s)
 
 returns-2 : tie.Need-returns-2
 returns-2 q =

@@ -1,5 +1,5 @@
 -- `rank` meets its contract
-use mathlib.Core.Path.{_≡_, refl, sym, _∙_, ap, ap₂}
+use mathlib.Core.Path.{_≡_, refl, sym, _∙_, ap, ap₂, subst}
 use mathlib.Core.Bool.{Bool, true, false, true≢false, cond}
 use Prim.Native.Nat.{ℕ, suc, _+_, _*_, _-_, _^_, _<_, _≤_}
 use native.Mathlib.Omega.{arith}
@@ -12,8 +12,8 @@ use borrow.Author.Needs.{needs}
 use borrow.Author.Tests.{ltb-true}
 use Rattle.integers.proofs.Zed.{`_, #_, _⊕_, _⊖_, _⊗_, eq!, tz, sfits-to, abs-ud}
 use Rattle.shaping.specs.Rounded.{rankOf}
-use Rattle.coordinates.proofs.Size.{fits, abs! }
-use Rattle.coordinates.proofs.Reading.{read}
+use Rattle.coordinates.proofs.Size.{fits, abs!, sum-abs, less-abs}
+use Rattle.coordinates.proofs.Reading.{read, plain-size}
 use Rattle.shaping.proofs.rank.Statement.{statement}
 use Rattle.shaping.proofs.rank.Tie as tie
 
@@ -32,12 +32,23 @@ rank-low c i h k = go (ltZ c (pos 0))
     go true = omega arith
     go false = omega arith
 
+-- a place and 15, either off the other, by itself and over 16 times the size
+step-fits : (x y : ℤ) → natAbs x ≤ 15 → natAbs y ≤ 15 → SFits w32 (x -ℤ y)
+step-fits x y a b = fits (x -ℤ y) (omega (arith, less-abs x y 15 15 a b))
+
+over-fits : (u x y : ℤ) → natAbs u ≤ 2 ^ 11 → natAbs x ≤ 15 → natAbs y ≤ 15 → SFits w32 (u +ℤ read (x -ℤ y))
+over-fits u x y h a b =
+    fits (u +ℤ read (x -ℤ y)) (omega (arith, sum-abs u (read (x -ℤ y)) (2 ^ 11) 30 h (plain-size (x -ℤ y) 30 (less-abs x y 15 15 a b) (omega arith))))
+
 module _ (s : tie.Start) where
   number : read (s .args .c) ≡ s .args .c
   number = tz refl (s .fits .c)
 
   index : toZ w32 (s .args .i) ≡ pos (s .args .i)
   index = toZ-pos w32 (omega (arith, s .pre .1))
+
+  index-size : natAbs (toZ w32 (s .args .i)) ≤ 15
+  index-size = subst (λ (z : ℤ). natAbs z ≤ 15) (sym index) (omega (arith, s .pre .1))
 
   sixteen-fits : SFits w32 (pos 16 *ℤ s .args .c)
   sixteen-fits =
@@ -46,6 +57,11 @@ module _ (s : tie.Start) where
 
   sixteen : read (pos 16 *ℤ read (s .args .c)) ≡ pos 16 *ℤ s .args .c
   sixteen = tz (ap (λ (z : ℤ). pos 16 *ℤ z) number) sixteen-fits
+
+  sixteen-size : natAbs (read (pos 16 *ℤ read (s .args .c))) ≤ 2 ^ 11
+  sixteen-size =
+      let e = abs-ud (s .args .c) in
+      subst (λ (z : ℤ). natAbs z ≤ 2 ^ 11) (sym sixteen) (abs! (# 16 ⊗ ` (s .args .c)) (2 ^ 11) (omega (arith, e, s .pre .0)) (omega (arith, e, s .pre .0)))
 
   behind-fits : SFits w32 (pos 15 -ℤ pos (s .args .i))
   behind-fits = fits (pos 15 -ℤ pos (s .args .i)) (abs! (# 15 ⊖ # (s .args .i)) (2 ^ 30) (omega arith) (omega (arith, s .pre .1)))
@@ -81,10 +97,10 @@ mul-result-2 : tie.Need-mul-result-2
 mul-result-2 c = sfits-to (ap (λ (z : ℤ). pos 16 *ℤ z) (number (c .before))) (sixteen-fits (c .before))
 
 sub-result-2 : tie.Need-sub-result-2
-sub-result-2 c = sfits-to (ap (λ (z : ℤ). pos 15 -ℤ z) (index (c .before))) (behind-fits (c .before))
+sub-result-2 c = sfits-to refl (search (step-fits, index-size (c .before), needs))
 
 add-result : tie.Need-add-result
-add-result c = sfits-to (high (c .before) (c .if1 .left)) (n-fits (c .before))
+add-result c = sfits-to refl (search (over-fits, sixteen-size (c .before), index-size (c .before), needs))
 
 returns : tie.Need-returns
 returns c = tz (low (c .before) (c .if1 .taken)) (n-fits (c .before))
