@@ -42,17 +42,16 @@
  *     Measured on the archive of this version, A=target/staticlib/libframe_coder.a:
  *
  *       nm -u $A        no undefined symbols: it prints the name of the member and nothing more
- *       size $A         text 8838 (code and constants), data 0, bss 0
- *       size -A $A      a section for each function, so that -Wl,--gc-sections leaves out what is not called: of 8574 bytes of
- *                       code coder_send alone needs 4122, both readings 5084
+ *       size $A         text 8780 (code and constants), data 0, bss 0
+ *       size -A $A      a section for each function, so that -Wl,--gc-sections leaves out what is not called: of 8516 bytes of
+ *                       code coder_send alone needs 4037, both readings 5111
  *       cc -I crates/frame_coder tools/c/stack.c $A -o target/stack && target/stack
  *                       the most stack that a call used, in bytes, with its return address and the arguments on the stack:
- *                       coder_send 528, coder_send_counted 592, coder_read_open 472, coder_read_strict 576
+ *                       coder_send 432, coder_send_counted 496, coder_read_open 448, coder_read_strict 544
  *       objdump -dr $A | grep -E '>:$|push|sub .*,%rsp|-0x[0-9a-f]*\(%rsp\)|PLT32'
- *                       where it goes: the frames on the way down add up to the same (8 bytes of coder_read_open's are never
- *                       touched), nothing recurs, and 80 of the bytes of sending and of the strict reading lie below the stack
- *                       pointer, in the red zone of the calling convention: an interrupt on the same stack must leave out 128
- *                       bytes there
+ *                       where it goes: the frames on the way down add up to the same, nothing recurs, and 80 of the bytes of
+ *                       sending and of the strict reading lie below the stack pointer, in the red zone of the calling convention:
+ *                       an interrupt on the same stack must leave out 128 bytes there
  *
  * Every function of the archive is proved to answer, and to leave in what it is lent, what crates/frame_coder/src/lib.rt says.
  * The functions that are written out in this header (lengths, names, account) are plain C and tested only, by tools/c/run; so are
@@ -64,7 +63,7 @@
 #include <stddef.h>
 #include <stdint.h>
 
-#define FRAME_CODER_VERSION "0.2.0"
+#define FRAME_CODER_VERSION "0.2.1"
 
 #ifdef __cplusplus
 extern "C" {
