@@ -3,7 +3,7 @@ use native.Mathlib.Omega.{arith}
 use Prim.Native.Nat.{ℕ, _*_, _≤_}
 use mathlib.Core.Path.{ap}
 use Rattle.frames.specs.Kind.{messageBits}
-use Rattle.frames.proofs.Limits.{few-level-bits, coordinate-bits}
+use Rattle.frames.proofs.Limits.{few-positions, few-level-bits, coordinate-bits}
 use borrow.Author.Needs.{needs}
 use Rattle.kind_table.proofs.message_bits.Statement.{statement}
 use Rattle.kind_table.proofs.message_bits.Tie as tie
@@ -26,7 +26,8 @@ mul-result c = record { fits = omega (arith, product c) }
 add-result : tie.Need-add-result
 add-result c =
     let s = c .before .before in
-    record { fits = omega (arith, product c, few-level-bits (s .args .kind) (s .pre .0), c .before .level-bits .ensures) }
+    let p = few-positions (s .args .kind) (s .pre .0) in
+    let l = few-level-bits (s .args .kind) (s .pre .0) in record { fits = omega (arith, product c, p, c .positions .ensures, l, c .before .level-bits .ensures) }
 
 returns : tie.Need-returns
 unfolding messageBits
