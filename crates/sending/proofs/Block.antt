@@ -64,7 +64,8 @@ numbers-below bit small from b o h l =
     rw (numbers-at bit from (widths b) o l) (number-small bit small (from + total (take o (widths b))) (getD (widths b) o 0) (width-small b o h l))
 
 -- numbers of the same bits
-pub numbers-ext : (f g : ℕ → ℕ) (from from′ : ℕ) (ws : List ℕ) → ((i : ℕ) → i < total ws → f (from + i) ≡ g (from′ + i)) → numbers f from ws ≡ numbers g from′ ws
+pub numbers-ext : (f g : ℕ → ℕ) (from from′ : ℕ) (ws : List ℕ)
+    → ((i : ℕ) → i < total ws → f (from + i) ≡ g (from′ + i)) → numbers f from ws ≡ numbers g from′ ws
 unfolding numbers
 numbers-ext f g from from′ [] h = refl
 numbers-ext f g from from′ (w ∷ ws) h =

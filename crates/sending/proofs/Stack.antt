@@ -37,7 +37,11 @@ pub over-more : (n i : ℕ) (c : ℕ → ℕ) (s : ℕ)
 unfolding over
 over-more n i c s = go (decLt i n)
   where
-    go : Dec (i < n) → pick (ltb i n) (c i + 2 * over (n - suc i) (λ t. c (suc i + t)) s) (over (n - suc i) (λ t. c (suc i + t)) s) ≡ over (n - i) (λ t. c (i + t)) s
+    -- the levels from i + 1 on
+    later : ℕ
+    later = over (n - suc i) (λ t. c (suc i + t)) s
+
+    go : Dec (i < n) → pick (ltb i n) (c i + 2 * later) later ≡ over (n - i) (λ t. c (i + t)) s
     go (yes l) =
         let e : n - i ≡ suc (n - suc i) = omega arith in
         let first : i + 0 ≡ i = omega arith in

@@ -27,7 +27,8 @@ add-result : tie.Need-add-result
 add-result c =
     let s = c .before .before in
     let p = few-positions (s .args .kind) (s .pre .0) in
-    let l = few-level-bits (s .args .kind) (s .pre .0) in record { fits = omega (arith, product c, p, c .positions .ensures, l, c .before .level-bits .ensures) }
+    let l = few-level-bits (s .args .kind) (s .pre .0) in
+    record { fits = omega (arith, product c, p, c .positions .ensures, l, c .before .level-bits .ensures) }
 
 returns : tie.Need-returns
 unfolding messageBits

@@ -13,9 +13,12 @@ use Rattle.frames.proofs.Limits.{last-grade}
 use Rattle.reading.proofs.message.packed.Statement.{statement}
 use Rattle.reading.proofs.message.packed.Tie as tie
 
--- what a grade that is b gives
-at-grade : (s : List ℤ) {b g : ℕ} → b ≡ g → number (8 * b) (λ t. getD (allDigits (widths b) (map natAbs s)) t 0) ≡ number (8 * g) (λ t. getD (allDigits (widths g) (map natAbs s)) t 0)
-at-grade s e = ap (λ (n : ℕ). number (8 * n) (λ t. getD (allDigits (widths n) (map natAbs s)) t 0)) e
+-- what the grade b gives, and a grade that is the same
+abbrev given : List ℤ → ℕ → ℕ
+given s b = number (8 * b) (λ t. getD (allDigits (widths b) (map natAbs s)) t 0)
+
+at-grade : (s : List ℤ) {b g : ℕ} → b ≡ g → given s b ≡ given s g
+at-grade s e = ap (given s) e
 
 packed-by-requires : tie.Need-packed-by-requires
 packed-by-requires c κs = search needs

@@ -65,7 +65,8 @@ module _ (s : tie.Start Inv-loop μ-loop) where
   small i o l =
       let v : ℕ = own message from b o in
       let h : v < 32 = numbers-below (messageBit message) (message-small message) from b o (s .pre .1) l in
-      let p : 2 ^ (n - i) * (v + 1) ≤ 8 * 32 = mul-le-mul {n₁ = 2 ^ (n - i)} {m₁ = v + 1} {n₂ = 8} {m₂ = 32} (pow-mono {j = 3} (omega (arith, s .pre .2))) (omega arith) in
+      let few : 2 ^ (n - i) ≤ 8 = pow-mono {j = 3} (omega (arith, s .pre .2)) in
+      let p : 2 ^ (n - i) * (v + 1) ≤ 8 * 32 = mul-le-mul {m₁ = v + 1} {m₂ = 32} few (omega arith) in
       omega (arith, over-below (n - i) (λ t. digit (getD words (i + t) 0) (q + o)) v (λ t. digit-small (getD words (i + t) 0) (q + o)))
 
   at : (i : ℕ) {x : List ℕ} → x ≡ table 8 (F i) → (o : ℕ) → o < 8 → getD x o 0 ≡ F i o
