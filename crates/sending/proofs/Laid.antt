@@ -23,13 +23,13 @@ use Rattle.frames.specs.Message.{numbers, blockNumbers, stacked, coordinate, le
 use Rattle.frames.proofs.Frame.{at, ints-at, part-length, part-at}
 use Rattle.frames.proofs.One.{leader-length, leader-at}
 use Rattle.frames.proofs.Limits.{few-levels, whole-blocks}
-use Rattle.sending.specs.Words.{codewordsOf, over}
+use Rattle.sending.specs.Words.{codewordsOf, overLevels}
 use Rattle.sending.proofs.Block.{numbers-below}
 use Rattle.sending.proofs.Stack.{stacked-below, stacked-words}
 
--- coordinate o of the block at position q: the levels that the numbers ws hold, under the block's numbers ns
+-- coordinate o of the block at position q: the block's numbers ns over the levels that the numbers ws hold
 abbrev pub laid : ℕ → List ℕ → ℕ → List ℕ → ℕ → ℕ
-laid a ws q ns o = over a (λ i. getD ws i 0 / 2 ^ (q + o) % 2) (getD ns o 0)
+laid a ws q ns o = overLevels a (λ i. getD ws i 0 / 2 ^ (q + o) % 2) (getD ns o 0)
 
 module _ (k b : ℕ) (kind : isKind k ≡ true) (bytes : List ℕ) where
   pub long : length (leader k b bytes) ≡ 8 * blocks k

@@ -16,32 +16,32 @@ use Rattle.reed_muller.specs.Level.{dimension, codeword}
 use Rattle.reed_muller.proofs.Codeword.{codeword-small}
 use Rattle.frames.specs.Kind.{degrees, levels, dimensions}
 use Rattle.frames.specs.Message.{stacked}
-use Rattle.sending.specs.Words.{levelValue, codewordsOf, over}
+use Rattle.sending.specs.Words.{levelValue, codewordsOf, overLevels}
 
--- ---- levels under a number
+-- ---- a number over levels
 
-pub over-ext : (n : ℕ) {f g : ℕ → ℕ} (s : ℕ) → ((i : ℕ) → i < n → f i ≡ g i) → over n f s ≡ over n g s
-unfolding over
+pub over-ext : (n : ℕ) {f g : ℕ → ℕ} (s : ℕ) → ((i : ℕ) → i < n → f i ≡ g i) → overLevels n f s ≡ overLevels n g s
+unfolding overLevels
 over-ext zero s h = refl
 over-ext (suc n) s h = omega (arith, h 0 (omega arith), over-ext n s (λ i l. h (suc i) (omega arith)))
 
--- n levels under s stay below 2^n·(s + 1)
-pub over-below : (n : ℕ) (c : ℕ → ℕ) (s : ℕ) → ((i : ℕ) → c i < 2) → over n c s < 2 ^ n * (s + 1)
-unfolding over
+-- s over n levels stays below 2^n·(s + 1)
+pub over-below : (n : ℕ) (c : ℕ → ℕ) (s : ℕ) → ((i : ℕ) → c i < 2) → overLevels n c s < 2 ^ n * (s + 1)
+unfolding overLevels
 over-below zero c s h = omega arith
 over-below (suc n) c s h = rw (pow-suc 2 n) (omega (arith, h 0, over-below n (λ i. c (suc i)) s (λ i. h (suc i))))
 
--- those of n levels from i + 1 on, and level i under them where there is one
+-- over those of n levels from i + 1 on, and then over level i where there is one
 pub over-more : (n i : ℕ) (c : ℕ → ℕ) (s : ℕ)
-    → pick (ltb i n) (c i + 2 * over (n - suc i) (λ t. c (suc i + t)) s) (over (n - suc i) (λ t. c (suc i + t)) s) ≡ over (n - i) (λ t. c (i + t)) s
-unfolding over
+    → pick (ltb i n) (c i + 2 * overLevels (n - suc i) (λ t. c (suc i + t)) s) (overLevels (n - suc i) (λ t. c (suc i + t)) s) ≡ overLevels (n - i) (λ t. c (i + t)) s
+unfolding overLevels
 over-more n i c s = go (decLt i n)
   where
     -- the levels from i + 1 on
     later : ℕ
-    later = over (n - suc i) (λ t. c (suc i + t)) s
+    later = overLevels (n - suc i) (λ t. c (suc i + t)) s
 
-    go : Dec (i < n) → pick (ltb i n) (c i + 2 * later) later ≡ over (n - i) (λ t. c (i + t)) s
+    go : Dec (i < n) → pick (ltb i n) (c i + 2 * later) later ≡ overLevels (n - i) (λ t. c (i + t)) s
     go (yes l) =
         let e : n - i ≡ suc (n - suc i) = omega arith in
         let first : i + 0 ≡ i = omega arith in
@@ -58,9 +58,9 @@ over-more n i c s = go (decLt i n)
 abbrev valueOf : ℕ → List ℕ → (ℕ → ℕ) → ℕ → ℕ → ℕ → ℕ
 valueOf m rs bit from p i = codeword (getD rs i 0) m (λ t. bit (from + dimensions m (take i rs) + t)) p
 
--- the stack is the levels' values under s
-stacked-over : (m : ℕ) (rs : List ℕ) (bit : ℕ → ℕ) (from s p : ℕ) → stacked m rs bit from s p ≡ over (length rs) (valueOf m rs bit from p) s
-unfolding stacked over
+-- the stack is s over the levels' values
+stacked-over : (m : ℕ) (rs : List ℕ) (bit : ℕ → ℕ) (from s p : ℕ) → stacked m rs bit from s p ≡ overLevels (length rs) (valueOf m rs bit from p) s
+unfolding stacked overLevels
 stacked-over m [] bit from s p = refl
 stacked-over m (r ∷ rs) bit from s p =
     omega (arith, first, stacked-over m rs bit (from + dimension r m) s p, over-ext (length rs) s (λ i l. each i))
@@ -80,7 +80,7 @@ stacked-below m rs bit from s p =
 
 -- the stack at p, from the numbers that hold the codewords
 pub stacked-words : (k : ℕ) (bit : ℕ → ℕ) (p : ℕ) → p < 2 ^ k → levels k ≤ 3 → (s : ℕ)
-    → stacked k (degrees k) bit 0 s p ≡ over (levels k) (λ i. digit (getD (codewordsOf k bit) i 0) p) s
+    → stacked k (degrees k) bit 0 s p ≡ overLevels (levels k) (λ i. digit (getD (codewordsOf k bit) i 0) p) s
 unfolding codewordsOf levels
 stacked-words k bit p h few s = stacked-over k (degrees k) bit 0 s p ∙ over-ext (levels k) s each
   where

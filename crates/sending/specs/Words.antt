@@ -20,7 +20,7 @@ unfoldable pub codewordsOf : ℕ → (ℕ → ℕ) → List ℕ
 unfolding table levels
 codewordsOf k bit = table 3 (λ i. given (ltb i (levels k)) (number (2 ^ k) (levelValue k bit i)))
 
--- the values c 0, c 1, .. of n levels under s: c 0 + 2·s with one, c 0 + 2·(c 1 + 2·s) with two, and so on
-unfoldable pub over : ℕ → (ℕ → ℕ) → ℕ → ℕ
-over zero c s = s
-over (suc n) c s = c 0 + 2 * over n (λ i. c (suc i)) s
+-- s over n levels of the values c 0, c 1, ..: c 0 + 2·s with one, c 0 + 2·(c 1 + 2·s) with two, and so on
+unfoldable pub overLevels : ℕ → (ℕ → ℕ) → ℕ → ℕ
+overLevels zero c s = s
+overLevels (suc n) c s = c 0 + 2 * overLevels n (λ i. c (suc i)) s

@@ -8,7 +8,7 @@ ghost use Rattle.bits.specs.Message.{messageBit};
 ghost use Rattle.e8.specs.Rows.{ints};
 ghost use Rattle.frames.specs.Kind.{isKind, levelBits};
 ghost use Rattle.frames.specs.Message.{widths, numbers};
-ghost use Rattle.sending.specs.Words.{codewordsOf, over};
+ghost use Rattle.sending.specs.Words.{codewordsOf, overLevels};
 
 // The codewords of a message's levels, each held in a number: bit p is the value at p. 0 where there is no such level.
 pub fn codewords(kind: u8, message: &[u8]) -> [u64; 3]
@@ -67,8 +67,8 @@ fn unpacked(bits: u64, grade: usize) -> [u32; 8]
     unpacked_by(bits, 4)
 }
 
-// A level under a block's numbers: c + 2·s at each position, c being the bit of the word there; the numbers as they came where there is no such level.
-fn under(there: bool, word: u64, s: [u32; 8]) -> [u32; 8]
+// A block's numbers over a level: c + 2·s at each position, c being the bit of the word there; the numbers as they came where there is no such level.
+fn over_level(there: bool, word: u64, s: [u32; 8]) -> [u32; 8]
     requires { ⌜ ((o : ℕ) → o < 8 → getD s o 0 < 2 ^ 30) ⌝ }
     ensures { λ x. ⌜ x ≡ table 8 (λ o. pick there (word / 2 ^ o % 2 + 2 * getD s o 0) (getD s o 0)) ⌝ }
 {
@@ -112,7 +112,7 @@ pub fn block(
 ) -> [i32; 8]
     requires { ⌜ (1 ≤ grade) × (grade ≤ 4) × (levels ≤ 3) × (q < 64)
         × (from % 8 + 8 * grade ≤ 64) × (from + 8 * grade ≤ 8 * length (now message)) ⌝ }
-    ensures { λ x. ⌜ x ≡ ints (table 8 (λ o. over levels (λ i. getD words i 0 / 2 ^ (q + o) % 2)
+    ensures { λ x. ⌜ x ≡ ints (table 8 (λ o. overLevels levels (λ i. getD words i 0 / 2 ^ (q + o) % 2)
         (getD (numbers (messageBit (now (message .entry))) from (widths grade)) o 0))) ⌝ }
 {
     let bits = bits::bits_at(message, from, 8 * grade);
@@ -121,7 +121,7 @@ pub fn block(
     while 0 < i {
         i -= 1;
         let word = words[i];
-        let y = under(i < levels, word >> q, x);
+        let y = over_level(i < levels, word >> q, x);
         x = y;
     }
     signed(x)

@@ -14,11 +14,11 @@ use Rattle.reading.proofs.message.packed.Statement.{statement}
 use Rattle.reading.proofs.message.packed.Tie as tie
 
 -- what the grade b gives, and a grade that is the same
-abbrev given : List ℤ → ℕ → ℕ
-given s b = number (8 * b) (λ t. getD (allDigits (widths b) (map natAbs s)) t 0)
+abbrev joined : List ℤ → ℕ → ℕ
+joined s b = number (8 * b) (λ t. getD (allDigits (widths b) (map natAbs s)) t 0)
 
-at-grade : (s : List ℤ) {b g : ℕ} → b ≡ g → given s b ≡ given s g
-at-grade s e = ap (given s) e
+at-grade : (s : List ℤ) {b g : ℕ} → b ≡ g → joined s b ≡ joined s g
+at-grade s e = ap (joined s) e
 
 packed-by-requires : tie.Need-packed-by-requires
 packed-by-requires c κs = search needs

@@ -1,4 +1,4 @@
--- `leader::block` meets its contract: the levels from i on are under the block's numbers. Assumes nothing.
+-- `leader::block` meets its contract: the block's numbers are over the levels from i on. Assumes nothing.
 use Prim.Native.Nat.{ℕ, suc, _+_, _-_, _*_, _/_, _%_, _^_, _≤_, _<_}
 use mathlib.Core.Path.{_≡_, refl, sym, ap, ap₂, _∙_}
 use mathlib.Core.List.{List}
@@ -16,7 +16,7 @@ use Rattle.bits.proofs.Table.{table-at, table-ext}
 use Rattle.e8.specs.Rows.{ints}
 use Rattle.frames.specs.Message.{widths, numbers}
 use Rattle.frames.proofs.Numbers.{total, total-widths}
-use Rattle.sending.specs.Words.{over}
+use Rattle.sending.specs.Words.{overLevels}
 use Rattle.sending.proofs.Block.{numbers-length, numbers-below, numbers-ext}
 use Rattle.sending.proofs.Stack.{over-ext, over-below, over-more}
 use Rattle.sending.proofs.leader.block.Statement.{statement}
@@ -26,9 +26,9 @@ use Rattle.sending.proofs.leader.block.Tie as tie
 abbrev own : List ℕ → ℕ → ℕ → ℕ → ℕ
 own message from b o = getD (numbers (messageBit message) from (widths b)) o 0
 
--- the levels from i on under number o
+-- number o over the levels from i on
 abbrev made : List ℕ → ℕ → ℕ → ℕ → List ℕ → ℕ → ℕ → ℕ → ℕ
-made message from b n words q i o = over (n - i) (λ t. digit (getD words (i + t) 0) (q + o)) (own message from b o)
+made message from b n words q i o = overLevels (n - i) (λ t. digit (getD words (i + t) 0) (q + o)) (own message from b o)
 
 abbrev Inv-loop : tie.InvT-loop
 Inv-loop message from grade levels q words bits x₀ i₀ x i = (i ≤ 3) × (x ≡ table 8 (made message from grade levels words q i))
@@ -72,9 +72,9 @@ module _ (s : tie.Start Inv-loop μ-loop) where
   at : (i : ℕ) {x : List ℕ} → x ≡ table 8 (F i) → (o : ℕ) → o < 8 → getD x o 0 ≡ F i o
   at i e o l = ap (λ (y : List ℕ). getD y o 0) e ∙ table-at (F i) 8 o l
 
-  -- no level is under the numbers of the message bits
+  -- the numbers of the message bits are over no level yet
   none-yet : (bits : ℕ) → bits ≡ number (8 * b) (λ t. messageBit message (from + t)) → numbers (digit bits) 0 (widths b) ≡ table 8 (F 3)
-  unfolding over
+  unfolding overLevels
   none-yet bits e =
       numbers-ext (digit bits) (messageBit message) 0 from (widths b) each
       ∙ sym (bytes-are ns (λ o. getD ns o 0) (λ o h. refl))
@@ -89,16 +89,16 @@ module _ (s : tie.Start Inv-loop μ-loop) where
           ap (λ (x : ℕ). digit x (0 + i)) e ∙ ap (digit (number (8 * b) (λ t. messageBit message (from + t)))) (zero-add i)
           ∙ number-bit (λ t. messageBit message (from + t)) (8 * b) (λ t u. message-small message (from + t)) i (omega (arith, total-widths b (s .pre .0)))
 
-  -- level i under those from i + 1 on
+  -- over level i too
   one-more : (i : ℕ) {x : List ℕ} → x ≡ table 8 (F (suc i))
       → table 8 (λ o. pick (ltb i n) (getD words i 0 / 2 ^ q / 2 ^ o % 2 + 2 * getD x o 0) (getD x o 0)) ≡ table 8 (F i)
   one-more i {x} e = table-ext 8 (λ o l.
       ap₂ (λ (d y : ℕ). pick (ltb i n) (d + 2 * y) y) (digit-from (getD words i 0) q o) (at (suc i) e o l)
       ∙ over-more n i (λ t. digit (getD words t 0) (q + o)) (own message from b o))
 
-  all-there : {x : List ℕ} → x ≡ table 8 (F 0) → x ≡ table 8 (λ o. over n (λ i. digit (getD words i 0) (q + o)) (own message from b o))
+  all-there : {x : List ℕ} → x ≡ table 8 (F 0) → x ≡ table 8 (λ o. overLevels n (λ i. digit (getD words i 0) (q + o)) (own message from b o))
   all-there e = e ∙ table-ext 8 (λ o l. let z : n - 0 ≡ n = omega arith in
-      ap (λ (m : ℕ). over m (λ t. digit (getD words (0 + t) 0) (q + o)) (own message from b o)) z
+      ap (λ (m : ℕ). overLevels m (λ t. digit (getD words (0 + t) 0) (q + o)) (own message from b o)) z
       ∙ over-ext n (own message from b o) (λ i u. ap (λ (t : ℕ). digit (getD words t 0) (q + o)) (zero-add i)))
 
 -- ---- the start, from the loop, and the laws at its arguments
@@ -138,11 +138,11 @@ mul-word c = omega arith
 array-read-word : tie.Need-array-read-word Inv-loop μ-loop
 array-read-word c = omega arith
 
-shr-under : tie.Need-shr-under Inv-loop μ-loop
-shr-under c = omega (arith, at-start (c .before) .pre .3)
+shr-over-level : tie.Need-shr-over-level Inv-loop μ-loop
+shr-over-level c = omega (arith, at-start (c .before) .pre .3)
 
-under-requires : tie.Need-under-requires Inv-loop μ-loop
-under-requires c κs o l = omega (arith, bounded (c .before) o l)
+over-level-requires : tie.Need-over-level-requires Inv-loop μ-loop
+over-level-requires c κs o l = omega (arith, bounded (c .before) o l)
 
 loop-less : tie.Need-loop-less Inv-loop μ-loop
 loop-less c = search needs
@@ -154,7 +154,7 @@ loop-again c =
     let i : ℕ = a .loop .i - 1 in
     let up : a .loop .i ≡ suc i = omega arith in
     let x = a .loop .inv .1 ∙ ap (λ (m : ℕ). table 8 (F s m)) up in
-    (omega arith, c .under .ensures ∙ one-more s i x)
+    (omega arith, c .over-level .ensures ∙ one-more s i x)
 
 signed-requires : tie.Need-signed-requires Inv-loop μ-loop
 signed-requires c κs o l = omega (arith, bounded (c .before) o l)
@@ -180,8 +180,8 @@ block-spec =
     sub-i
     mul-word
     array-read-word
-    shr-under
-    under-requires
+    shr-over-level
+    over-level-requires
     loop-less
     loop-again
     signed-requires

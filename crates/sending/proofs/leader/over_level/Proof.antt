@@ -1,4 +1,4 @@
--- `leader::under` meets its contract: the positions passed so far have the level. Assumes nothing.
+-- `leader::over_level` meets its contract: the positions passed so far have the level. Assumes nothing.
 use Prim.Native.Nat.{ℕ, _+_, _-_, _*_, _/_, _%_, _^_, _<_}
 use mathlib.Core.Path.{_≡_, refl, sym, ap, _∙_}
 use mathlib.Core.Bool.{Bool, true, false, not, true≢false}
@@ -10,8 +10,8 @@ use Rattle.bits.specs.Number.{pick, table}
 use Rattle.bits.proofs.Message.{bytes-are}
 use Rattle.bits.proofs.Table.{length-table, table-at}
 use Rattle.coordinates.proofs.Filled.{Filled, filled-none, filled-next, filled-all}
-use Rattle.sending.proofs.leader.under.Statement.{statement}
-use Rattle.sending.proofs.leader.under.Tie as tie
+use Rattle.sending.proofs.leader.over_level.Statement.{statement}
+use Rattle.sending.proofs.leader.over_level.Tie as tie
 
 -- the number at o, with its level
 abbrev made : Bool → ℕ → List ℕ → ℕ → ℕ
@@ -86,8 +86,8 @@ returns-2 : tie.Need-returns-2 Inv-loop μ-loop
 returns-2 c =
     let g = c .before .before .before .args in filled-all _ _ (c .before .loop .p) (c .before .loop .inv) (omega (arith, long (g .there) (g .word) (g .t3)))
 
-pub under-spec : {M : Type 1} → statement M
-under-spec =
+pub over-level-spec : {M : Type 1} → statement M
+over-level-spec =
     tie.close
     (tie.spec
     Inv-loop
