@@ -25,7 +25,7 @@ module _ (a : Account) (c : Call) where
   tests : answer a c ≡ 0 → Passed (c .kind) (c .grade) (c .message) (c .n)
   tests e = all-passed (c .kind) (c .grade) (c .message) (c .n) (passed (c .kind) (c .grade) (c .message) (c .n) a 0 (sym e) (λ l. refl))
 
-  counts : answer a c ≡ 0 → Countable 5 (entryOf c)
+  counts : answer a c ≡ 0 → Countable 6 (entryOf c)
   counts e =
       let p = tests e in
       let s = sent-energy (c .kind) (c .grade) (c .message) (p .kind) (p .grade) in
@@ -53,7 +53,7 @@ module _ (a : Account) (c : Call) where
 -- the account is grown by the frames sent and by nothing else; at most 1,000,000 are
 record Grown (a : Account) (cs : List Call) : Type 0 where
   is : accountAfter a cs ≡ grownBy a (sentBy a cs)
-  counted : AllCountable 5 (sentBy a cs)
+  counted : AllCountable 6 (sentBy a cs)
   most : a .count ≤ 1000000 → a .count + length (sentBy a cs) ≤ 1000000
 
 grows : (a : Account) (cs : List Call) → Grown a cs
@@ -81,9 +81,9 @@ grows a (c ∷ cs) = go (eqb (answer a c) 0) refl (grows (after a c) cs)
 -- THE HISTORY of an account: for any calls from the beginning on
 pub history : (cs : List Call)
     → (length (sentBy begun cs) ≤ 1000000) × (accountAfter begun cs .count ≡ length (sentBy begun cs))
-    × HasValue (accountAfter begun cs .sum) false (powersIn 32 (sentBy begun cs)) 32
+    × HasValue (accountAfter begun cs .sum) false (powersIn 64 (sentBy begun cs)) 64
 history cs =
     let g = grows begun cs in
     let l : length (sentBy begun cs) ≤ 1000000 = omega (arith, g .most (omega arith)) in
-    let r = grown-exactly 5 (sentBy begun cs) (omega arith) l (g .counted) in
+    let r = grown-exactly 6 (sentBy begun cs) (omega arith) l (g .counted) in
     (l, rw (g .is) (r .0), rw (g .is) (r .1))

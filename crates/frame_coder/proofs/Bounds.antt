@@ -1,4 +1,4 @@
--- What is reported by the functions that are exported: energies fit a signed number (at most 2^17 for a sent frame, 2^45 for a frame that
+-- What is reported by the functions that are exported: energies fit a signed number (at most 2^20 for a sent frame, 2^46 for a frame that
 -- is read), and the answer is made from them and the refusal number. Assumes nothing.
 use Prim.Native.Nat.{ℕ, _^_, _≤_}
 use mathlib.Core.Path.{_≡_, refl, sym, ap, _∙_}

@@ -155,7 +155,7 @@ module _ (k b : ℕ) (kind : isKind k ≡ true) (grade : isGrade b ≡ true) whe
 
   -- ---- the distance
 
-  -- "Any two different coding-set frames are at squared distance at least 4, 8, 16"
+  -- "Any two different coding-set frames are at least the kind's squared distance apart": 4, 8, 16, 32
   pub set-apart : (f g : List ℤ) → InCodingSet k f → InCodingSet k g → (f ≡ g → ⊥) → leastDistance k ≤ distance f g
   unfolding levels
   set-apart f g sf sg ne =

@@ -1,8 +1,9 @@
--- Document 01's table of kinds, its exam frames and its further cases are met, and its tests are made in their order: all by computing. Assumes nothing.
-use Prim.Native.Nat.{ℕ}
+-- The table of kinds of document 01 and request E1, the leader's terms, the exam frames and the further cases are met, and the tests are made
+-- in their order: all by computing. Assumes nothing.
+use Prim.Native.Nat.{ℕ, _+_, _*_}
 use mathlib.Core.Path.{_≡_, refl}
 use mathlib.Core.Bool.{true, false, _||_, or-false}
-use mathlib.Core.List.{[], _∷_, map}
+use mathlib.Core.List.{List, [], _∷_, map}
 use native.Mathlib.Omega.{arith}
 use lib.Count.{ones}
 use lib.Dec.{eqb}
@@ -19,12 +20,13 @@ use Rattle.frames.specs.Frame.{weightBit, half, sentFrame}
 use Rattle.frames.specs.Sending.{anySet, spareSet, sendRefusal}
 use Rattle.frames.specs.Reading.{levelMessage, levelMessages, quotients, digits, allDigits, blockMessages, readBits, openMessage}
 use Rattle.frames.specs.Reading.{sameFrame, inRange, broken, openRefusal, isSent, strictRefusal}
-use Rattle.frames.specs.Exam.{printed, AllPrinted, exams, sentAs, examined, layout, FurtherCases, SendingTests, ReadingTests}
+use Rattle.frames.specs.Exam.{printed, AllPrinted, levelAt, numberAt, Leader, exams, sentAs, examined, layout}
+use Rattle.frames.specs.Exam.{FurtherCases, SendingTests, ReadingTests, KindSixTests}
 
--- the kinds are those printed: 3, 4, 5 and no other
-pub kinds-are : (k : ℕ) → isKind k ≡ (eqb k 3 || (eqb k 4 || eqb k 5))
+-- the kinds are those printed: 3, 4, 5, 6 and no other
+pub kinds-are : (k : ℕ) → isKind k ≡ (eqb k 3 || (eqb k 4 || (eqb k 5 || eqb k 6)))
 unfolding isKind kinds
-kinds-are k = rw (or-false (eqb k 5))
+kinds-are k = rw (or-false (eqb k 6))
 
 -- the grades are 1 to 4
 pub grades-are : map isGrade (0 ∷ 1 ∷ 2 ∷ 3 ∷ 4 ∷ 5 ∷ []) ≡ false ∷ true ∷ true ∷ true ∷ true ∷ false ∷ []
@@ -38,9 +40,28 @@ printed-rows = (
   record { n = refl; a = refl; codes = refl; bits = λ b. refl; bytes = λ b. omega arith; apart = refl },
   (
     record { n = refl; a = refl; codes = refl; bits = λ b. refl; bytes = λ b. omega arith; apart = refl },
-    (record { n = refl; a = refl; codes = refl; bits = λ b. refl; bytes = λ b. omega arith; apart = refl }, tt),
+    (
+      record { n = refl; a = refl; codes = refl; bits = λ b. refl; bytes = λ b. omega arith; apart = refl },
+      (record { n = refl; a = refl; codes = refl; bits = λ b. refl; bytes = λ b. omega arith; apart = refl }, tt),
+    ),
   ),
 )
+
+-- each coordinate of the leader is the sum that is printed
+pub leader-terms : (b : ℕ) (bytes : List ℕ) (p : ℕ) → Leader b bytes p
+unfolding coordinate stacked blockNumbers degrees kinds levelBits dimension masks ofWeight table ones
+leader-terms b bytes p = record {
+  kind-3 = refl;
+  kind-4 = three (levelAt 4 1 0 bytes p) (levelAt 4 3 5 bytes p) (numberAt 20 b bytes p);
+  kind-5 = three (levelAt 5 1 0 bytes p) (levelAt 5 3 6 bytes p) (numberAt 32 b bytes p);
+  kind-6 = four (levelAt 6 1 0 bytes p) (levelAt 6 3 7 bytes p) (levelAt 6 5 49 bytes p) (numberAt 112 b bytes p);
+}
+  where
+    three : (c₀ c₁ s : ℕ) → c₀ + 2 * (c₁ + 2 * s) ≡ c₀ + 2 * c₁ + 4 * s
+    three c₀ c₁ s = omega arith
+
+    four : (c₀ c₁ c₂ s : ℕ) → c₀ + 2 * (c₁ + 2 * (c₂ + 2 * s)) ≡ c₀ + 2 * c₁ + 4 * c₂ + 8 * s
+    four c₀ c₁ c₂ s = omega arith
 
 -- each message is sent as its frame, with its energy
 pub exam-frames : map sentAs exams ≡ map examined exams
@@ -88,5 +109,25 @@ reading-tests = record {
   level-0 = refl;
   level-1 = refl;
   unshaped = refl;
+  none = refl;
+}
+
+pub kind-six-tests : KindSixTests
+unfolding openRefusal strictRefusal isSent sameFrame openMessage readBits levelMessages levelMessage blockMessages quotients allDigits digits
+    inRange isWithin broken weightBit isKind isGrade sendRefusal spareSet anySet messageBytes messageBits
+    sentFrame half leastFrame leastBlock best better cent before energy sq leader coordinate stacked blockNumbers numbers
+    degrees kinds levels levelBits sumTo codeword order dimension masks ofWeight table messageBit bytesOf byteOf backwards belongs clearAbove reduced ones
+kind-six-tests = record {
+  kind = refl;
+  bytes = refl;
+  coordinates = refl;
+  none-spare = refl;
+  range = refl;
+  level-0 = refl;
+  level-1 = refl;
+  level-2 = refl;
+  level-2-openly = refl;
+  unshaped = refl;
+  openly = refl;
   none = refl;
 }

@@ -25,9 +25,9 @@ pub some-level : (k : ℕ) → isKind k ≡ true → 1 ≤ levels k
 unfolding levels degrees kinds
 some-level = row-le (λ k. 1) levels refl
 
-pub few-levels : (k : ℕ) → isKind k ≡ true → levels k ≤ 2
+pub few-levels : (k : ℕ) → isKind k ≡ true → levels k ≤ 3
 unfolding levels degrees kinds
-few-levels = row-le levels (λ k. 2) refl
+few-levels = row-le levels (λ k. 3) refl
 
 -- a number that is in no row has no level, and so a kind is what has one
 unlisted : (k : ℕ) (rows : List Row) → listed k rows ≡ false → degreesIn k rows ≡ []
@@ -70,17 +70,17 @@ pub kind-low : (k : ℕ) → isKind k ≡ true → 3 ≤ k
 unfolding kinds
 kind-low = row-le (λ k. 3) (λ k. k) refl
 
-pub kind-high : (k : ℕ) → isKind k ≡ true → k ≤ 5
+pub kind-high : (k : ℕ) → isKind k ≡ true → k ≤ 6
 unfolding kinds
-kind-high = row-le (λ k. k) (λ k. 5) refl
+kind-high = row-le (λ k. k) (λ k. 6) refl
 
 -- the lengths have tables of masks
 pub tabled : (k : ℕ) → isKind k ≡ true → Tabled k
 tabled k kind = (kind-low k kind, kind-high k kind)
 
-pub few-positions : (k : ℕ) → isKind k ≡ true → 2 ^ k ≤ 32
+pub few-positions : (k : ℕ) → isKind k ≡ true → 2 ^ k ≤ 64
 unfolding kinds
-few-positions = row-le (λ k. 2 ^ k) (λ k. 32) refl
+few-positions = row-le (λ k. 2 ^ k) (λ k. 64) refl
 
 pub whole-blocks : (k : ℕ) → isKind k ≡ true → 8 * blocks k ≡ 2 ^ k
 unfolding kinds
@@ -90,7 +90,7 @@ pub some-block : (k : ℕ) → isKind k ≡ true → 1 ≤ blocks k
 unfolding kinds
 some-block = row-le (λ k. 1) blocks refl
 
--- the distances 4, 8, 16 are the least of 4^i·2^(m−r) over the levels, and of 4^a
+-- the distances 4, 8, 16, 32 are the least of 4^i·2^(m−r) over the levels, and of 4^a
 pub distances : (k : ℕ) → isKind k ≡ true → apartBy k (degrees k) ≡ leastDistance k
 unfolding degrees kinds
 distances = row-eq (λ k. apartBy k (degrees k)) leastDistance refl
@@ -123,15 +123,15 @@ degree-fits k kind i h = fit-at k (degrees k) (shape k kind .fit) i h
 
 -- ---- message bits
 
-pub few-level-bits : (k : ℕ) → isKind k ≡ true → levelBits k ≤ 32
+pub few-level-bits : (k : ℕ) → isKind k ≡ true → levelBits k ≤ 112
 unfolding levelBits degrees kinds dimension masks ofWeight table ones
-few-level-bits = row-le levelBits (λ k. 32) refl
+few-level-bits = row-le levelBits (λ k. 112) refl
 
--- at most 128 bits for the coordinates, and 160 in all
-pub coordinate-bits : (k b : ℕ) → isKind k ≡ true → b ≤ 4 → 2 ^ k * b ≤ 128
+-- at most 256 bits for the coordinates, and 368 in all
+pub coordinate-bits : (k b : ℕ) → isKind k ≡ true → b ≤ 4 → 2 ^ k * b ≤ 256
 coordinate-bits k b kind h = mul-le-mul (few-positions k kind) h
 
-pub few-message-bits : (k b : ℕ) → isKind k ≡ true → b ≤ 4 → messageBits k b ≤ 160
+pub few-message-bits : (k b : ℕ) → isKind k ≡ true → b ≤ 4 → messageBits k b ≤ 368
 unfolding messageBits
 few-message-bits k b kind h = omega (arith, few-level-bits k kind, coordinate-bits k b kind h)
 
@@ -216,6 +216,6 @@ last-grade l h x y z = omega arith
 
 -- ---- the scale
 
-pub scale-64 : (k b : ℕ) → isKind k ≡ true → isGrade b ≡ true → scale k b ≤ 64
+pub scale-128 : (k b : ℕ) → isKind k ≡ true → isGrade b ≡ true → scale k b ≤ 128
 unfolding scale levels degrees kinds
-scale-64 k b kind grade = leb-true (scale k b) 64 (each-row-and-grade (λ k b. leb (scale k b) 64) refl k b kind grade)
+scale-128 k b kind grade = leb-true (scale k b) 128 (each-row-and-grade (λ k b. leb (scale k b) 128) refl k b kind grade)

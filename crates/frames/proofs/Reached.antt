@@ -58,7 +58,7 @@ module _ (x k b : ℕ) (small : x < 256) (bits : 8 ≤ messageBits k b) where
 abbrev Exactly : ℕ → ℕ → Type 0
 Exactly k b = distance (sentFrame k b (firstByte 0 k b)) (sentFrame k b (firstByte 2 k b)) ≡ leastDistance k
 
--- the twelve pairs, computed
+-- the pair of each kind and grade, computed
 exactly-at : (k : ℕ) → isKind k ≡ true → (b : ℕ) → isGrade b ≡ true → Exactly k b
 unfolding sentFrame half leastFrame leastBlock best better cent before energy sq distance leader coordinate stacked blockNumbers numbers
     messageBytes messageBits degrees kinds levels levelBits sumTo codeword order dimension masks ofWeight table messageBit ones

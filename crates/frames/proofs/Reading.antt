@@ -22,11 +22,11 @@ use Rattle.frames.specs.Sending.{unless, Accepts}
 use Rattle.frames.specs.Reading.{openMessage, sameFrame, inRange, broken, openRefusal, isSent, strictRefusal, messageAfter, energyRead}
 use Rattle.frames.specs.Demands.{FirstBroken, OneMessage, SentFor, ReadBack}
 use Rattle.frames.proofs.Rows.{grade-low}
-use Rattle.frames.proofs.Limits.{shape, scale-64}
+use Rattle.frames.proofs.Limits.{shape, scale-128}
 use Rattle.frames.proofs.Demands.{half-pos, sent-only, sent-within, sent-in-set, read-message, leader-class, read-class, exactly-one, sent-sendable}
 use Rattle.frames.proofs.Accepted.{message-accepted}
 use Rattle.frames.proofs.Refusals.{passed, same-frame, frame-same, within-range, Accepted, accepted}
-use Rattle.frames.proofs.Refusals.{levels-decide, levels-answer, set-passes, broken-refuses, seven-or-eight}
+use Rattle.frames.proofs.Refusals.{levels-decide, levels-answer, set-passes, broken-refuses, seven-eight-thirteen}
 
 module _ (k b : ℕ) (kind : isKind k ≡ true) (grade : isGrade b ≡ true) where
   low : 1 ≤ b
@@ -97,10 +97,10 @@ module _ (k b : ℕ) (kind : isKind k ≡ true) (grade : isGrade b ≡ true) whe
       set : InCodingSet k f
       set = sent-in-set k b kind grade bytes
 
-  -- a sent frame passes the test of the range, since M is at most 64
+  -- a sent frame passes the test of the range, since M is at most 128
   pub sent-in-range : (bytes : List ℕ) → inRange (sentFrame k b bytes) ≡ true
   sent-in-range bytes = within-range (sentFrame k b bytes)
-      (within-to (scale k b) 1048576 (sentFrame k b bytes) (omega (arith, scale-64 k b kind grade)) (sent-within k b kind low bytes))
+      (within-to (scale k b) 1048576 (sentFrame k b bytes) (omega (arith, scale-128 k b kind grade)) (sent-within k b kind low bytes))
 
   -- ---- which frames the open reading takes; n message bytes are lent
 
@@ -117,9 +117,10 @@ module _ (k b : ℕ) (kind : isKind k ≡ true) (grade : isGrade b ≡ true) whe
         go (inl set) = absurd (out set)
         go (inr first) = first
 
-    -- which is 7 or 8, and no other
-    pub outside-refused : length f ≡ 2 ^ k → inRange f ≡ true → (InCodingSet k f → ⊥) → (openRefusal k b f n ≡ 7) ⊎ (openRefusal k b f n ≡ 8)
-    outside-refused l range out = seven-or-eight k f (openRefusal k b f n) kind (outside-broken l range out)
+    -- which is 7, 8 or 13, and no other
+    pub outside-refused : length f ≡ 2 ^ k → inRange f ≡ true → (InCodingSet k f → ⊥)
+        → (openRefusal k b f n ≡ 7) ⊎ ((openRefusal k b f n ≡ 8) ⊎ (openRefusal k b f n ≡ 13))
+    outside-refused l range out = seven-eight-thirteen k f (openRefusal k b f n) kind (outside-broken l range out)
 
 -- a frame that the open reading takes is of the coding set
 pub taken-in-set : (k b : ℕ) (f : List ℤ) (n : ℕ) → openRefusal k b f n ≡ 0 → InCodingSet k f

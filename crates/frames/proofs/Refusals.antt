@@ -166,18 +166,20 @@ unfolding levels
 set-passes k f set =
     words-pass k 0 (degrees k) f (λ i h. ap (λ (j : ℕ). belongs (getD (degrees k) i 0) k (levelWord j f)) (zero-add i) ∙ set .codewords i h)
 
--- a broken level is refused: its number is not 0, and it is 7 or 8
+-- a broken level is refused: its number is not 0, and it is 7, 8 or 13
 pub broken-refuses : (k : ℕ) (f : List ℤ) (n : ℕ) → isKind k ≡ true → FirstBroken k f n → 1 ≤ n
 broken-refuses k f n kind b = rw (b .given) (number-refuses (b .level) (omega (arith, b .inside, levels-numbered k kind)))
 
-pub seven-or-eight : (k : ℕ) (f : List ℤ) (n : ℕ) → isKind k ≡ true → FirstBroken k f n → (n ≡ 7) ⊎ (n ≡ 8)
-seven-or-eight k f n kind b = go (b .level) (b .given) (omega (arith, b .inside, few-levels k kind)) (ℕ-discrete n 7)
+pub seven-eight-thirteen : (k : ℕ) (f : List ℤ) (n : ℕ) → isKind k ≡ true → FirstBroken k f n → (n ≡ 7) ⊎ ((n ≡ 8) ⊎ (n ≡ 13))
+seven-eight-thirteen k f n kind b = go (b .level) (b .given) (omega (arith, b .inside, few-levels k kind)) (ℕ-discrete n 7) (ℕ-discrete n 8)
   where
-    go : (i : ℕ) → n ≡ brokenNumber i → i < 2 → Dec (n ≡ 7) → (n ≡ 7) ⊎ (n ≡ 8)
-    go i e h (yes seven) = inl seven
-    go zero e h (no other) = inr (omega arith)
-    go (suc zero) e h (no other) = inr (omega arith)
-    go (suc (suc i)) e h (no other) = absurd (omega arith)
+    go : (i : ℕ) → n ≡ brokenNumber i → i < 3 → Dec (n ≡ 7) → Dec (n ≡ 8) → (n ≡ 7) ⊎ ((n ≡ 8) ⊎ (n ≡ 13))
+    go i e h (yes seven) d = inl seven
+    go i e h (no other) (yes eight) = inr (inl eight)
+    go zero e h (no other) (no another) = inr (inr (omega arith))
+    go (suc zero) e h (no other) (no another) = inr (inr (omega arith))
+    go (suc (suc zero)) e h (no other) (no another) = inr (inr (omega arith))
+    go (suc (suc (suc i))) e h (no other) (no another) = absurd (omega arith)
 
 -- ---- the open reading's tests
 

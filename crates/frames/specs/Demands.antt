@@ -25,7 +25,7 @@ pub record AcceptedExactly (k b : ℕ) (bytes : List ℕ) (n : ℕ) : Type 0 whe
   pub sendable : sendRefusal k b bytes n ≡ 0 → Sendable k b bytes n
   pub accepted : Sendable k b bytes n → sendRefusal k b bytes n ≡ 0
 
--- "broken level 0", "broken level 1": the first level of the frame f that is not a codeword, and the number that is given for it
+-- "broken level 0", "broken level 1", "broken level 2": the first level of the frame f that is not a codeword, and the number that is given for it
 pub record FirstBroken (k : ℕ) (f : List ℤ) (number : ℕ) : Type 0 where
   pub level : ℕ
   pub inside : level < levels k

@@ -1,12 +1,16 @@
--- What document 01 prints, to be met by the definitions: its table of kinds, its exam frames, the further cases, the order of tests. Assumes nothing.
-use Prim.Native.Nat.{ℕ, _+_, _-_, _*_, _^_}
+-- What document 01, and request E1 for kind 6, print, to be met by the definitions: the table of kinds, the leader's terms, the exam frames,
+-- the further cases, the order of tests. Assumes nothing.
+use Prim.Native.Nat.{ℕ, _+_, _-_, _*_, _/_, _%_, _^_}
 use mathlib.Core.Path.{_≡_}
 use mathlib.Core.List.{List, [], _∷_, _++_}
 use lib.IntN.{ℤ, pos, negℤ}
-use lib.ListN.{replicate}
+use lib.ListN.{getD, replicate}
+use Rattle.bits.specs.Message.{messageBit}
+use Rattle.reed_muller.specs.Level.{codeword}
 use Rattle.e8.specs.Energy.{energy}
 use Rattle.e8.specs.Rows.{ints}
 use Rattle.frames.specs.Kind.{degrees, levels, messageBits, messageBytes}
+use Rattle.frames.specs.Message.{widths, numbers, coordinate}
 use Rattle.frames.specs.Frame.{sentFrame, leastDistance}
 use Rattle.frames.specs.Sending.{sendRefusal}
 use Rattle.frames.specs.Reading.{openMessage, openRefusal, strictRefusal}
@@ -24,12 +28,13 @@ pub record Printed : Type 0 where
   pub bytes : ℕ → ℕ
   pub apart : ℕ
 
--- document 01, "Kinds and grades"
+-- document 01, "Kinds and grades"; the row of kind 6 is request E1's
 abbrev pub printed : List Printed
 printed =
     record { kind = 3; n = 8; a = 1; codes = 1 ∷ []; bits = λ b. 4 + 8 * b; bytes = λ b. b + 1; apart = 4 }
     ∷ record { kind = 4; n = 16; a = 2; codes = 1 ∷ 3 ∷ []; bits = λ b. 20 + 16 * b; bytes = λ b. 2 * b + 3; apart = 8 }
     ∷ record { kind = 5; n = 32; a = 2; codes = 1 ∷ 3 ∷ []; bits = λ b. 32 + 32 * b; bytes = λ b. 4 * b + 4; apart = 16 }
+    ∷ record { kind = 6; n = 64; a = 3; codes = 1 ∷ 3 ∷ 5 ∷ []; bits = λ b. 112 + 64 * b; bytes = λ b. 8 * b + 14; apart = 32 }
     ∷ []
 
 -- the definitions give what the row says
@@ -45,6 +50,24 @@ pub record AsPrinted (row : Printed) : Type 0 where
 abbrev pub AllPrinted : List Printed → Type 0
 AllPrinted [] = Unit {0}
 AllPrinted (row ∷ rows) = AsPrinted row × AllPrinted rows
+
+-- ---- the leader's terms
+
+-- the value at p of a level: the codeword of RM(r,m) of the message bits from bit `from` on
+abbrev pub levelAt : ℕ → ℕ → ℕ → List ℕ → ℕ → ℕ
+levelAt m r from bytes p = codeword r m (λ i. messageBit bytes (from + i)) p
+
+-- s at p: the blocks' bits, 8b for each, stand behind those of the levels, of which there are `bits`
+abbrev pub numberAt : ℕ → ℕ → List ℕ → ℕ → ℕ
+numberAt bits b bytes p = getD (numbers (messageBit bytes) (bits + 8 * b * (p / 8)) (widths b)) (p % 8) 0
+
+-- "c0 + 2 times c1 + 2^a times s; with one level the middle term is absent"; and for kind 6 "a third term, 4 times c2", whose message
+-- bits "follow the second's": the levels of kind 6 have 7, 42 and 63
+pub record Leader (b : ℕ) (bytes : List ℕ) (p : ℕ) : Type 0 where
+  pub kind-3 : coordinate 3 b bytes p ≡ levelAt 3 1 0 bytes p + 2 * numberAt 4 b bytes p
+  pub kind-4 : coordinate 4 b bytes p ≡ levelAt 4 1 0 bytes p + 2 * levelAt 4 3 5 bytes p + 4 * numberAt 20 b bytes p
+  pub kind-5 : coordinate 5 b bytes p ≡ levelAt 5 1 0 bytes p + 2 * levelAt 5 3 6 bytes p + 4 * numberAt 32 b bytes p
+  pub kind-6 : coordinate 6 b bytes p ≡ levelAt 6 1 0 bytes p + 2 * levelAt 6 3 7 bytes p + 4 * levelAt 6 5 49 bytes p + 8 * numberAt 112 b bytes p
 
 -- ---- the exam frames
 
@@ -92,9 +115,14 @@ examined e = (e .frame, e .energy)
 abbrev pub oneAt : ℕ → ℕ → ℕ → List ℤ
 oneAt n p z = replicate p (pos 0) ++ (pos z ∷ replicate (n - p - 1) (pos 0))
 
+-- n bytes, 0 but for the one at p, which is x
+abbrev pub oneByte : ℕ → ℕ → ℕ → List ℕ
+oneByte n p x = replicate p 0 ++ (x ∷ replicate (n - p - 1) 0)
+
 -- document 01, "Message to coset leader": where a bit stands, seen by setting it alone; frames by hand.
 -- Kind 3, grade 2: s1 (1 bit), s2 (both bits), s7, s8 (its first two bits). Kind 4, grade 1: level 1's second and last bit, s2 of either block.
--- Kind 5, grade 1: s2 of the last block
+-- Kind 5, grade 1: s2 of the last block. Kind 6, grade 1: level 1's last bit, level 2's first (a tie: all 4 or all −4) and last bit, s2 of
+-- the first and of the last block; grade 4: the last bit of s8 (a tie: 128 or −128, at any coordinate of the block)
 abbrev pub layout : List Exam
 layout =
     record { kind = 3; grade = 2; message = 16 ∷ 0 ∷ 0 ∷ []; frame = oneAt 8 0 2; energy = 4 }
@@ -114,6 +142,12 @@ layout =
     ∷ record { kind = 4; grade = 1; message = 0 ∷ 0 ∷ 16 ∷ 0 ∷ 0 ∷ []; frame = oneAt 16 1 4; energy = 16 }
     ∷ record { kind = 4; grade = 1; message = 0 ∷ 0 ∷ 0 ∷ 16 ∷ 0 ∷ []; frame = oneAt 16 9 4; energy = 16 }
     ∷ record { kind = 5; grade = 1; message = replicate 7 0 ++ (1 ∷ []); frame = oneAt 32 25 4; energy = 16 }
+    ∷ record { kind = 6; grade = 1; message = oneByte 22 6 1; frame = replicate 56 (pos 0) ++ replicate 8 (pos 2); energy = 32 }
+    ∷ record { kind = 6; grade = 1; message = oneByte 22 6 2; frame = replicate 64 (minus 4); energy = 1024 }
+    ∷ record { kind = 6; grade = 1; message = oneByte 22 13 128; frame = replicate 62 (pos 0) ++ replicate 2 (pos 4); energy = 32 }
+    ∷ record { kind = 6; grade = 1; message = oneByte 22 14 1; frame = oneAt 64 1 8; energy = 64 }
+    ∷ record { kind = 6; grade = 1; message = oneByte 22 21 1; frame = oneAt 64 57 8; energy = 64 }
+    ∷ record { kind = 6; grade = 4; message = oneByte 46 17 128; frame = minus 128 ∷ replicate 63 (pos 0); energy = 16384 }
     ∷ []
 
 -- ---- further cases
@@ -152,3 +186,19 @@ pub record ReadingTests : Type 0 where
   pub level-1 : strictRefusal 4 1 (pos 2 ∷ replicate 15 (pos 0)) 5 ≡ 8
   pub unshaped : strictRefusal 4 1 (replicate 16 (pos 2)) 5 ≡ 9
   pub none : strictRefusal 4 1 (replicate 16 (minus 2)) 5 ≡ 0
+
+-- request E1: "1 now means not 3 to 6"; "13: broken level 2, when the third level isn't a codeword, tested after 8", and so before 9. Each frame
+-- but the last three is wrong in that test and in all later ones: 1,048,583 is over range, and its bits of weight 1, 2 and 4 are set
+pub record KindSixTests : Type 0 where
+  pub kind : sendRefusal 7 1 (replicate 22 255) 64 ≡ 1
+  pub bytes : sendRefusal 6 1 (replicate 23 255) 63 ≡ 3
+  pub coordinates : sendRefusal 6 1 (replicate 22 255) 63 ≡ 4
+  pub none-spare : sendRefusal 6 1 (replicate 22 255) 64 ≡ 0
+  pub range : strictRefusal 6 1 (pos 1048583 ∷ replicate 63 (pos 0)) 22 ≡ 6
+  pub level-0 : strictRefusal 6 1 (pos 7 ∷ replicate 63 (pos 0)) 22 ≡ 7
+  pub level-1 : strictRefusal 6 1 (pos 6 ∷ replicate 63 (pos 0)) 22 ≡ 8
+  pub level-2 : strictRefusal 6 1 (pos 4 ∷ replicate 63 (pos 0)) 22 ≡ 13
+  pub level-2-openly : openRefusal 6 1 (pos 4 ∷ replicate 63 (pos 0)) 22 ≡ 13
+  pub unshaped : strictRefusal 6 1 (replicate 64 (pos 4)) 22 ≡ 9
+  pub openly : openMessage 6 1 (replicate 64 (pos 4)) ≡ oneByte 22 6 2
+  pub none : strictRefusal 6 1 (replicate 64 (minus 4)) 22 ≡ 0

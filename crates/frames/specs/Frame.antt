@@ -44,6 +44,6 @@ unfoldable pub sentFrame : ℕ → ℕ → List ℕ → List ℤ
 unfolding half leader leastFrame
 sentFrame k b bytes = leastFrame (half k b) (blocks k) (leader k b bytes)
 
--- the least squared distance of a kind's coding set: 4, 8, 16 for kinds 3, 4, 5
+-- the least squared distance of a kind's coding set: 4, 8, 16, 32 for kinds 3, 4, 5, 6
 abbrev pub leastDistance : ℕ → ℕ
 leastDistance k = 2 ^ (k - 1)

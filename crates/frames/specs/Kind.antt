@@ -1,4 +1,5 @@
--- Kinds and grades: document 01's table, the numbers for its levels, and what a row says of messages and of the scale. Assumes nothing.
+-- Kinds and grades: document 01's table with request E1's kind 6, the numbers for its levels, and what a row says of messages and of the scale.
+-- Assumes nothing.
 use Prim.Native.Nat.{ℕ, _+_, _*_, _/_, _^_}
 use mathlib.Core.Bool.{Bool, false, _&&_, _||_, cond}
 use mathlib.Core.List.{List, [], _∷_}
@@ -17,11 +18,12 @@ kinds =
     record { kind = 3; degrees = 1 ∷ [] }
     ∷ record { kind = 4; degrees = 1 ∷ 3 ∷ [] }
     ∷ record { kind = 5; degrees = 1 ∷ 3 ∷ [] }
+    ∷ record { kind = 6; degrees = 1 ∷ 3 ∷ 5 ∷ [] }
     ∷ []
 
 -- the numbers for a broken level, level 0 first: one for each level that a kind has
 abbrev pub brokenNumbers : List ℕ
-brokenNumbers = 7 ∷ 8 ∷ []
+brokenNumbers = 7 ∷ 8 ∷ 13 ∷ []
 
 -- the number for a broken level i
 abbrev pub brokenNumber : ℕ → ℕ

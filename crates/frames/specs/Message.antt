@@ -35,7 +35,8 @@ unfoldable pub blockNumbers : ℕ → ℕ → List ℕ → ℕ → List ℕ
 unfolding numbers levelBits
 blockNumbers k b bytes j = numbers (messageBit bytes) (levelBits k + 8 * b * j) (widths b)
 
--- c0 + 2·s with one level, c0 + 2·(c1 + 2·s), which is c0 + 2·c1 + 4·s, with two, and so on; over whole numbers.
+-- c0 + 2·s with one level, c0 + 2·(c1 + 2·s), which is c0 + 2·c1 + 4·s, with two, c0 + 2·(c1 + 2·(c2 + 2·s)), which is
+-- c0 + 2·c1 + 4·c2 + 8·s, with three, and so on; over whole numbers.
 -- The bits of the levels stand one behind the other, from bit `from` on
 unfoldable pub stacked : ℕ → List ℕ → (ℕ → ℕ) → ℕ → ℕ → ℕ → ℕ
 stacked m [] bit from s p = s

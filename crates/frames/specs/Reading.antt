@@ -87,7 +87,7 @@ unfoldable pub broken : ℕ → ℕ → List ℕ → List ℤ → ℕ
 broken m i [] f = 0
 broken m i (r ∷ rs) f = unless (belongs r m (levelWord i f)) (brokenNumber i) (broken m (suc i) rs f)
 
--- the open reading tests 1, 2, 4, 3, then 6 over all coordinates, then 7 and 8; n message bytes are lent
+-- the open reading tests 1, 2, 4, 3, then 6 over all coordinates, then 7, 8 and 13; n message bytes are lent
 unfoldable pub openRefusal : ℕ → ℕ → List ℤ → ℕ → ℕ
 unfolding isKind isGrade messageBytes inRange broken degrees
 openRefusal k b f n =

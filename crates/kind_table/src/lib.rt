@@ -17,7 +17,7 @@ pub struct Kind {
 }
 
 // The numbers for a broken level, level 0 first.
-const BROKEN: [u8; 2] = [7, 8];
+const BROKEN: [u8; 3] = [7, 8, 13];
 
 // THE TABLE: the row of a kind; no level where there is no such kind.
 pub fn row(kind: u8) -> Kind
@@ -42,6 +42,13 @@ pub fn row(kind: u8) -> Kind
             levels: 2,
             degrees: [1, 3, 0],
             bits: 32,
+        };
+    }
+    if kind == 6 {
+        return Kind {
+            levels: 3,
+            degrees: [1, 3, 5],
+            bits: 112,
         };
     }
     Kind {

@@ -46,6 +46,15 @@ pub right-32 :
 unfolding order masks ofWeight ones place table dimension
 right-32 = record { orders = refl; places = refl; dimensions = refl }
 
+pub right-64 :
+    Right
+    6
+    (0 ∷ 1 ∷ 2 ∷ 4 ∷ 8 ∷ 16 ∷ 32 ∷ 3 ∷ 5 ∷ 6 ∷ 9 ∷ 10 ∷ 12 ∷ 17 ∷ 18 ∷ 20 ∷ 24 ∷ 33 ∷ 34 ∷ 36 ∷ 40 ∷ 48 ∷ 7 ∷ 11 ∷ 13 ∷ 14 ∷ 19 ∷ 21 ∷ 22 ∷ 25 ∷ 26 ∷ 28 ∷ 35 ∷ 37 ∷ 38 ∷ 41 ∷ 42 ∷ 44 ∷ 49 ∷ 50 ∷ 52 ∷ 56 ∷ 15 ∷ 23 ∷ 27 ∷ 29 ∷ 30 ∷ 39 ∷ 43 ∷ 45 ∷ 46 ∷ 51 ∷ 53 ∷ 54 ∷ 57 ∷ 58 ∷ 60 ∷ 31 ∷ 47 ∷ 55 ∷ 59 ∷ 61 ∷ 62 ∷ 63 ∷ [])
+    (0 ∷ 1 ∷ 2 ∷ 7 ∷ 3 ∷ 8 ∷ 9 ∷ 22 ∷ 4 ∷ 10 ∷ 11 ∷ 23 ∷ 12 ∷ 24 ∷ 25 ∷ 42 ∷ 5 ∷ 13 ∷ 14 ∷ 26 ∷ 15 ∷ 27 ∷ 28 ∷ 43 ∷ 16 ∷ 29 ∷ 30 ∷ 44 ∷ 31 ∷ 45 ∷ 46 ∷ 57 ∷ 6 ∷ 17 ∷ 18 ∷ 32 ∷ 19 ∷ 33 ∷ 34 ∷ 47 ∷ 20 ∷ 35 ∷ 36 ∷ 48 ∷ 37 ∷ 49 ∷ 50 ∷ 58 ∷ 21 ∷ 38 ∷ 39 ∷ 51 ∷ 40 ∷ 52 ∷ 53 ∷ 59 ∷ 41 ∷ 54 ∷ 55 ∷ 60 ∷ 56 ∷ 61 ∷ 62 ∷ 63 ∷ [])
+    (1 ∷ 7 ∷ 22 ∷ 42 ∷ 57 ∷ 63 ∷ 64 ∷ [])
+unfolding order masks ofWeight ones place table dimension
+right-64 = record { orders = refl; places = refl; dimensions = refl }
+
 -- ---- the lengths in use
 
 -- an index of the tables
@@ -53,16 +62,12 @@ pub inside : {m n k : ℕ} → m ≡ n → k < 2 ^ m → k < 2 ^ n
 inside {k = k} e h = subst (λ (x : ℕ). k < 2 ^ x) e h
 
 -- the last length
-pub last : {m : ℕ} → Tabled m → (m ≡ 3 → ⊥) → (m ≡ 4 → ⊥) → m ≡ 5
-last h a b = omega arith
+pub last : {m : ℕ} → Tabled m → (m ≡ 3 → ⊥) → (m ≡ 4 → ⊥) → (m ≡ 5 → ⊥) → m ≡ 6
+last h a b d = omega arith
 
 -- the words are short
 pub short : {m : ℕ} → Tabled m → 2 ^ m ≤ 64
 short h = pow-mono {j = 6} (omega arith)
-
--- and so are the messages
-pub few-bits : {m r : ℕ} → Tabled m → r ≤ m → dimension r m ≤ 32
-few-bits {m} {r} h hr = omega (arith, dimension-small r m hr, pow-mono {i = m} {j = 5} (h .1))
 
 -- the first k of n places are there, and each is that of a digit of 64
 abbrev Within : ℕ → ℕ → (ℕ → ℕ) → Type 0

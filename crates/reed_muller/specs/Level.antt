@@ -68,6 +68,6 @@ unfoldable pub belongs : ℕ → ℕ → (ℕ → ℕ) → Bool
 unfolding clearAbove backwards
 belongs r m value = clearAbove r (backwards m value) (2 ^ m)
 
--- the lengths 2 ^ m that have a table of masks: 8, 16, 32
+-- the lengths 2 ^ m that have a table of masks: 8, 16, 32, 64
 abbrev pub Tabled : ℕ → Type 0
-Tabled m = (3 ≤ m) × (m ≤ 5)
+Tabled m = (3 ≤ m) × (m ≤ 6)

@@ -49,6 +49,73 @@ const ORDER_32: [u8; 32] = [
     31,
 ];
 
+const ORDER_64: [u8; 64] = [
+    0,
+    1,
+    2,
+    4,
+    8,
+    16,
+    32,
+    3,
+    5,
+    6,
+    9,
+    10,
+    12,
+    17,
+    18,
+    20,
+    24,
+    33,
+    34,
+    36,
+    40,
+    48,
+    7,
+    11,
+    13,
+    14,
+    19,
+    21,
+    22,
+    25,
+    26,
+    28,
+    35,
+    37,
+    38,
+    41,
+    42,
+    44,
+    49,
+    50,
+    52,
+    56,
+    15,
+    23,
+    27,
+    29,
+    30,
+    39,
+    43,
+    45,
+    46,
+    51,
+    53,
+    54,
+    57,
+    58,
+    60,
+    31,
+    47,
+    55,
+    59,
+    61,
+    62,
+    63,
+];
+
 // The place of each mask in the order.
 const PLACE_8: [u8; 8] = [0, 1, 2, 4, 3, 5, 6, 7];
 
@@ -89,12 +156,81 @@ const PLACE_32: [u8; 32] = [
     31,
 ];
 
+const PLACE_64: [u8; 64] = [
+    0,
+    1,
+    2,
+    7,
+    3,
+    8,
+    9,
+    22,
+    4,
+    10,
+    11,
+    23,
+    12,
+    24,
+    25,
+    42,
+    5,
+    13,
+    14,
+    26,
+    15,
+    27,
+    28,
+    43,
+    16,
+    29,
+    30,
+    44,
+    31,
+    45,
+    46,
+    57,
+    6,
+    17,
+    18,
+    32,
+    19,
+    33,
+    34,
+    47,
+    20,
+    35,
+    36,
+    48,
+    37,
+    49,
+    50,
+    58,
+    21,
+    38,
+    39,
+    51,
+    40,
+    52,
+    53,
+    59,
+    41,
+    54,
+    55,
+    60,
+    56,
+    61,
+    62,
+    63,
+];
+
 // The number of masks with at most r bits set.
 const DIMENSION_8: [usize; 4] = [1, 4, 7, 8];
 
 const DIMENSION_16: [usize; 5] = [1, 5, 11, 15, 16];
 
 const DIMENSION_32: [usize; 6] = [1, 6, 16, 26, 31, 32];
+
+const DIMENSION_64: [usize; 7] = [1, 7, 22, 42, 57, 63, 64];
 
 // The positions with digit j set, as a word held in a number.
 const DIGIT: [u64; 6] = [
@@ -135,7 +271,10 @@ pub fn mask_at(m: usize, k: usize) -> usize
     if m == 4 {
         return wide(ORDER_16[k]);
     }
-    wide(ORDER_32[k])
+    if m == 5 {
+        return wide(ORDER_32[k]);
+    }
+    wide(ORDER_64[k])
 }
 
 // The dimension of RM(r,m): its number of message bits.
@@ -149,7 +288,10 @@ pub fn dimension_of(m: usize, r: usize) -> usize
     if m == 4 {
         return DIMENSION_16[r];
     }
-    DIMENSION_32[r]
+    if m == 5 {
+        return DIMENSION_32[r];
+    }
+    DIMENSION_64[r]
 }
 
 // The number of positions.
@@ -235,7 +377,10 @@ fn coefficients(bits: u64, m: usize) -> u64
     if m == 4 {
         return gathered(bits, &PLACE_16, 16);
     }
-    gathered(bits, &PLACE_32, 32)
+    if m == 5 {
+        return gathered(bits, &PLACE_32, 32);
+    }
+    gathered(bits, &PLACE_64, 64)
 }
 
 // The codeword of RM(r,m) of message bits.
@@ -275,12 +420,15 @@ pub fn message_held(bits: u64, m: usize, r: usize) -> u64
     if m == 4 {
         return gathered(bits, &ORDER_16, count);
     }
-    gathered(bits, &ORDER_32, count)
+    if m == 5 {
+        return gathered(bits, &ORDER_32, count);
+    }
+    gathered(bits, &ORDER_64, count)
 }
 
 // Writes the message bits into `out` from bit `from` on, given the bits of the masks, and leaves every other bit as it was.
 pub fn put_message(bits: u64, m: usize, r: usize, out: &mut [u8], from: usize)
-    requires { ⌜ Tabled m × (r ≤ m) × (from % 8 + dimension r m ≤ 64) × (from + dimension r m ≤ 8 * length (now out)) ⌝ }
+    requires { ⌜ Tabled m × (r ≤ m) × (dimension r m ≤ 63) × (from % 8 + dimension r m ≤ 64) × (from + dimension r m ≤ 8 * length (now out)) ⌝ }
     ensures { λ _. ⌜ now (out .exit) ≡ bytesOf (length (now (out .entry)))
         (withBits from (dimension r m) (λ k. bits / 2 ^ getD (order m) k 0 % 2) (messageBit (now (out .entry)))) ⌝ }
 {

@@ -72,12 +72,12 @@ module _ (k b : ℕ) (kind : isKind k ≡ true) (bytes : List ℕ) where
     unfolding blockNumbers
     number-below j r h = numbers-below (messageBit bytes) (message-small bytes) (levelBits k + 8 * b * j) b r high h
 
-    coordinate-below : (p : ℕ) → coordinate k b bytes p ≤ 127
+    coordinate-below : (p : ℕ) → coordinate k b bytes p ≤ 255
     unfolding coordinate levels
     coordinate-below p =
         let s : ℕ = getD (blockNumbers k b bytes (p / 8)) (p % 8) 0 in
         let l : s < 32 = number-below (p / 8) (p % 8) (omega arith) in
-        let f : 2 ^ length (degrees k) * (s + 1) ≤ 4 * 32 = mul-le-mul {n₁ = 2 ^ length (degrees k)} {m₁ = s + 1} {n₂ = 4} {m₂ = 32} (pow-mono {j = 2} (few-levels k kind)) (omega arith) in
+        let f : 2 ^ length (degrees k) * (s + 1) ≤ 8 * 32 = mul-le-mul {n₁ = 2 ^ length (degrees k)} {m₁ = s + 1} {n₂ = 8} {m₂ = 32} (pow-mono {j = 3} (few-levels k kind)) (omega arith) in
         omega (arith, stacked-below k (degrees k) (messageBit bytes) 0 s p)
 
     pub leader-within : Within (2 ^ 24) (leader k b bytes)

@@ -100,7 +100,8 @@ fn signed(s: [u32; 8]) -> [i32; 8]
     x
 }
 
-// A block of the leader, at positions q to q + 7, from the block's message bits and the words of the levels: c0 + 2·(c1 + 2·s) with two levels.
+// A block of the leader, at positions q to q + 7, from the block's message bits and the words of the levels:
+// c0 + 2·(c1 + 2·(c2 + 2·s)) with three levels.
 // Three turns, from the last level to the first, so that the compiler lays them out one by one.
 pub fn block(
     message: &[u8],

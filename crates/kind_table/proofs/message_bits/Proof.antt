@@ -15,7 +15,7 @@ positions-requires : tie.Need-positions-requires
 positions-requires c κs = search needs
 
 -- the coordinates' bits are few
-product : (c : tie.After-positions) → c .positions .result * c .before .before .args .grade ≤ 128
+product : (c : tie.After-positions) → c .positions .result * c .before .before .args .grade ≤ 256
 product c =
     let s = c .before .before in
     omega (arith, ap (λ (n : ℕ). n * s .args .grade) (c .positions .ensures), coordinate-bits (s .args .kind) (s .args .grade) (s .pre .0) (s .pre .1))

@@ -21,10 +21,15 @@ returns-3 : tie.Need-returns-3
 unfolding rowOf levels levelBits degrees kinds dimension masks ofWeight table ones
 returns-3 c = ap rowOf (sym (c .if3 .taken))
 
--- in no row
 returns-4 : tie.Need-returns-4
+unfolding rowOf levels levelBits degrees kinds dimension masks ofWeight table ones
+returns-4 c = ap rowOf (sym (c .if4 .taken))
+
+-- in no row
+returns-5 : tie.Need-returns-5
 unfolding rowOf levels levelBits degrees kinds
-returns-4 c = rw (ne-eqb _ 3 (c .before .before .if1 .left), ne-eqb _ 4 (c .before .if2 .left), ne-eqb _ 5 (c .if3 .left))
+returns-5 c =
+    rw (ne-eqb _ 3 (c .before .before .before .if1 .left), ne-eqb _ 4 (c .before .before .if2 .left), ne-eqb _ 5 (c .before .if3 .left), ne-eqb _ 6 (c .if4 .left))
 
 pub row-spec : {M : Type 1} → statement M
-row-spec = tie.close (tie.spec returns returns-2 returns-3 returns-4)
+row-spec = tie.close (tie.spec returns returns-2 returns-3 returns-4 returns-5)

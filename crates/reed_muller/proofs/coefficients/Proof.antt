@@ -1,7 +1,7 @@
 -- `coefficients`: the bits at the places of the masks, by the table of each length. Assumes nothing.
-use mathlib.Core.Path.{refl, _∙_}
+use mathlib.Core.Path.{_≡_, refl, _∙_}
 use borrow.Author.Needs.{needs}
-use Rattle.reed_muller.proofs.MaskTables.{right-8, right-16, right-32, places-within, by-places, last}
+use Rattle.reed_muller.proofs.MaskTables.{right-8, right-16, right-32, right-64, places-within, by-places, last}
 use Rattle.reed_muller.proofs.coefficients.Statement.{statement}
 use Rattle.reed_muller.proofs.coefficients.Tie as tie
 
@@ -29,16 +29,26 @@ slice-aggregate-gathered-3 : tie.Need-slice-aggregate-gathered-3
 slice-aggregate-gathered-3 c = search needs
 
 gathered-requires-3 : tie.Need-gathered-requires-3
-gathered-requires-3 c κs =
-    let at = c .before in
-    let start = at .before .before in
-    places-within (last (start .pre) (at .before .if1 .left) (at .if2 .left)) (start .pre) refl
+gathered-requires-3 c κs = places-within (c .before .if3 .taken) (c .before .before .before .before .pre) refl
 
 returns-3 : tie.Need-returns-3
 returns-3 c =
-    let at = c .before .before in
-    let start = at .before .before in
-    c .gathered3 .ensures ∙ by-places (last (start .pre) (at .before .if1 .left) (at .if2 .left)) right-32 (start .args .bits)
+    let at = c .before .before in c .gathered3 .ensures ∙ by-places (at .if3 .taken) right-32 (at .before .before .before .args .bits)
+
+-- the tests leave the last length
+is-last : (c : tie.Else3) → c .before .before .before .args .m ≡ 6
+is-last c =
+    let start = c .before .before .before in last (start .pre) (c .before .before .if1 .left) (c .before .if2 .left) (c .if3 .left)
+
+slice-aggregate-gathered-4 : tie.Need-slice-aggregate-gathered-4
+slice-aggregate-gathered-4 c = search needs
+
+gathered-requires-4 : tie.Need-gathered-requires-4
+gathered-requires-4 c κs = places-within (is-last (c .before)) (c .before .before .before .before .pre) refl
+
+returns-4 : tie.Need-returns-4
+returns-4 c =
+    let at = c .before .before in c .gathered4 .ensures ∙ by-places (is-last at) right-64 (at .before .before .before .args .bits)
 
 pub coefficients-spec : {M : Type 1} → statement M
 coefficients-spec =
@@ -52,4 +62,7 @@ coefficients-spec =
     returns-2
     slice-aggregate-gathered-3
     gathered-requires-3
-    returns-3)
+    returns-3
+    slice-aggregate-gathered-4
+    gathered-requires-4
+    returns-4)

@@ -1,7 +1,7 @@
 -- `mask_at`: the entry of the table of masks of each length. Assumes nothing.
-use mathlib.Core.Path.{_∙_}
+use mathlib.Core.Path.{_≡_, _∙_}
 use borrow.Author.Needs.{needs}
-use Rattle.reed_muller.proofs.MaskTables.{right-8, right-16, right-32, mask-entry, inside, last}
+use Rattle.reed_muller.proofs.MaskTables.{right-8, right-16, right-32, right-64, mask-entry, inside, last}
 use Rattle.reed_muller.proofs.mask_at.Statement.{statement}
 use Rattle.reed_muller.proofs.mask_at.Tie as tie
 
@@ -24,17 +24,27 @@ returns-2 : tie.Need-returns-2
 returns-2 c = c .wide2 .ensures ∙ mask-entry (c .before .if2 .taken) right-16 (c .before .before .before .args .k)
 
 array-read-wide-3 : tie.Need-array-read-wide-3
-array-read-wide-3 c =
-    let start = c .before .before in inside (last (start .pre .0) (c .before .if1 .left) (c .if2 .left)) (start .pre .1)
+array-read-wide-3 c = inside (c .if3 .taken) (c .before .before .before .pre .1)
 
 wide-requires-3 : tie.Need-wide-requires-3
 wide-requires-3 c κs = search needs
 
 returns-3 : tie.Need-returns-3
-returns-3 c =
-    let at = c .before in
-    let start = at .before .before in
-    c .wide3 .ensures ∙ mask-entry (last (start .pre .0) (at .before .if1 .left) (at .if2 .left)) right-32 (start .args .k)
+returns-3 c = c .wide3 .ensures ∙ mask-entry (c .before .if3 .taken) right-32 (c .before .before .before .before .args .k)
+
+-- the tests leave the last length
+is-last : (c : tie.Else3) → c .before .before .before .args .m ≡ 6
+is-last c =
+    let start = c .before .before .before in last (start .pre .0) (c .before .before .if1 .left) (c .before .if2 .left) (c .if3 .left)
+
+array-read-wide-4 : tie.Need-array-read-wide-4
+array-read-wide-4 c = inside (is-last c) (c .before .before .before .pre .1)
+
+wide-requires-4 : tie.Need-wide-requires-4
+wide-requires-4 c κs = search needs
+
+returns-4 : tie.Need-returns-4
+returns-4 c = c .wide4 .ensures ∙ mask-entry (is-last (c .before)) right-64 (c .before .before .before .before .args .k)
 
 pub mask-at-spec : {M : Type 1} → statement M
 mask-at-spec =
@@ -48,4 +58,7 @@ mask-at-spec =
     returns-2
     array-read-wide-3
     wide-requires-3
-    returns-3)
+    returns-3
+    array-read-wide-4
+    wide-requires-4
+    returns-4)

@@ -8,7 +8,6 @@ use Rattle.bits.specs.Message.{messageBit}
 use Rattle.bits.proofs.Digits.{digit-small}
 use Rattle.bits.proofs.Bytewise.{put-number}
 use Rattle.reed_muller.specs.Level.{order, dimension}
-use Rattle.reed_muller.proofs.MaskTables.{few-bits}
 use Rattle.reed_muller.proofs.put_message.Statement.{statement}
 use Rattle.reed_muller.proofs.put_message.Tie as tie
 
@@ -22,9 +21,9 @@ put-bits-requires : tie.Need-put-bits-requires
 put-bits-requires c κs =
     let start = c .before .before .before .before in
     let count = c .before .before .dimension-of in
-    let few : count .result ≤ 63 = omega (arith, count .ensures, few-bits (start .pre .0) (start .pre .1)) in
-    let eight : start .args .from % 8 + count .result ≤ 64 = omega (arith, count .ensures, start .pre .2) in
-    let room : start .args .from + count .result ≤ 8 * length (start .args .out .now) = omega (arith, count .ensures, start .pre .3) in
+    let few : count .result ≤ 63 = omega (arith, count .ensures, start .pre .2) in
+    let eight : start .args .from % 8 + count .result ≤ 64 = omega (arith, count .ensures, start .pre .3) in
+    let room : start .args .from + count .result ≤ 8 * length (start .args .out .now) = omega (arith, count .ensures, start .pre .4) in
     (few, eight, room)
 
 same-length : tie.Need-same-length

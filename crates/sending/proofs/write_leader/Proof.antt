@@ -62,11 +62,11 @@ same a = over-same (made (at-start a)) (whole (at-start a)) (a .loop .inv)
 
 record Turn (a : At) : Type 0 where
   inside : a .loop .j < blocks-of (at-start a .args .kind)
-  few : blocks-of (at-start a .args .kind) ≤ 4
+  few : blocks-of (at-start a .args .kind) ≤ 8
   room : 8 * a .loop .j + 8 ≤ length (a .loop .frame)
   base : at-bits a .level-bits .result ≡ levelBits (at-start a .args .kind)
   piece : Piece (levelBits (at-start a .args .kind) + 8 * at-start a .args .grade * a .loop .j) (8 * at-start a .args .grade) (messageBits (at-start a .args .kind) (at-start a .args .grade))
-  short : messageBits (at-start a .args .kind) (at-start a .args .grade) ≤ 160
+  short : messageBits (at-start a .args .kind) (at-start a .args .grade) ≤ 368
   levels : at-levels a .levels .result ≤ 3
 
 turn : (c : tie.In-loop Inv-loop μ-loop) → Turn (c .before)

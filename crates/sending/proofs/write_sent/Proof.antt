@@ -28,7 +28,7 @@ sent-is k b a bytes f e q =
     ap₂ (λ (n : ℕ) (x : List ℤ). leastFrame (2 ^ (n + b - 1)) (length x / 8) x) e q
     ∙ ap (λ (n : ℕ). leastFrame (half k b) (n / 8) (leader k b bytes)) (leader-length k b bytes)
 
-few : (c : tie.After-levels) → c .levels .result ≤ 2
+few : (c : tie.After-levels) → c .levels .result ≤ 3
 few c =
     let s = c .before .before .before .before .before in
     omega (arith, c .levels .ensures, few-levels (s .args .kind) (s .pre .0))

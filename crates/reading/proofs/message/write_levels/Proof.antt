@@ -44,7 +44,7 @@ module _ (c : tie.Else1 Inv-loop μ-loop) where
   inside : i < levels k
   inside = omega (arith, c .if1 .left, called .levels .ensures)
 
-  early : i < 2
+  early : i < 3
   early = omega (arith, inside, few-levels k (s .pre .0))
 
   -- where level i stands
@@ -85,8 +85,13 @@ put-message-requires c κs =
     let d = c .before in
     let t = turn d in
     let p = piece t in
-    let from = t .before .before .loop .inv .1 in
-    (tabled (k t) (s t .pre .0), low d, omega (arith, wide d, from, p .word), omega (arith, wide d, from, p .inside, same t, s t .pre .1))
+    let from = t .before .before .loop .inv .1 in (
+      tabled (k t) (s t .pre .0),
+      low d,
+      omega (arith, wide d, p .few),
+      omega (arith, wide d, from, p .word),
+      omega (arith, wide d, from, p .inside, same t, s t .pre .1),
+    )
 
 dimension-of-requires : tie.Need-dimension-of-requires Inv-loop μ-loop
 dimension-of-requires c κs =

@@ -41,7 +41,7 @@ module _ (c : tie.Else1 Inv-loop μ-loop) where
   inside : i < levels k
   inside = omega (arith, c .if1 .left, called .levels .ensures)
 
-  early : i < 2
+  early : i < 3
   early = omega (arith, inside, few-levels k (s .pre))
 
   so-far : brokenIn k 0 (degrees k) words ≡ brokenIn k i (drop i (degrees k)) words

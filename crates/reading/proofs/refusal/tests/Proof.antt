@@ -46,7 +46,7 @@ module _ (c : tie.Else1) where
   a : Accepted (start .args .kind) (start .args .grade) (start .args .frame .now) (start .args .n)
   a = accepted (start .args .kind) (start .args .grade) (start .args .frame .now) (start .args .n) none
 
-  small : levels (start .args .kind) + start .args .grade ≤ 6
+  small : levels (start .args .kind) + start .args .grade ≤ 7
   small = omega (arith, few-levels (start .args .kind) (a .kind), grade-high (start .args .grade) (a .grade))
 
   whole : 8 * (length (start .args .frame .now) / 8) ≡ length (start .args .frame .now)

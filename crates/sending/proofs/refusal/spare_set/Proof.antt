@@ -17,7 +17,7 @@ message-bits-requires c κs = search needs
 -- the message's bits are among those of its bytes, of which there are few
 record Room (c : tie.After-message-bits) : Type 0 where
   inside : c .message-bits .result ≤ 8 * length (c .before .before .args .message .now)
-  few : 8 * length (c .before .before .args .message .now) ≤ 167
+  few : 8 * length (c .before .before .args .message .now) ≤ 375
 
 room : (c : tie.After-message-bits) → Room c
 room c =
