@@ -10,7 +10,7 @@ ghost use Rattle.text.specs.Line.{refusedText};
 ghost use Rattle.listing.specs.Record.{marked as isMarked, recordRefusal};
 ghost use Rattle.listing.specs.Listing.{sentLine, lineAt, nextAt, beginning, startOf, lineInto, nextInto, beginningInto, startInto};
 
-// The room that a line has to be lent. The longest line, of 64 coordinates, has at most 797 bytes.
+// The room that a line has to be lent: enough for 64 coordinates (text::put_line).
 const ROOM: usize = 1024;
 
 // What was put at the start of the lent line: its length, and the place of the sheet from which the listing goes on. At the
