@@ -89,12 +89,12 @@ fn make(
 // What a call is lent or leaves: bytes and coordinates, and more beyond those that are lent; and whether the file had them.
 struct Lent {
     whole: bool,
-    message: [u8; 24],
-    frame: [i32; 36],
+    message: [u8; 48],
+    frame: [i32; 68],
 }
 
 // Whether the message and the frame are as they have to be.
-fn same_lent(message: [u8; 24], frame: [i32; 36], left: Lent) -> bool {
+fn same_lent(message: [u8; 48], frame: [i32; 68], left: Lent) -> bool {
     let m = left.message;
     let f = left.frame;
     if !fields::same_bytes(&message, &m) {
@@ -123,11 +123,11 @@ fn holds(
 
 // Takes a message and coordinates.
 fn take_lent(fd: i32) -> Lent {
-    let mut message = [0u8; 24];
-    let mut bytes = [0u8; 144];
-    let mut frame = [0i32; 36];
-    fill(fd, 24, &mut message);
-    let whole = fill(fd, 144, &mut bytes);
+    let mut message = [0u8; 48];
+    let mut bytes = [0u8; 272];
+    let mut frame = [0i32; 68];
+    fill(fd, 48, &mut message);
+    let whole = fill(fd, 272, &mut bytes);
     fields::coordinates(&bytes, &mut frame);
     Lent {
         whole,

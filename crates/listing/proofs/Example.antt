@@ -39,7 +39,7 @@ pub lone : recordNumber (76 ∷ []) 0 ≡ 10
 unfolding recordNumber recordRefusal marked
 lone = refl
 
-pub kind-first : recordNumber (76 ∷ 67 ∷ 6 ∷ []) 0 ≡ 1
+pub kind-first : recordNumber (76 ∷ 67 ∷ 7 ∷ []) 0 ≡ 1
 unfolding recordNumber recordRefusal marked isKind kinds
 kind-first = refl
 

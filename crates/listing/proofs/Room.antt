@@ -12,14 +12,14 @@ use Rattle.text.specs.Line.{headerText, refusedText}
 use Rattle.listing.specs.Listing.{lineAt, nextAt, linesFrom, long, listingOf, beginning, startOf, lineInto, nextInto, beginningInto, startInto, putFrom}
 
 module _ (room : ℕ) (s : List ℕ) where
-  pub no-room : (p : ℕ) → room < 512 → ([] ≡ lineInto room s p) × (length s ≡ nextInto room s p)
+  pub no-room : (p : ℕ) → room < 1024 → ([] ≡ lineInto room s p) × (length s ≡ nextInto room s p)
   unfolding lineInto nextInto
-  no-room p h = (simp (lt-ltb room 512 h), simp (lt-ltb room 512 h))
+  no-room p h = (simp (lt-ltb room 1024 h), simp (lt-ltb room 1024 h))
 
   -- a long sheet has the header and `refused 12` only: no place of it has a line
   pub too-long : (p : ℕ) → 32768 < length s → ([] ≡ lineInto room s p) × (length s ≡ nextInto room s p)
   unfolding lineInto nextInto
-  too-long p h = go (ltb room 512)
+  too-long p h = go (ltb room 1024)
     where
       go : (v : Bool) → ([] ≡ cond v [] (cond (long s) [] (cond (leb (length s) p) [] (lineAt s p))))
           × (length s ≡ cond v (length s) (cond (long s) (length s) (cond (leb (length s) p) (length s) (nextAt s p))))
@@ -29,7 +29,7 @@ module _ (room : ℕ) (s : List ℕ) where
   -- and from its end on a sheet has none, be it long or not
   pub no-record : (p : ℕ) → length s ≤ p → ([] ≡ lineInto room s p) × (length s ≡ nextInto room s p)
   unfolding lineInto nextInto
-  no-record p h = go (ltb room 512) (long s)
+  no-record p h = go (ltb room 1024) (long s)
     where
       go : (v w : Bool) → ([] ≡ cond v [] (cond w [] (cond (leb (length s) p) [] (lineAt s p))))
           × (length s ≡ cond v (length s) (cond w (length s) (cond (leb (length s) p) (length s) (nextAt s p))))
@@ -37,25 +37,25 @@ module _ (room : ℕ) (s : List ℕ) where
       go false true = (refl, refl)
       go false false = (simp (le-leb (length s) p h), simp (le-leb (length s) p h))
 
-  pub a-record : (p : ℕ) → 512 ≤ room → length s ≤ 32768 → p < length s → (lineAt s p ≡ lineInto room s p) × (nextAt s p ≡ nextInto room s p)
+  pub a-record : (p : ℕ) → 1024 ≤ room → length s ≤ 32768 → p < length s → (lineAt s p ≡ lineInto room s p) × (nextAt s p ≡ nextInto room s p)
   unfolding lineInto nextInto
   a-record p roomy short e =
-      let r = le-ltb room 512 roomy in
+      let r = le-ltb room 1024 roomy in
       let l = le-ltb 32768 (length s) short in
       let i = lt-leb (length s) p e in
       (simp (r, l, i), simp (r, l, i))
 
-  pub no-beginning : room < 512 → ([] ≡ beginningInto room s) × (length s ≡ startInto room s)
+  pub no-beginning : room < 1024 → ([] ≡ beginningInto room s) × (length s ≡ startInto room s)
   unfolding beginningInto startInto
-  no-beginning h = (simp (lt-ltb room 512 h), simp (lt-ltb room 512 h))
+  no-beginning h = (simp (lt-ltb room 1024 h), simp (lt-ltb room 1024 h))
 
-  pub a-beginning : 512 ≤ room → (beginning s ≡ beginningInto room s) × (startOf s ≡ startInto room s)
+  pub a-beginning : 1024 ≤ room → (beginning s ≡ beginningInto room s) × (startOf s ≡ startInto room s)
   unfolding beginningInto startInto
-  a-beginning h = (simp (le-ltb room 512 h), simp (le-ltb room 512 h))
+  a-beginning h = (simp (le-ltb room 1024 h), simp (le-ltb room 1024 h))
 
 -- ---- THE LISTING AS IT IS PUT: where there is room, the beginning, and line after line from the place that was given
 
-module _ (room : ℕ) (s : List ℕ) (roomy : 512 ≤ room) where
+module _ (room : ℕ) (s : List ℕ) (roomy : 1024 ≤ room) where
   none-put : (f p : ℕ) → length s ≤ p → putFrom f room s p ≡ []
   unfolding putFrom
   none-put zero p h = refl

@@ -48,24 +48,24 @@ beginning s = headerText ++ cond (long s) (refusedText 12) []
 unfoldable pub startOf : List ℕ → ℕ
 startOf s = cond (long s) (length s) 0
 
--- ---- what is put into a lent line of `room` bytes, which has to be 512 at least: where less is lent, nothing is put and the listing ends
+-- ---- what is put into a lent line of `room` bytes, which has to be 1024 at least: where less is lent, nothing is put and the listing ends
 
 -- a long sheet has no line of a record, and from its end on a sheet has none
 unfoldable pub lineInto : ℕ → List ℕ → ℕ → List ℕ
 unfolding lineAt
-lineInto room s p = cond (ltb room 512) [] (cond (long s) [] (cond (leb (length s) p) [] (lineAt s p)))
+lineInto room s p = cond (ltb room 1024) [] (cond (long s) [] (cond (leb (length s) p) [] (lineAt s p)))
 
 unfoldable pub nextInto : ℕ → List ℕ → ℕ → ℕ
 unfolding nextAt
-nextInto room s p = cond (ltb room 512) (length s) (cond (long s) (length s) (cond (leb (length s) p) (length s) (nextAt s p)))
+nextInto room s p = cond (ltb room 1024) (length s) (cond (long s) (length s) (cond (leb (length s) p) (length s) (nextAt s p)))
 
 unfoldable pub beginningInto : ℕ → List ℕ → List ℕ
 unfolding beginning
-beginningInto room s = cond (ltb room 512) [] (beginning s)
+beginningInto room s = cond (ltb room 1024) [] (beginning s)
 
 unfoldable pub startInto : ℕ → List ℕ → ℕ
 unfolding startOf
-startInto room s = cond (ltb room 512) (length s) (startOf s)
+startInto room s = cond (ltb room 1024) (length s) (startOf s)
 
 -- what is put, line after line, each from the place that the one before it gave, to the sheet's end; at most f lines
 unfoldable pub putFrom : ℕ → ℕ → List ℕ → ℕ → List ℕ

@@ -10,6 +10,9 @@ ghost use Rattle.text.specs.Line.{refusedText};
 ghost use Rattle.listing.specs.Record.{marked as isMarked, recordRefusal};
 ghost use Rattle.listing.specs.Listing.{sentLine, lineAt, nextAt, beginning, startOf, lineInto, nextInto, beginningInto, startInto};
 
+// The room that a line has to be lent: enough for 64 coordinates (text::put_line).
+const ROOM: usize = 1024;
+
 // What was put at the start of the lent line: its length, and the place of the sheet from which the listing goes on. At the
 // sheet's end the listing ends.
 pub struct Written {
@@ -68,14 +71,14 @@ fn test_record(sheet: &[u8], p: usize) -> u8
 
 // The line of a message: its frame's, or the refusal of it for a spare bit.
 fn put_message(kind: u8, grade: u8, message: &[u8], out: &mut [u8]) -> Answer
-    requires { ⌜ (isKind kind ≡ true) × (512 ≤ length (now out)) ⌝ }
+    requires { ⌜ (isKind kind ≡ true) × (1024 ≤ length (now out)) ⌝ }
     ensures number { λ r. ⌜ r .number ≡ sendRefusal kind grade (now (message .entry)) (2 ^ kind) ⌝ }
     ensures sent { λ r. ⌜ (r .number ≡ 0 → Put (now (out .entry)) 0 (sentLine kind grade (now (message .entry))) (r .length) (now (out .exit))) ⌝ }
     ensures refused { λ r. ⌜ ((r .number ≡ 0 → ⊥) → Put (now (out .entry)) 0 (refusedText (r .number)) (r .length) (now (out .exit))) ⌝ }
-    ensures short { λ r. ⌜ r .length ≤ 512 ⌝ }
+    ensures short { λ r. ⌜ r .length ≤ 1024 ⌝ }
 {
     let n = kind_table::positions(kind);
-    let mut frame = [0i32; 32];
+    let mut frame = [0i32; 64];
     let sent = sending::send(kind, grade, message, &mut frame[..n]);
     if sent.number != 0 {
         return Answer {
@@ -91,8 +94,8 @@ fn put_message(kind: u8, grade: u8, message: &[u8], out: &mut [u8]) -> Answer
 
 // The line of the record at place p of the sheet, where there is room for it.
 fn record_line(sheet: &[u8], p: usize, out: &mut [u8]) -> Written
-    requires { ⌜ (p < length (now sheet)) × (512 ≤ length (now out)) ⌝ }
-    ensures line { λ r. ⌜ Put (now (out .entry)) 0 (lineAt (now (sheet .entry)) p) (r .length) (now (out .exit)) × (r .length ≤ 512) ⌝ }
+    requires { ⌜ (p < length (now sheet)) × (1024 ≤ length (now out)) ⌝ }
+    ensures line { λ r. ⌜ Put (now (out .entry)) 0 (lineAt (now (sheet .entry)) p) (r .length) (now (out .exit)) × (r .length ≤ 1024) ⌝ }
     ensures next { λ r. ⌜ (r .next ≡ nextAt (now (sheet .entry)) p) × (p < r .next) × (r .next ≤ length (now (sheet .entry))) ⌝ }
 {
     let number = test_record(sheet, p);
@@ -121,8 +124,8 @@ fn record_line(sheet: &[u8], p: usize, out: &mut [u8]) -> Written
 
 // The header, and for a long sheet its refusal, where there is room for them.
 fn header(sheet: &[u8], out: &mut [u8]) -> Written
-    requires { ⌜ 512 ≤ length (now out) ⌝ }
-    ensures line { λ r. ⌜ Put (now (out .entry)) 0 (beginning (now (sheet .entry))) (r .length) (now (out .exit)) × (r .length ≤ 512) ⌝ }
+    requires { ⌜ 1024 ≤ length (now out) ⌝ }
+    ensures line { λ r. ⌜ Put (now (out .entry)) 0 (beginning (now (sheet .entry))) (r .length) (now (out .exit)) × (r .length ≤ 1024) ⌝ }
     ensures next { λ r. ⌜ r .next ≡ startOf (now (sheet .entry)) ⌝ }
 {
     let a = text::put_header(out, 0);
@@ -135,7 +138,7 @@ fn header(sheet: &[u8], out: &mut [u8]) -> Written
     Written { length: a, next: 0 }
 }
 
-// The line of the record at place p. Nothing is put where less than 512 bytes are lent, for a long sheet, or past the end of the sheet.
+// The line of the record at place p. Nothing is put where less than 1024 bytes are lent, for a long sheet, or past the end of the sheet.
 pub fn line(sheet: &[u8], p: usize, out: &mut [u8]) -> Written
     ensures line { λ r. ⌜ Put (now (out .entry)) 0 (lineInto (length (now (out .entry))) (now (sheet .entry)) p) (r .length) (now (out .exit)) ⌝ }
     ensures short { λ r. ⌜ r .length ≤ length (now (out .entry)) ⌝ }
@@ -143,7 +146,7 @@ pub fn line(sheet: &[u8], p: usize, out: &mut [u8]) -> Written
     ensures further { λ r. ⌜ (p < length (now (sheet .entry)) → p < r .next) ⌝ }
 {
     let n = sheet.len();
-    if out.len() < 512 {
+    if out.len() < ROOM {
         return Written { length: 0, next: n };
     }
     if 32768 < n {
@@ -155,13 +158,13 @@ pub fn line(sheet: &[u8], p: usize, out: &mut [u8]) -> Written
     record_line(sheet, p, out)
 }
 
-// What the listing begins with. Nothing is put where less than 512 bytes are lent.
+// What the listing begins with. Nothing is put where less than 1024 bytes are lent.
 pub fn begin(sheet: &[u8], out: &mut [u8]) -> Written
     ensures line { λ r. ⌜ Put (now (out .entry)) 0 (beginningInto (length (now (out .entry))) (now (sheet .entry))) (r .length) (now (out .exit)) ⌝ }
     ensures short { λ r. ⌜ r .length ≤ length (now (out .entry)) ⌝ }
     ensures next { λ r. ⌜ r .next ≡ startInto (length (now (out .entry))) (now (sheet .entry)) ⌝ }
 {
-    if out.len() < 512 {
+    if out.len() < ROOM {
         return Written {
             length: 0,
             next: sheet.len(),

@@ -61,7 +61,7 @@ fn read_sheet(fd: i32, room: &mut [u8]) -> Input
 // Writes the listing of the sheet, and answers whether all of it was written. It stops at the first write that fails.
 fn write_listing(sheet: &[u8], to: i32) -> bool {
     let n = sheet.len();
-    let mut out = [0u8; 512];
+    let mut out = [0u8; 1024];
     let first = listing::begin(sheet, &mut out);
     if !io::write_all(to, &out[..first.length]) {
         return false;

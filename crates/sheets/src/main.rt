@@ -40,9 +40,9 @@ fn skip(fd: i32, count: usize) {
 
 // Takes as many bytes of the file as the text has, which are to be the text.
 fn take_text(fd: i32, text: &[u8], at: Progress) -> Progress {
-    let mut bytes = [0u8; 512];
+    let mut bytes = [0u8; 1024];
     let n = text.len();
-    if 512 < n {
+    if 1024 < n {
         return Progress {
             left: at.left,
             same: false,
@@ -71,7 +71,7 @@ fn take_text(fd: i32, text: &[u8], at: Progress) -> Progress {
 // Whether the sheet has the listing that comes next in the file, of so many bytes, and goes on from the place `start`.
 fn lists(fd: i32, sheet: &[u8], start: usize, count: usize) -> bool {
     let n = sheet.len();
-    let mut out = [0u8; 512];
+    let mut out = [0u8; 1024];
     let first = listing::begin(sheet, &mut out);
     let mut at = take_text(
         fd,

@@ -92,7 +92,7 @@ pub fn put_header(out: &mut [u8], at: usize) -> usize
     put_text(out, at, b"kind grade energy frame\n")
 }
 
-// A frame's line. It has at most 29 bytes, and 12 for each coordinate: 413 for 32 coordinates.
+// A frame's line. It has at most 29 bytes, and 12 for each coordinate: 797 for 64 coordinates.
 pub fn put_line(out: &mut [u8], at: usize, kind: u8, grade: u8, energy: u64, frame: &[i32]) -> usize
     requires { ⌜ at + 29 + 12 * length (now frame) ≤ length (now out) ⌝ }
     ensures text { λ r. ⌜ Put (now (out .entry)) at (lineOf kind grade energy (now (frame .entry))) r (now (out .exit)) ⌝ }

@@ -6,8 +6,8 @@ ghost use Prim.Native.Nat.{_≤_};
 ghost use lib.ListN.{length};
 
 // Whether a frame begins with these coordinates.
-fn begins(x: &[i32; 32], y: &[i32]) -> bool {
-    if 32 < y.len() {
+fn begins(x: &[i32; 64], y: &[i32]) -> bool {
+    if 64 < y.len() {
         return false;
     }
     let mut p: usize = 0;
@@ -23,8 +23,8 @@ fn begins(x: &[i32; 32], y: &[i32]) -> bool {
 }
 
 // Whether a message begins with these bytes.
-fn begins_bytes(x: &[u8; 32], y: &[u8]) -> bool {
-    if 32 < y.len() {
+fn begins_bytes(x: &[u8; 48], y: &[u8]) -> bool {
+    if 48 < y.len() {
         return false;
     }
     let mut i: usize = 0;
@@ -45,24 +45,24 @@ pub struct Energies {
 }
 
 // A frame of marks: no sent frame has one of their size.
-fn marks() -> [i32; 32]
-    ensures { λ r. ⌜ length r ≡ 32 ⌝ }
+fn marks() -> [i32; 64]
+    ensures { λ r. ⌜ length r ≡ 64 ⌝ }
 {
-    [77777; 32]
+    [77777; 64]
 }
 
 // Bytes of marks.
-fn mark_bytes() -> [u8; 32]
-    ensures { λ r. ⌜ length r ≡ 32 ⌝ }
+fn mark_bytes() -> [u8; 48]
+    ensures { λ r. ⌜ length r ≡ 48 ⌝ }
 {
-    [165; 32]
+    [165; 48]
 }
 
 // The message is sent as the frame, with its energy.
 fn sends(kind: u8, grade: u8, message: &[u8], frame: &[i32], energy: u64) -> bool {
     let n = frame.len();
     let mut out = marks();
-    if 32 < n {
+    if 64 < n {
         return false;
     }
     let r = sending::send(kind, grade, message, &mut out[0..n]);
@@ -86,7 +86,7 @@ fn read(strict: bool, kind: u8, grade: u8, frame: &[i32], message: &mut [u8]) ->
 fn reads(strict: bool, kind: u8, grade: u8, frame: &[i32], message: &[u8], energy: u64) -> bool {
     let n = message.len();
     let mut out = mark_bytes();
-    if 32 < n {
+    if 48 < n {
         return false;
     }
     let r = read(strict, kind, grade, frame, &mut out[0..n]);
@@ -103,7 +103,7 @@ fn reads(strict: bool, kind: u8, grade: u8, frame: &[i32], message: &[u8], energ
 fn answers(strict: bool, kind: u8, grade: u8, frame: &[i32], n: usize, number: u8) -> bool {
     let mut out = mark_bytes();
     let as_lent = mark_bytes();
-    if 32 < n {
+    if 48 < n {
         return false;
     }
     let r = read(strict, kind, grade, frame, &mut out[0..n]);
@@ -119,14 +119,6 @@ fn answers(strict: bool, kind: u8, grade: u8, frame: &[i32], n: usize, number: u
     begins_bytes(&out, &as_lent)
 }
 
-// Both readings answer the number.
-fn broken(kind: u8, grade: u8, frame: &[i32], n: usize, number: u8) -> bool {
-    if !answers(false, kind, grade, frame, n, number) {
-        return false;
-    }
-    answers(true, kind, grade, frame, n, number)
-}
-
 // The scale M.
 fn scale(kind: u8, grade: u8) -> u8 {
     if kind == 3 {
@@ -135,6 +127,14 @@ fn scale(kind: u8, grade: u8) -> u8 {
             2 => 8,
             3 => 16,
             _ => 32,
+        };
+    }
+    if kind == 6 {
+        return match grade {
+            1 => 16,
+            2 => 32,
+            3 => 64,
+            _ => 128,
         };
     }
     match grade {
@@ -154,9 +154,9 @@ fn sum(z: i32, by: u8) -> i32 {
 }
 
 // The frame with the coordinates from a up to e moved.
-fn moved(frame: &[i32], a: usize, e: usize, by: u8) -> [i32; 32]
-    requires { ⌜ length (now frame) ≤ 32 ⌝ }
-    ensures { λ r. ⌜ length r ≡ 32 ⌝ }
+fn moved(frame: &[i32], a: usize, e: usize, by: u8) -> [i32; 64]
+    requires { ⌜ length (now frame) ≤ 64 ⌝ }
+    ensures { λ r. ⌜ length r ≡ 64 ⌝ }
 {
     let mut out = marks();
     let mut p: usize = 0;
@@ -195,9 +195,9 @@ fn hold_points(
     message: &[u8],
     frame: &[i32],
     energies: Energies,
-    tally: &mut [u64; 9],
+    tally: &mut [u64; 10],
 )
-    requires { ⌜ (8 ≤ length (now frame)) × (length (now frame) ≤ 32) ⌝ }
+    requires { ⌜ (8 ≤ length (now frame)) × (length (now frame) ≤ 64) ⌝ }
 {
     let n = frame.len();
     let m = scale(kind, grade);
@@ -217,27 +217,46 @@ fn hold_points(
     );
 }
 
-// The frame with its first coordinate moved out of the coding set: by 1, and by 2 where there is a level 1.
-fn hold_broken(v: u64, kind: u8, grade: u8, message: &[u8], frame: &[i32], tally: &mut [u64; 9])
-    requires { ⌜ length (now frame) ≤ 32 ⌝ }
+// The frame with its first coordinate moved: both readings answer the number.
+fn breaks(kind: u8, grade: u8, message: &[u8], frame: &[i32], by: u8, number: u8) -> bool
+    requires { ⌜ length (now frame) ≤ 64 ⌝ }
 {
     let n = frame.len();
-    let one = moved(frame, 0, 1, 1);
+    let other = moved(frame, 0, 1, by);
+    if !answers(false, kind, grade, &other[0..n], message.len(), number) {
+        return false;
+    }
+    answers(true, kind, grade, &other[0..n], message.len(), number)
+}
+
+// The frame moved out of the coding set: by 1, by 2 where there is a level 1, and by 4 where there is a level 2.
+fn hold_broken(v: u64, kind: u8, grade: u8, message: &[u8], frame: &[i32], tally: &mut [u64; 10])
+    requires { ⌜ length (now frame) ≤ 64 ⌝ }
+{
     judge(
         tally,
         v,
         tally::ONE,
-        broken(kind, grade, &one[0..n], message.len(), 7),
+        breaks(kind, grade, message, frame, 1, 7),
     );
-    if kind != 3 {
-        let two = moved(frame, 0, 1, 2);
-        judge(
-            tally,
-            v,
-            tally::TWO,
-            broken(kind, grade, &two[0..n], message.len(), 8),
-        );
+    if kind == 3 {
+        return;
     }
+    judge(
+        tally,
+        v,
+        tally::TWO,
+        breaks(kind, grade, message, frame, 2, 8),
+    );
+    if kind != 6 {
+        return;
+    }
+    judge(
+        tally,
+        v,
+        tally::FOUR,
+        breaks(kind, grade, message, frame, 4, 13),
+    );
 }
 
 // All checks of vector v.
@@ -248,7 +267,7 @@ pub fn hold(
     message: &[u8],
     frame: &[i32],
     energies: Energies,
-    tally: &mut [u64; 9],
+    tally: &mut [u64; 10],
 ) {
     judge(
         tally,
@@ -271,7 +290,7 @@ pub fn hold(
     if frame.len() < 8 {
         return;
     }
-    if 32 < frame.len() {
+    if 64 < frame.len() {
         return;
     }
     hold_points(v, kind, grade, message, frame, energies, tally);

@@ -10,7 +10,7 @@ mod tally;
 const MOST: u64 = 1000000;
 
 // Takes record after record, to the end of the file or to one that is not whole.
-fn take_all(fd: i32, tally: &mut [u64; 9]) {
+fn take_all(fd: i32, tally: &mut [u64; 10]) {
     let mut v: u64 = 0;
     while v < MOST {
         v += 1;

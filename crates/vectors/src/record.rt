@@ -15,12 +15,12 @@ fn take_frame(
     grade: u8,
     message: &[u8],
     n: usize,
-    tally: &mut [u64; 9],
+    tally: &mut [u64; 10],
 ) -> bool {
-    let mut bytes = [0u8; 128];
+    let mut bytes = [0u8; 256];
     let mut numbers = [0u8; 24];
-    let mut frame = [0i32; 32];
-    if 32 < n {
+    let mut frame = [0i32; 64];
+    if 64 < n {
         return false;
     }
     if !fill(fd, 4 * n, &mut bytes) {
@@ -40,9 +40,9 @@ fn take_frame(
 }
 
 // Takes a record from its message on.
-fn take_rest(fd: i32, v: u64, kind: u8, grade: u8, m: usize, tally: &mut [u64; 9]) -> bool {
-    let mut message = [0u8; 21];
-    if 20 < m {
+fn take_rest(fd: i32, v: u64, kind: u8, grade: u8, m: usize, tally: &mut [u64; 10]) -> bool {
+    let mut message = [0u8; 47];
+    if 46 < m {
         return false;
     }
     if !fill(fd, m + 1, &mut message) {
@@ -52,9 +52,9 @@ fn take_rest(fd: i32, v: u64, kind: u8, grade: u8, m: usize, tally: &mut [u64; 9
     take_frame(fd, v, kind, grade, &message[0..m], n, tally)
 }
 
-// Takes record v, and answers whether there was one. A record that is cut short, or has more than 20 message bytes or 32
+// Takes record v, and answers whether there was one. A record that is cut short, or has more than 46 message bytes or 64
 // coordinates, is a difference, and the last one taken.
-pub fn take(fd: i32, v: u64, tally: &mut [u64; 9]) -> bool {
+pub fn take(fd: i32, v: u64, tally: &mut [u64; 10]) -> bool {
     let mut head = [0u8; 3];
     let got = io::read_full(fd, &mut head);
     if got == 0 {

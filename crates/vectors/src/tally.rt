@@ -18,10 +18,12 @@ pub const ONE: usize = 6;
 
 pub const TWO: usize = 7;
 
-pub const DIFFERENT: usize = 8;
+pub const FOUR: usize = 8;
 
-pub fn zeros() -> [u64; 9] {
-    [0; 9]
+pub const DIFFERENT: usize = 9;
+
+pub fn zeros() -> [u64; 10] {
+    [0; 10]
 }
 
 fn write_name(check: usize) {
@@ -34,12 +36,13 @@ fn write_name(check: usize) {
         HALF => write(b"moved by a half point"),
         ONE => write(b"moved by one"),
         TWO => write(b"moved by two"),
+        FOUR => write(b"moved by four"),
         _ => write(b"different"),
     }
 }
 
-fn raise(tally: &mut [u64; 9], check: usize) {
-    if check < 9 {
+fn raise(tally: &mut [u64; 10], check: usize) {
+    if check < 10 {
         if tally[check] < 1000000 {
             tally[check] += 1;
         }
@@ -47,7 +50,7 @@ fn raise(tally: &mut [u64; 9], check: usize) {
 }
 
 // Counts a check that passed. One that did not is a difference, and has a line with the number of its vector.
-pub fn judge(tally: &mut [u64; 9], number: u64, check: usize, passed: bool) {
+pub fn judge(tally: &mut [u64; 10], number: u64, check: usize, passed: bool) {
     if passed {
         raise(tally, check);
         return;
@@ -60,8 +63,8 @@ pub fn judge(tally: &mut [u64; 9], number: u64, check: usize, passed: bool) {
     write(b"\n");
 }
 
-fn print_one(tally: &[u64; 9], check: usize) {
-    if check < 9 {
+fn print_one(tally: &[u64; 10], check: usize) {
+    if check < 10 {
         write_name(check);
         write(b" ");
         write_number(tally[check]);
@@ -70,7 +73,7 @@ fn print_one(tally: &[u64; 9], check: usize) {
 }
 
 // A line for each check.
-pub fn print(tally: &[u64; 9]) {
+pub fn print(tally: &[u64; 10]) {
     print_one(tally, RECORD);
     print_one(tally, SENT);
     print_one(tally, OPEN);
@@ -79,5 +82,6 @@ pub fn print(tally: &[u64; 9]) {
     print_one(tally, HALF);
     print_one(tally, ONE);
     print_one(tally, TWO);
+    print_one(tally, FOUR);
     print_one(tally, DIFFERENT);
 }

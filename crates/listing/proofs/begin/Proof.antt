@@ -15,7 +15,7 @@ returns : tie.Need-returns
 returns c =
     let s = c .before .before .before .args in
     let o = s .out .now in
-    let r = no-beginning (length o) (s .sheet .now) (c .if1 .taken) in
+    let r = no-beginning (length o) (s .sheet .now) (omega (arith, c .if1 .taken)) in
     (subst (λ (x : List ℕ). Put o 0 x 0 o) (r .0) (put-none o 0), (omega arith, r .1))
 
 header-requires : tie.Need-header-requires

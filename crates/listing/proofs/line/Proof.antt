@@ -15,7 +15,7 @@ returns : tie.Need-returns
 returns c =
     let s = c .before .before .before .args in
     let o = s .out .now in
-    let r = no-room (length o) (s .sheet .now) (s .p) (c .if1 .taken) in
+    let r = no-room (length o) (s .sheet .now) (s .p) (omega (arith, c .if1 .taken)) in
     (subst (λ (x : List ℕ). Put o 0 x 0 o) (r .0) (put-none o 0), (omega arith, (r .1, (λ h. h))))
 
 returns-2 : tie.Need-returns-2

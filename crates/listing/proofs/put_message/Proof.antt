@@ -22,11 +22,14 @@ use Rattle.listing.proofs.put_message.Tie as tie
 
 -- the room for a frame
 abbrev room : List ℤ
-room = replicate 32 (pos 0)
+room = replicate 64 (pos 0)
 
--- at most 32 coordinates are lent to sending, and as many as the kind has
-few : (c : tie.After-positions) → c .positions .result ≤ 32
+-- at most 64 coordinates are lent to sending, and as many as the kind has
+few : (c : tie.After-positions) → c .positions .result ≤ 64
 few c = let s = c .before .before .before in omega (arith, c .positions .ensures, few-positions (s .args .kind) (s .pre .0))
+
+array-borrow-prefix-frame : tie.Need-array-borrow-prefix-frame
+array-borrow-prefix-frame c = omega (arith, few c)
 
 room-long : (c : tie.After-positions) → length (take (c .positions .result) room) ≡ c .positions .result
 room-long c = length-take-le (c .positions .result) room (few c)
@@ -71,9 +74,6 @@ again c = let n = c .before .before .before .before .before .positions .result i
 
 positions-requires : tie.Need-positions-requires
 positions-requires c κs = search needs
-
-array-borrow-prefix-frame : tie.Need-array-borrow-prefix-frame
-array-borrow-prefix-frame c = few c
 
 slice-aggregate-send : tie.Need-slice-aggregate-send
 slice-aggregate-send c = sym (room-long (c .before))

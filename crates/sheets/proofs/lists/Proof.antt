@@ -9,13 +9,13 @@ use Rattle.sheets.proofs.lists.Statement.{statement}
 use Rattle.sheets.proofs.lists.Tie as tie
 
 abbrev Inv-loop : tie.InvT-loop
-Inv-loop fd sheet start count n out₀ at₀ p₀ out at p = length out ≡ 512
+Inv-loop fd sheet start count n out₀ at₀ p₀ out at p = length out ≡ 1024
 
 abbrev μ-loop : tie.MeasureT-loop
 μ-loop fd sheet start count n out₀ at₀ p₀ out at p = length sheet - p
 
 -- the room for a line keeps its length
-same-room : (c : tie.After-line Inv-loop μ-loop) → length (c .line .last .1 .1 .0) ≡ 512
+same-room : (c : tie.After-line Inv-loop μ-loop) → length (c .line .last .1 .1 .0) ≡ 1024
 same-room c = omega (arith, c .line .kept .1 .1 .0, c .before .before .before .loop .inv)
 
 slice-aggregate-begin : tie.Need-slice-aggregate-begin Inv-loop μ-loop

@@ -1,4 +1,4 @@
--- `moved` is safe and ends: the frame is of 32 places throughout. Assumes nothing.
+-- `moved` is safe and ends: the frame is of 64 places throughout. Assumes nothing.
 use borrow.Author.Needs.{needs}
 use Prim.Native.Nat.{_-_}
 use lib.ListN.{length}
@@ -7,7 +7,7 @@ use Rattle.vectors.proofs.checks.moved.Statement.{statement}
 use Rattle.vectors.proofs.checks.moved.Tie as tie
 
 abbrev Inv-loop : tie.InvT-loop
-Inv-loop frame a e by out₀ p₀ out p = length out ≡ 32
+Inv-loop frame a e by out₀ p₀ out p = length out ≡ 64
 
 abbrev μ-loop : tie.MeasureT-loop
 μ-loop frame a e by out₀ p₀ out p = length frame - p
