@@ -1,7 +1,7 @@
 //! Calls of the library, with what they must answer and leave, the same on every run.
 
 use crate::account::{send_counted, Account, BEGUN, FULL};
-use crate::frame::{read_open_into, read_strict_into, send, send_into, Format};
+use crate::frame::{read_open_into, read_strict_into, send, send_into, Format, GRADES, KINDS};
 use crate::random::Random;
 use crate::vectors::{dense, edge, moved_by_point, with_bits};
 
@@ -17,8 +17,8 @@ const MARK_BYTE: u8 = 0xA5;
 const MARK_COORDINATE: i64 = 77_777;
 
 /// The places that a record has for message bytes and for coordinates.
-const BYTES: usize = 24;
-const COORDINATES: usize = 36;
+const BYTES: usize = 48;
+const COORDINATES: usize = 68;
 
 /// The NaN that a sum is written as: its bits say nothing more.
 const NAN: f64 = f64::from_bits(0x7FF8_0000_0000_0000);
@@ -144,6 +144,26 @@ fn document(calls: &mut Calls) {
     }
 }
 
+/// The cases of kind 6 that are worked by hand in frame.rs.
+fn sixty_four(calls: &mut Calls) {
+    for (grade, bit) in [(1, 0), (1, 7), (1, 49), (1, 111), (1, 112), (4, 143)] {
+        let format = Format::new(6, grade).unwrap();
+        let message = with_bits(&format, &[bit]);
+        calls.send(6, grade, &message, 64);
+        calls.read(6, grade, &send(6, grade, &message).unwrap().frame, message.len());
+    }
+    for (grade, bytes) in [(1, 22), (4, 46)] {
+        for first in [1, 2, 3, 4, 5, 6, 7, -1, -2, -4] {
+            let mut frame = [0; 64];
+            frame[0] = first;
+            calls.read(6, grade, &frame, bytes);
+            frame[63] = first;
+            calls.read(6, grade, &frame, bytes);
+        }
+        calls.read(6, grade, &[4; 64], bytes);
+    }
+}
+
 /// Messages sent and read back, and read with points of the lattice added.
 fn good(calls: &mut Calls, kind: u8, grade: u8, random: &mut Random) {
     let format = Format::new(kind, grade).unwrap();
@@ -158,7 +178,7 @@ fn good(calls: &mut Calls, kind: u8, grade: u8, random: &mut Random) {
     }
 }
 
-/// Frames at the ends of the open reading and past them, and with a level broken.
+/// Frames at the ends of the open reading and past them.
 fn ends(calls: &mut Calls, kind: u8, grade: u8, random: &mut Random) {
     let format = Format::new(kind, grade).unwrap();
     let (m, n) = (format.message_bytes(), format.length());
@@ -169,12 +189,24 @@ fn ends(calls: &mut Calls, kind: u8, grade: u8, random: &mut Random) {
         calls.read(kind, grade, &frame, m);
         frame[place] += end.signum();
         calls.read(kind, grade, &frame, m);
+        // With every level broken beside it.
+        frame[place ^ 1] = 7;
+        calls.read(kind, grade, &frame, m);
         calls.read(kind, grade, &vec![end; n], m);
     }
-    for by in [1, 2, 3, 1026] {
+}
+
+/// Frames with levels broken: one coordinate moved, or two.
+fn broken(calls: &mut Calls, kind: u8, grade: u8, random: &mut Random) {
+    let format = Format::new(kind, grade).unwrap();
+    let one = [1, -1, 2, -2, 3, 4, -4, 6, 1026].map(|by| (by, 0));
+    let two = [(1, 1), (2, 2), (4, 4), (2, 1), (4, 1), (4, 2)];
+    for (by, beside) in one.into_iter().chain(two) {
         let mut frame = send(kind, grade, &dense(&format, random)).unwrap().frame;
-        frame[random.below(n as u64) as usize] += by;
-        calls.read(kind, grade, &frame, m);
+        let place = random.below(format.length() as u64) as usize;
+        frame[place] += by;
+        frame[place ^ 1] += beside;
+        calls.read(kind, grade, &frame, format.message_bytes());
     }
 }
 
@@ -203,15 +235,18 @@ fn lengths(calls: &mut Calls, kind: u8, grade: u8) {
 
 /// Wrong kinds and grades, with everything that is tested later wrong too, and with nothing else wrong.
 fn wrong(calls: &mut Calls) {
-    let kinds = [0, 1, 2, 6, 7, 131, 255].map(|kind| (kind, 0));
-    let grades = [0, 5, 6, 129, 255].map(|grade| (4, grade));
+    let kinds = [0, 1, 2, 7, 8, 131, 134, 255].map(|kind| (kind, 0));
+    let grades = [0, 5, 6, 129, 255];
+    let grades = grades.map(|grade| (4, grade)).into_iter().chain(grades.map(|grade| (6, grade)));
     for (kind, grade) in kinds.into_iter().chain(kinds.map(|(kind, _)| (kind, 1))).chain(grades) {
         calls.send(kind, grade, &[0xFF; 7], 15);
         calls.read(kind, grade, &[1_048_577; 15], 7);
         calls.count(kind, grade, &[0xFF; 7], 15, Account { count: u32::MAX, sum: 0.1 });
-        calls.send(kind, grade, &[0; 5], 16);
-        calls.read(kind, grade, &[0; 16], 5);
-        calls.count(kind, grade, &[0; 5], 16, NONE);
+        // The lengths of a kind and grade that there are.
+        let (m, n) = if kind < 6 { (5, 16) } else { (22, 64) };
+        calls.send(kind, grade, &vec![0; m], n);
+        calls.read(kind, grade, &vec![0; n], m);
+        calls.count(kind, grade, &vec![0; m], n, NONE);
     }
 }
 
@@ -222,7 +257,7 @@ fn elsewhere(calls: &mut Calls, random: &mut Random) {
     let ends = [f64::MAX, f64::INFINITY, f64::NEG_INFINITY, NAN];
     for (i, count) in counts.into_iter().enumerate() {
         for (j, sum) in sums.into_iter().chain(ends).enumerate() {
-            let (kind, grade) = (3 + ((i + j) % 3) as u8, 1 + (i % 4) as u8);
+            let (kind, grade) = (3 + ((i + j) % 4) as u8, 1 + (i % 4) as u8);
             let format = Format::new(kind, grade).unwrap();
             let account = Account { count, sum };
             calls.count(kind, grade, &dense(&format, random), format.length(), account);
@@ -230,7 +265,7 @@ fn elsewhere(calls: &mut Calls, random: &mut Random) {
             let mut spare = with_bits(&format, &[]);
             *spare.last_mut().unwrap() |= 0x80;
             match (i + j) % 5 {
-                0 => calls.count(6, grade, &spare, format.length(), account),
+                0 => calls.count(7, grade, &spare, format.length(), account),
                 1 => calls.count(kind, 5, &spare, format.length(), account),
                 2 => calls.count(kind, grade, &spare[1..], format.length(), account),
                 3 => calls.count(kind, grade, &spare, format.length() - 1, account),
@@ -243,11 +278,11 @@ fn elsewhere(calls: &mut Calls, random: &mut Random) {
 /// An account grown from the beginning, with refused calls between.
 fn grown(calls: &mut Calls, random: &mut Random) {
     let mut account = BEGUN;
-    for round in 0..60 {
-        let (kind, grade) = (3 + (round % 3) as u8, 1 + (round / 3 % 4) as u8);
+    for round in 0..64 {
+        let (kind, grade) = (3 + (round % 4) as u8, 1 + (round / 4 % 4) as u8);
         let format = Format::new(kind, grade).unwrap();
         account = calls.count(kind, grade, &dense(&format, random), format.length(), account);
-        if round % 4 == 0 {
+        if round % 5 == 0 {
             account = calls.count(kind, 0, &dense(&format, random), format.length(), account);
         }
     }
@@ -260,10 +295,12 @@ fn calls() -> Vec<Call> {
     let lent = Lent { message: Vec::new(), frame: Vec::new(), account: NONE };
     calls.0.push(Call { function: BEGIN, kind: 0, grade: 0, lent });
     document(&mut calls);
-    for kind in 3..=5 {
-        for grade in 1..=4 {
+    sixty_four(&mut calls);
+    for kind in KINDS {
+        for grade in GRADES {
             good(&mut calls, kind, grade, random);
             ends(&mut calls, kind, grade, random);
+            broken(&mut calls, kind, grade, random);
             spare(&mut calls, kind, grade, random);
             lengths(&mut calls, kind, grade);
         }
@@ -275,8 +312,8 @@ fn calls() -> Vec<Call> {
 }
 
 /// All calls in the format of README.md, how many there are of each function, and how many are answered by each number.
-pub fn call_file() -> (Vec<u8>, [usize; 5], [usize; 12]) {
-    let (mut functions, mut numbers) = ([0; 5], [0; 12]);
+pub fn call_file() -> (Vec<u8>, [usize; 5], [usize; 14]) {
+    let (mut functions, mut numbers) = ([0; 5], [0; 14]);
     let calls = calls();
     for call in &calls {
         functions[call.function as usize] += 1;
@@ -292,7 +329,8 @@ mod tests {
     #[test]
     fn records_have_one_size_and_every_number_comes() {
         let (file, functions, numbers) = call_file();
-        assert_eq!(file.len(), functions.iter().sum::<usize>() * 376);
-        assert!(numbers[..10].iter().all(|count| *count > 0) && numbers[11] > 0);
+        assert_eq!(file.len(), functions.iter().sum::<usize>() * 680);
+        // 10 and 12 are refusals of a sheet.
+        assert!((0..14).all(|number| (numbers[number] > 0) != [10, 12].contains(&number)));
     }
 }

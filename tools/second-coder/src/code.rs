@@ -47,6 +47,25 @@ mod tests {
         assert_eq!(dimension(1, 3), 4);
         assert_eq!((dimension(1, 4), dimension(3, 4)), (5, 15));
         assert_eq!((dimension(1, 5), dimension(3, 5)), (6, 26));
+        assert_eq!((dimension(1, 6), dimension(3, 6), dimension(5, 6)), (7, 42, 63));
+    }
+
+    /// Codewords of every code of lengths 8 to 64 give their message bits back, and with one value changed are not in the code.
+    #[test]
+    fn message_bits_come_back() {
+        let mut random = crate::random::Random::new(8);
+        for m in 3..=6u32 {
+            for r in 1..m {
+                for _ in 0..20 {
+                    let bits: Vec<bool> = masks(r, m).iter().map(|_| random.one_in(2)).collect();
+                    let mut word = codeword(&bits, r, m);
+                    assert_eq!(message_bits(&word, r, m), Some(bits));
+                    let p = random.below(1 << m) as usize;
+                    word[p] = !word[p];
+                    assert_eq!(message_bits(&word, r, m), None);
+                }
+            }
+        }
     }
 
     /// Membership by the other rule of document 01: the bits of all masks above weight r are 0.

@@ -1,7 +1,16 @@
 //! Kinds and grades, sending, the two readings.
 
+use std::ops::RangeInclusive;
+
 use crate::class::{self, Block};
 use crate::{code, refusal};
+
+/// The kinds and the grades that there are.
+pub const KINDS: RangeInclusive<u8> = 3..=6;
+pub const GRADES: RangeInclusive<u8> = 1..=4;
+
+/// The refusal for each level that is not a codeword.
+const BROKEN: [u8; 3] = [refusal::BROKEN_LEVEL_0, refusal::BROKEN_LEVEL_1, refusal::BROKEN_LEVEL_2];
 
 /// What a kind and a grade fix.
 #[derive(Clone, Copy, Debug)]
@@ -18,9 +27,10 @@ impl Format {
         let levels: &[u32] = match kind {
             3 => &[1],
             4 | 5 => &[1, 3],
+            6 => &[1, 3, 5],
             _ => return Err(refusal::KIND),
         };
-        if !(1..=4).contains(&grade) {
+        if !GRADES.contains(&grade) {
             return Err(refusal::GRADE);
         }
         Ok(Format { m: kind as u32, levels, grade: grade as usize })
@@ -174,8 +184,7 @@ pub fn read_open_into(kind: u8, grade: u8, frame: &[i64], bytes: usize) -> Resul
     let mut rest = frame.to_vec();
     for (level, &r) in format.levels.iter().enumerate() {
         let word: Vec<bool> = rest.iter().map(|x| x.rem_euclid(2) == 1).collect();
-        let broken = [refusal::BROKEN_LEVEL_0, refusal::BROKEN_LEVEL_1][level];
-        bits.extend(code::message_bits(&word, r, format.m).ok_or(broken)?);
+        bits.extend(code::message_bits(&word, r, format.m).ok_or(BROKEN[level])?);
         for (x, &value) in rest.iter_mut().zip(&word) {
             *x = (*x - value as i64) / 2;
         }
@@ -230,6 +239,8 @@ mod tests {
             assert_eq!((format(3).message_bits(), format(3).message_bytes()), (4 + 8 * b, b + 1));
             assert_eq!((format(4).message_bits(), format(4).message_bytes()), (20 + 16 * b, 2 * b + 3));
             assert_eq!((format(5).message_bits(), format(5).message_bytes()), (32 + 32 * b, 4 * b + 4));
+            assert_eq!((format(6).message_bits(), format(6).message_bytes()), (112 + 64 * b, 8 * b + 14));
+            assert_eq!((format(6).length(), format(6).scale()), (64, 8 << b));
         }
     }
 
@@ -265,6 +276,55 @@ mod tests {
         }
     }
 
+    /// A message of kind 6 with one bit set.
+    fn one_bit(grade: u8, k: usize) -> Vec<u8> {
+        let mut message = vec![0; Format::new(6, grade).unwrap().message_bytes()];
+        message[k / 8] = 1 << (k % 8);
+        message
+    }
+
+    /// 64 coordinates, all 0 but the first ones.
+    fn begun(first: &[i64]) -> Vec<i64> {
+        let mut frame = first.to_vec();
+        frame.resize(64, 0);
+        frame
+    }
+
+    #[test]
+    fn frames_of_kind_6() {
+        assert_eq!(sent(6, 1, &one_bit(1, 0)), (vec![1; 64], 64));
+        assert_eq!(sent(6, 1, &one_bit(1, 7)), (vec![2; 64], 256));
+        assert_eq!(sent(6, 1, &one_bit(1, 49)), (vec![-4; 64], 1024));
+        let mut last = vec![0; 64];
+        last[62..].fill(4);
+        assert_eq!(sent(6, 1, &one_bit(1, 111)), (last, 32));
+        assert_eq!(sent(6, 1, &one_bit(1, 112)), (begun(&[0, 8]), 64));
+        assert_eq!(one_bit(1, 112)[14], 1);
+        assert_eq!(sent(6, 4, &one_bit(4, 143)), (begun(&[-128]), 16_384));
+    }
+
+    #[test]
+    fn readings_of_kind_6() {
+        for grade in 1..=4 {
+            for (first, number) in [(1, 7), (2, 8), (3, 7), (4, 13), (5, 7), (6, 8), (7, 7), (-1, 7), (-2, 8), (-4, 13)]
+            {
+                assert_eq!(read_open(6, grade, &begun(&[first])), Err(number));
+                assert_eq!(read_strict(6, grade, &begun(&[first])), Err(number));
+            }
+            // Two coordinates moved by 4 are at squared distance 32, and of the coding set again.
+            assert_eq!(read_strict(6, grade, &begun(&[4, 4])).unwrap().1, 32);
+        }
+        assert_eq!(read_open(6, 1, &[4; 64]), Ok((one_bit(1, 49), 1024)));
+        assert_eq!(read_strict(6, 1, &[4; 64]), Err(refusal::UNSHAPED));
+        for end in [-1_048_576, 1_048_576] {
+            assert_eq!(read_open(6, 4, &[end; 64]), Ok((vec![0; 46], 1 << 46)));
+            assert_eq!(read_strict(6, 4, &[end; 64]), Err(refusal::UNSHAPED));
+            let past = begun(&[4, end + end.signum()]);
+            assert_eq!(read_open(6, 4, &past), Err(refusal::OVER_RANGE));
+            assert_eq!(read_strict(6, 4, &past), Err(refusal::OVER_RANGE));
+        }
+    }
+
     #[test]
     fn order_of_refusals() {
         assert_eq!(send_into(2, 0, &[0; 9], 9).err(), Some(refusal::KIND));
@@ -273,7 +333,7 @@ mod tests {
         assert_eq!(send_into(3, 1, &[255; 2], 9).err(), Some(refusal::FRAME_LENGTH));
         assert_eq!(send_into(3, 1, &[255; 2], 8).err(), Some(refusal::SPARE_BITS));
         let far = 1_048_577;
-        assert_eq!(read_open_into(6, 9, &[far; 9], 9), Err(refusal::KIND));
+        assert_eq!(read_open_into(7, 9, &[far; 9], 9), Err(refusal::KIND));
         assert_eq!(read_open_into(4, 5, &[far; 9], 9), Err(refusal::GRADE));
         assert_eq!(read_open_into(4, 1, &[far; 9], 9), Err(refusal::FRAME_LENGTH));
         assert_eq!(read_open_into(4, 1, &[far; 16], 9), Err(refusal::MESSAGE_LENGTH));
@@ -283,6 +343,12 @@ mod tests {
         assert_eq!(read_open_into(4, 1, &frame, 5), Err(refusal::BROKEN_LEVEL_0));
         frame[0] = 2;
         assert_eq!(read_open_into(4, 1, &frame, 5), Err(refusal::BROKEN_LEVEL_1));
+        assert_eq!(send_into(6, 1, &[255; 46], 63).err(), Some(refusal::MESSAGE_LENGTH));
+        assert_eq!(send_into(6, 4, &[255; 46], 63).err(), Some(refusal::FRAME_LENGTH));
+        assert_eq!(read_open_into(6, 5, &[far; 63], 9), Err(refusal::GRADE));
+        assert_eq!(read_open_into(6, 4, &[far; 63], 9), Err(refusal::FRAME_LENGTH));
+        assert_eq!(read_open_into(6, 4, &[far; 64], 9), Err(refusal::MESSAGE_LENGTH));
+        assert_eq!(read_open_into(6, 4, &[far; 64], 46), Err(refusal::OVER_RANGE));
     }
 
     #[test]
@@ -298,7 +364,7 @@ mod tests {
     fn messages_come_back_and_lattice_points_do_not_change_them() {
         let mut random = Random::new(1);
         for round in 0..1200 {
-            let (kind, grade) = (3 + (round % 3) as u8, 1 + (round / 3 % 4) as u8);
+            let (kind, grade) = (3 + (round % 4) as u8, 1 + (round / 4 % 4) as u8);
             let format = Format::new(kind, grade).unwrap();
             let message = crate::vectors::dense(&format, &mut random);
             let sent = send(kind, grade, &message).unwrap();

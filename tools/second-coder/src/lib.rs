@@ -26,4 +26,5 @@ pub mod refusal {
     pub const MARK: u8 = 10;
     pub const ACCOUNT_FULL: u8 = 11;
     pub const LONG_SHEET: u8 = 12;
+    pub const BROKEN_LEVEL_2: u8 = 13;
 }

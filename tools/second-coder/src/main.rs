@@ -23,8 +23,9 @@ fn write_files() -> std::io::Result<()> {
     let vectors: usize = counts.iter().map(|count| count.vectors).sum();
     let tied: usize = counts.iter().map(|count| count.tied).sum();
     println!("\nvectors.bin: {vectors} vectors, {tied} with ties, {} bytes", file.len());
-    // A frame moved by two is a question at kinds with a second level alone.
-    let second: usize = counts.iter().filter(|count| count.kind > 3).map(|count| count.vectors).sum();
+    // A frame moved by two is a question at kinds with a second level alone, and by four at those with a third.
+    let from = |kind| counts.iter().filter(|count| count.kind >= kind).map(|count| count.vectors).sum::<usize>();
+    let (two, four) = (from(4), from(6));
     let checks = [
         "vectors",
         "sent",
@@ -35,7 +36,8 @@ fn write_files() -> std::io::Result<()> {
         "moved by one",
     ];
     let printed: String = checks.iter().map(|check| format!("{check} {vectors}\n")).collect();
-    std::fs::write(crates("vectors/stdout"), format!("{printed}moved by two {second}\ndifferent 0\n"))?;
+    let printed = format!("{printed}moved by two {two}\nmoved by four {four}\ndifferent 0\n");
+    std::fs::write(crates("vectors/stdout"), printed)?;
     let sheets = vectors::sheet_file();
     std::fs::write(crates("sheets/data/sheets.bin"), &sheets)?;
     let count = vectors::sheets().len();

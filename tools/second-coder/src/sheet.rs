@@ -1,6 +1,6 @@
 //! The sheet program's listing, as document 01 has it.
 
-use crate::frame::{self, Format};
+use crate::frame::{self, Format, KINDS};
 use crate::refusal;
 
 pub const HEADER: &str = "kind grade energy frame\n";
@@ -11,7 +11,7 @@ pub const MARK: [u8; 2] = [0x4C, 0x43];
 fn record(sheet: &[u8]) -> Result<(String, &[u8]), u8> {
     let rest = sheet.strip_prefix(&MARK).ok_or(refusal::MARK)?;
     let (&kind, rest) = rest.split_first().ok_or(refusal::MESSAGE_LENGTH)?;
-    if !matches!(kind, 3..=5) {
+    if !KINDS.contains(&kind) {
         return Err(refusal::KIND);
     }
     let (&grade, rest) = rest.split_first().ok_or(refusal::MESSAGE_LENGTH)?;
@@ -62,9 +62,10 @@ mod tests {
         assert_eq!(ends(&[0x4C]), "refused 10\n");
         assert_eq!(ends(&[0x4C, 0x44, 3, 1, 0, 0]), "refused 10\n");
         assert_eq!(ends(&[0x4C, 0x43]), "refused 3\n");
-        assert_eq!(ends(&[0x4C, 0x43, 6]), "refused 1\n");
-        assert_eq!(ends(&[0x4C, 0x43, 6, 9]), "refused 1\n");
+        assert_eq!(ends(&[0x4C, 0x43, 7]), "refused 1\n");
+        assert_eq!(ends(&[0x4C, 0x43, 7, 9]), "refused 1\n");
         assert_eq!(ends(&[0x4C, 0x43, 3]), "refused 3\n");
+        assert_eq!(ends(&[0x4C, 0x43, 6]), "refused 3\n");
         assert_eq!(ends(&[0x4C, 0x43, 3, 0]), "refused 2\n");
         assert_eq!(ends(&[0x4C, 0x43, 3, 1]), "refused 3\n");
         assert_eq!(ends(&[0x4C, 0x43, 3, 1, 0]), "refused 3\n");

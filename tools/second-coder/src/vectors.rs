@@ -4,7 +4,7 @@ use std::collections::HashSet;
 use std::ops::Range;
 
 use crate::class::{twice_e8, Block};
-use crate::frame::{read_open, read_strict, send, Format};
+use crate::frame::{read_open, read_strict, send, Format, GRADES, KINDS};
 use crate::random::Random;
 use crate::refusal;
 use crate::sheet::{listing, LONGEST, MARK};
@@ -12,7 +12,7 @@ use crate::sheet::{listing, LONGEST, MARK};
 /// How many messages of each sort a kind and grade gets, besides each single bit and all zeros.
 const PAIRS: usize = 50;
 const DENSE: usize = 80;
-const TIED: usize = 80;
+const TIED: usize = 200;
 
 /// A message with every bit random.
 pub fn dense(format: &Format, random: &mut Random) -> Vec<u8> {
@@ -142,8 +142,8 @@ pub struct Count {
 pub fn vectors() -> (Vec<u8>, Vec<Count>) {
     let mut random = Random::new(1);
     let (mut file, mut counts) = (Vec::new(), Vec::new());
-    for kind in 3..=5 {
-        for grade in 1..=4 {
+    for kind in KINDS {
+        for grade in GRADES {
             let mut count = Count { kind, grade, vectors: 0, tied: 0, most: 1 };
             for message in messages(kind, grade, &mut random) {
                 let sent = send(kind, grade, &message).unwrap();
@@ -182,7 +182,7 @@ pub fn record_of(kind: u8, grade: u8, random: &mut Random) -> Vec<u8> {
 
 /// A good record of any kind and grade.
 pub fn record(random: &mut Random) -> Vec<u8> {
-    let (kind, grade) = (3 + random.below(3) as u8, 1 + random.below(4) as u8);
+    let (kind, grade) = (3 + random.below(4) as u8, 1 + random.below(4) as u8);
     record_of(kind, grade, random)
 }
 
@@ -192,10 +192,11 @@ pub fn records(count: usize, random: &mut Random) -> Vec<u8> {
 }
 
 /// A sheet of so many bytes, all good records: filled up at random, then to the last byte with
-/// records of kind 3, which have 6 to 9 bytes (12 and more are always a sum of such).
+/// records of kind 3, which have 6 to 9 bytes (12 and more are always a sum of such). No record has
+/// more than 50 bytes, so 12 or more are left.
 pub fn full(length: usize, random: &mut Random) -> Vec<u8> {
     let mut sheet = Vec::new();
-    while length - sheet.len() > 60 {
+    while length - sheet.len() >= 62 {
         sheet.extend(record(random));
     }
     while length > sheet.len() {
@@ -217,26 +218,28 @@ pub fn sheets() -> Vec<Vec<u8>> {
     let example = vec![0x4C, 0x43, 3, 1, 0, 8, 0x4C, 0x43, 3, 1, 2, 0, 0x4C, 0x43, 3, 5];
     let mut all = vec![vec![], example];
     // One record of each kind and grade, and a sheet of them all.
-    for kind in 3..=5 {
-        for grade in 1..=4 {
+    for kind in KINDS {
+        for grade in GRADES {
             all.push(record_of(kind, grade, random));
         }
     }
     all.push(all[2..].concat());
     all.push(records(40, random));
     // A sheet cut short at each place of its last record.
-    for (kind, grade) in [(3, 1), (4, 2), (5, 1)] {
+    for (kind, grade) in [(3, 1), (4, 2), (5, 1), (6, 1), (6, 4)] {
         let (before, last) = (records(2, random), record_of(kind, grade, random));
         all.extend((0..last.len()).map(|end| [&before, &last[..end]].concat()));
     }
     // A wrong kind or grade, with and without bytes after it.
-    for wrong in [0, 1, 2, 6, 7, 0x43, 0x80, 0xFF] {
+    for wrong in [0, 1, 2, 7, 8, 0x43, 0x80, 0x86, 0xFF] {
         for bytes in [vec![wrong], vec![wrong, 1, 0, 0], vec![wrong, 9], vec![4, wrong | 8], vec![3, wrong | 8, 0, 0]] {
             all.push([record(random), MARK.to_vec(), bytes].concat());
         }
     }
-    all.push([MARK.to_vec(), vec![5, 0]].concat());
-    all.push([MARK.to_vec(), vec![5, 5]].concat());
+    for kind in 5..=6 {
+        all.push([MARK.to_vec(), vec![kind, 0]].concat());
+        all.push([MARK.to_vec(), vec![kind, 5]].concat());
+    }
     // A wrong mark: each byte of it, swapped, and a byte left between records.
     for mark in [[0x4C, 0x44], [0x4D, 0x43], [0x43, 0x4C], [0x4C, 0x4C], [0, 0], [0xFF, 0xFF]] {
         all.push([record(random), mark.to_vec(), vec![3, 1, 0, 0]].concat());
@@ -253,16 +256,21 @@ pub fn sheets() -> Vec<Vec<u8>> {
         }
     }
     // Near the longest sheet: full of good records; damaged in its last byte; cut short; full of
-    // the shortest records; a byte or a record too long; nothing good.
+    // the shortest records, and of those with the longest listing; a byte or a record too long; nothing good.
     let longest = full(LONGEST, random);
     all.push(longest.clone());
     let mut spare = full(LONGEST - 6, random);
     spare.extend([0x4C, 0x43, 3, 1, 0, 0xF0]);
     all.push(spare);
     all.push(longest[..LONGEST - 1].to_vec());
-    let mut shortest: Vec<u8> = (0..LONGEST / 6).flat_map(|_| record_of(3, 1, random)).collect();
-    shortest.extend(&MARK[..LONGEST % 6]);
-    all.push(shortest);
+    for kind in [3, 6] {
+        let mut sheet = Vec::new();
+        while sheet.len() < LONGEST {
+            sheet.extend(record_of(kind, 1, random));
+        }
+        sheet.truncate(LONGEST);
+        all.push(sheet);
+    }
     all.push([longest.clone(), vec![0x4C]].concat());
     all.push([longest, record(random)].concat());
     all.push(vec![0; LONGEST]);
@@ -274,7 +282,7 @@ pub fn sheets() -> Vec<Vec<u8>> {
     // A record refused by each number, with good records after it wherever one might go on.
     let after = records(3, random);
     for bad in
-        [&[0x4C, 0x43, 6, 1][..], &[0x4C, 0x43, 2, 1], &[0x4C, 0x43, 3, 5], &[0x4C, 0x43, 4, 0], &[0x4C, 0x44, 3, 1]]
+        [&[0x4C, 0x43, 7, 1][..], &[0x4C, 0x43, 2, 1], &[0x4C, 0x43, 3, 5], &[0x4C, 0x43, 4, 0], &[0x4C, 0x44, 3, 1]]
     {
         for filler in [0, 2] {
             all.push([&records(1, random), bad, &[0, 0][..filler], &after].concat());
@@ -286,7 +294,8 @@ pub fn sheets() -> Vec<Vec<u8>> {
     // Cut short, with bytes in its message that would be good records.
     for count in 1..=2 {
         let inner: Vec<u8> = (0..count).flat_map(|_| record_of(3, 1, random)).collect();
-        all.push([record(random), vec![0x4C, 0x43, 5, 4], inner].concat());
+        all.push([record(random), vec![0x4C, 0x43, 5, 4], inner.clone()].concat());
+        all.push([record(random), vec![0x4C, 0x43, 6, 4], inner].concat());
     }
     // Random bytes, and good sheets with one byte changed.
     for length in [1, 2, 3, 5, 16, 100, 1000] {
@@ -351,7 +360,7 @@ pub fn random_sheet(random: &mut Random) -> Vec<u8> {
             // A good record or two, then a mark and random bytes, the first near the kinds.
             let mut sheet = records(count % 3, random);
             sheet.extend(MARK);
-            sheet.extend((0..2).map(|_| random.below(8) as u8));
+            sheet.extend((0..2).map(|_| random.below(9) as u8));
             sheet.extend((0..count).map(|_| random.byte()));
             sheet
         }
@@ -372,7 +381,7 @@ mod tests {
     #[test]
     fn full_sheets_are_full_and_good() {
         let mut random = Random::new(3);
-        for length in LONGEST - 50..=LONGEST {
+        for length in LONGEST - 60..=LONGEST {
             let sheet = full(length, &mut random);
             assert_eq!(sheet.len(), length);
             assert!(!listing(&sheet).contains("refused"));
