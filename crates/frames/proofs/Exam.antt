@@ -1,12 +1,14 @@
--- The table of kinds of document 01 and request E1, the leader's terms, the exam frames and the further cases are met, and the tests are made
--- in their order: all by computing. Assumes nothing.
-use Prim.Native.Nat.{ℕ, _+_, _*_}
+-- The table of kinds of document 01 and request E1, the leader's terms, the coding set of kind 6, the exam frames and the further cases are met,
+-- and the tests are made in their order: all by computing. Assumes nothing.
+use Prim.Native.Nat.{ℕ, zero, suc, _+_, _*_, _<_}
 use mathlib.Core.Path.{_≡_, refl}
 use mathlib.Core.Bool.{true, false, _||_, or-false}
 use mathlib.Core.List.{List, [], _∷_, map}
 use native.Mathlib.Omega.{arith}
 use lib.Count.{ones}
 use lib.Dec.{eqb}
+use lib.IntN.{ℤ}
+use lib.ListN.{getD}
 use Rattle.bits.specs.Number.{sumTo, table}
 use Rattle.reed_muller.specs.Level.{ofWeight, masks, order, dimension, codeword, backwards, clearAbove, belongs}
 use Rattle.bits.specs.Message.{messageBit, byteOf, bytesOf}
@@ -16,12 +18,12 @@ use Rattle.e8.specs.Least.{cent, better, best, leastBlock, leastFrame}
 use Rattle.e8.specs.Rows.{reduced}
 use Rattle.frames.specs.Kind.{kinds, isKind, isGrade, degrees, levels, levelBits, messageBits, messageBytes}
 use Rattle.frames.specs.Message.{numbers, blockNumbers, stacked, coordinate, leader}
-use Rattle.frames.specs.Frame.{weightBit, half, sentFrame}
+use Rattle.frames.specs.Frame.{weightBit, levelWord, half, sentFrame}
 use Rattle.frames.specs.Sending.{anySet, spareSet, sendRefusal}
 use Rattle.frames.specs.Reading.{levelMessage, levelMessages, quotients, digits, allDigits, blockMessages, readBits, openMessage}
 use Rattle.frames.specs.Reading.{sameFrame, inRange, broken, openRefusal, isSent, strictRefusal}
 use Rattle.frames.specs.Exam.{printed, AllPrinted, levelAt, numberAt, Leader, exams, sentAs, examined, layout}
-use Rattle.frames.specs.Exam.{FurtherCases, SendingTests, ReadingTests, KindSixTests}
+use Rattle.frames.specs.Exam.{SixCodewords, CodingSetOfSix, FurtherCases, SendingTests, ReadingTests, KindSixTests}
 
 -- the kinds are those printed: 3, 4, 5, 6 and no other
 pub kinds-are : (k : ℕ) → isKind k ≡ (eqb k 3 || (eqb k 4 || (eqb k 5 || eqb k 6)))
@@ -62,6 +64,24 @@ leader-terms b bytes p = record {
 
     four : (c₀ c₁ c₂ s : ℕ) → c₀ + 2 * (c₁ + 2 * (c₂ + 2 * s)) ≡ c₀ + 2 * c₁ + 4 * c₂ + 8 * s
     four c₀ c₁ c₂ s = omega arith
+
+pub coding-set-of-six : (f : List ℤ) → CodingSetOfSix f
+unfolding weightBit levels degrees kinds
+coding-set-of-six f = record {
+  codewords = λ set. record {
+    long = set .long;
+    weight-1 = set .codewords 0 (omega arith);
+    weight-2 = set .codewords 1 (omega arith);
+    weight-4 = set .codewords 2 (omega arith);
+  };
+  inside = λ six. record { long = six .long; codewords = each six };
+}
+  where
+    each : SixCodewords f → (i : ℕ) → i < 3 → belongs (getD (1 ∷ 3 ∷ 5 ∷ []) i 0) 6 (levelWord i f) ≡ true
+    each six zero h = six .weight-1
+    each six (suc zero) h = six .weight-2
+    each six (suc (suc zero)) h = six .weight-4
+    each six (suc (suc (suc i))) h = absurd (omega arith)
 
 -- each message is sent as its frame, with its energy
 pub exam-frames : map sentAs exams ≡ map examined exams

@@ -1,17 +1,19 @@
--- What document 01, and request E1 for kind 6, print, to be met by the definitions: the table of kinds, the leader's terms, the exam frames,
--- the further cases, the order of tests. Assumes nothing.
+-- What document 01, and request E1 for kind 6, print, to be met by the definitions: the table of kinds, the leader's terms, the
+-- coding set of kind 6, the exam frames, the further cases, the order of tests. Assumes nothing.
 use Prim.Native.Nat.{ℕ, _+_, _-_, _*_, _/_, _%_, _^_}
 use mathlib.Core.Path.{_≡_}
+use mathlib.Core.Bool.{true}
 use mathlib.Core.List.{List, [], _∷_, _++_}
 use lib.IntN.{ℤ, pos, negℤ}
-use lib.ListN.{getD, replicate}
+use lib.ListN.{length, getD, replicate}
+use Rattle.integers.specs.Integer.{modZ}
 use Rattle.bits.specs.Message.{messageBit}
-use Rattle.reed_muller.specs.Level.{codeword}
+use Rattle.reed_muller.specs.Level.{codeword, belongs}
 use Rattle.e8.specs.Energy.{energy}
 use Rattle.e8.specs.Rows.{ints}
 use Rattle.frames.specs.Kind.{degrees, levels, messageBits, messageBytes}
 use Rattle.frames.specs.Message.{widths, numbers, coordinate}
-use Rattle.frames.specs.Frame.{sentFrame, leastDistance}
+use Rattle.frames.specs.Frame.{InCodingSet, sentFrame, leastDistance}
 use Rattle.frames.specs.Sending.{sendRefusal}
 use Rattle.frames.specs.Reading.{openMessage, openRefusal, strictRefusal}
 
@@ -68,6 +70,25 @@ pub record Leader (b : ℕ) (bytes : List ℕ) (p : ℕ) : Type 0 where
   pub kind-4 : coordinate 4 b bytes p ≡ levelAt 4 1 0 bytes p + 2 * levelAt 4 3 5 bytes p + 4 * numberAt 20 b bytes p
   pub kind-5 : coordinate 5 b bytes p ≡ levelAt 5 1 0 bytes p + 2 * levelAt 5 3 6 bytes p + 4 * numberAt 32 b bytes p
   pub kind-6 : coordinate 6 b bytes p ≡ levelAt 6 1 0 bytes p + 2 * levelAt 6 3 7 bytes p + 4 * levelAt 6 5 49 bytes p + 8 * numberAt 112 b bytes p
+
+-- ---- the coding set of kind 6
+
+-- the bits of a weight, 1, 2 or 4, of a frame's coordinates, by position: from remainders modulo 2, 4 or 8, which are never negative
+abbrev pub bitsOf : ℕ → List ℤ → ℕ → ℕ
+bitsOf weight f p = modZ (getD f p (pos 0)) (2 * weight) / weight
+
+-- "The coding set of a kind is every integer frame of length n whose bits of weight 1 (and, with two levels, of weight 2) form codewords of
+-- their levels", and of kind 6 "its bits of weight 4"
+pub record SixCodewords (f : List ℤ) : Type 0 where
+  pub long : length f ≡ 64
+  pub weight-1 : belongs 1 6 (bitsOf 1 f) ≡ true
+  pub weight-2 : belongs 3 6 (bitsOf 2 f) ≡ true
+  pub weight-4 : belongs 5 6 (bitsOf 4 f) ≡ true
+
+-- and these are exactly the frames of the coding set
+pub record CodingSetOfSix (f : List ℤ) : Type 0 where
+  pub codewords : InCodingSet 6 f → SixCodewords f
+  pub inside : SixCodewords f → InCodingSet 6 f
 
 -- ---- the exam frames
 

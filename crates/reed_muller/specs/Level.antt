@@ -1,6 +1,7 @@
 -- Level codes: masks and their order, codewords of RM(r,m), the way back, and which words belong to the code.
--- Clients cite liesIn, weight, masks, order, place, dimension, codeword, backwards, belongs, and Tabled. Assumes nothing.
-use Prim.Native.Nat.{ℕ, zero, suc, _%_, _^_, _≤_}
+-- Clients cite liesIn, weight, masks, order, place, dimension, codeword, backwards, belongs, Turning, and Tabled. Assumes nothing.
+use Prim.Native.Nat.{ℕ, zero, suc, _%_, _^_, _≤_, _<_}
+use mathlib.Core.Path.{_≡_}
 use mathlib.Core.Bool.{Bool, true, false, _&&_, _||_}
 use mathlib.Core.List.{List, [], _∷_, _++_}
 use lib.Dec.{eqb, leb}
@@ -67,6 +68,13 @@ clearAbove r bit (suc n) = clearAbove r bit n && (leb (weight n) r || eqb (bit n
 unfoldable pub belongs : ℕ → ℕ → (ℕ → ℕ) → Bool
 unfolding clearAbove backwards
 belongs r m value = clearAbove r (backwards m value) (2 ^ m)
+
+-- masks and values turn into each other: of the codeword of a message the bit of mask k of the order, backwards, is message bit k, and a word
+-- that belongs is the codeword of the bits read so from it; and any word taken backwards twice is itself
+pub record Turning (r m : ℕ) (bit value : ℕ → ℕ) : Type 0 where
+  pub message-back : (k : ℕ) → k < dimension r m → backwards m (codeword r m bit) (getD (order m) k 0) ≡ bit k % 2
+  pub word-again : belongs r m value ≡ true → (p : ℕ) → p < 2 ^ m → codeword r m (λ k. backwards m value (getD (order m) k 0)) p ≡ value p % 2
+  pub twice : (p : ℕ) → p < 2 ^ m → backwards m (backwards m value) p ≡ value p % 2
 
 -- the lengths 2 ^ m that have a table of masks: 8, 16, 32, 64
 abbrev pub Tabled : ℕ → Type 0
