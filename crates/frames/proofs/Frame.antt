@@ -31,7 +31,8 @@ at f p = getD f p (pos 0)
 
 pub weight-bit : (i : ℕ) (z : ℤ) → weightBit i z ≡ modZ (shrZ z (2 ^ i)) 2
 unfolding weightBit
-weight-bit i z = rw (pow-suc 2 i) (sym (ap (λ (y : ℤ). modZ y 2) quotient ∙ rem-is (pos 2 *ℤ q +ℤ pos (r / n)) 2 q (r / n) bit refl))
+weight-bit i z =
+    ap (λ (m : ℕ). modZ z m / n) (pow-suc 2 i) ∙ sym (ap (λ (y : ℤ). modZ y 2) quotient ∙ rem-is (pos 2 *ℤ q +ℤ pos (r / n)) 2 q (r / n) bit refl)
   where
     n : ℕ
     n = 2 ^ i
