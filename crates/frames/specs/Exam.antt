@@ -142,8 +142,8 @@ oneByte n p x = replicate p 0 ++ (x ∷ replicate (n - p - 1) 0)
 
 -- document 01, "Message to coset leader": where a bit stands, seen by setting it alone; frames by hand.
 -- Kind 3, grade 2: s1 (1 bit), s2 (both bits), s7, s8 (its first two bits). Kind 4, grade 1: level 1's second and last bit, s2 of either block.
--- Kind 5, grade 1: s2 of the last block. Kind 6, grade 1: level 1's last bit, level 2's first (a tie: all 4 or all −4) and last bit, s2 of
--- the first and of the last block; grade 4: the last bit of s8 (a tie: 128 or −128, at any coordinate of the block)
+-- Kind 5, grade 1: s2 of the last block. Kind 6, grade 1: level 2's first bit (a tie: all 4 or all −4 in a block) and its last,
+-- s2 of the last block; grade 4: the last bit of s8 of the first block (a tie: 128 or −128, at any coordinate of the block)
 abbrev pub layout : List Exam
 layout =
     record { kind = 3; grade = 2; message = 16 ∷ 0 ∷ 0 ∷ []; frame = oneAt 8 0 2; energy = 4 }
@@ -163,10 +163,8 @@ layout =
     ∷ record { kind = 4; grade = 1; message = 0 ∷ 0 ∷ 16 ∷ 0 ∷ 0 ∷ []; frame = oneAt 16 1 4; energy = 16 }
     ∷ record { kind = 4; grade = 1; message = 0 ∷ 0 ∷ 0 ∷ 16 ∷ 0 ∷ []; frame = oneAt 16 9 4; energy = 16 }
     ∷ record { kind = 5; grade = 1; message = replicate 7 0 ++ (1 ∷ []); frame = oneAt 32 25 4; energy = 16 }
-    ∷ record { kind = 6; grade = 1; message = oneByte 22 6 1; frame = replicate 56 (pos 0) ++ replicate 8 (pos 2); energy = 32 }
     ∷ record { kind = 6; grade = 1; message = oneByte 22 6 2; frame = replicate 64 (minus 4); energy = 1024 }
     ∷ record { kind = 6; grade = 1; message = oneByte 22 13 128; frame = replicate 62 (pos 0) ++ replicate 2 (pos 4); energy = 32 }
-    ∷ record { kind = 6; grade = 1; message = oneByte 22 14 1; frame = oneAt 64 1 8; energy = 64 }
     ∷ record { kind = 6; grade = 1; message = oneByte 22 21 1; frame = oneAt 64 57 8; energy = 64 }
     ∷ record { kind = 6; grade = 4; message = oneByte 46 17 128; frame = minus 128 ∷ replicate 63 (pos 0); energy = 16384 }
     ∷ []
