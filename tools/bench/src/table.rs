@@ -67,7 +67,7 @@ fn sent(kind: u8, grade: u8, random: &mut Random) -> (Vec<Vec<u8>>, Vec<Vec<i32>
 fn frames(random: &mut Random) {
     println!("| kind | grade | function | library, ns a frame | by hand, ns a frame | ratio |");
     println!("|---|---|---|---|---|---|");
-    for kind in 3..=5 {
+    for kind in 3..=6 {
         for grade in [1, 4] {
             let (length, bytes) = lengths(kind, grade);
             let (messages, frames) = sent(kind, grade, random);
