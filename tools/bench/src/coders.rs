@@ -8,12 +8,17 @@ use second_coder::{account, frame};
 /// The count and the sum of an account.
 pub type Figures = (u32, f64);
 
+type Answer = Result<u64, u8>;
+type Sending = fn(u8, u8, &[u8], &mut [i32]) -> Answer;
+type Counting = fn(u8, u8, &[u8], &mut [i32], &mut Figures) -> Answer;
+type Reading = fn(u8, u8, &[i32], &mut [u8]) -> Answer;
+
 pub struct Coder {
     pub name: &'static str,
-    pub send: fn(u8, u8, &[u8], &mut [i32]) -> Result<u64, u8>,
-    pub send_counted: fn(u8, u8, &[u8], &mut [i32], &mut Figures) -> Result<u64, u8>,
-    pub read_open: fn(u8, u8, &[i32], &mut [u8]) -> Result<u64, u8>,
-    pub read_strict: fn(u8, u8, &[i32], &mut [u8]) -> Result<u64, u8>,
+    pub send: Sending,
+    pub send_counted: Counting,
+    pub read_open: Reading,
+    pub read_strict: Reading,
 }
 
 /// The library, the hand-tuned coder and the second coder.
