@@ -95,7 +95,7 @@ fn frames(random: &mut Random) {
 fn blocks(random: &mut Random) {
     println!("| shape a block alone | library, ns a block | by hand, ns a block | ratio |");
     println!("|---|---|---|---|");
-    for k in [3, 6] {
+    for k in [3, 6, 7] {
         let blocks: [[i32; 8]; FRAMES] = from_fn(|_| from_fn(|_| random.below(2 << k) as i32));
         let mut least = [0; 8];
         let [library, hand] = measure([
