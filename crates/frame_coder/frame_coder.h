@@ -1,23 +1,24 @@
 /* The frame coder for C99 and C++: link with libframe_coder.a, which `rt staticlib frame_coder` makes in target/staticlib.
  *
- * A message is bytes, a frame is 8, 16 or 32 whole numbers (int32_t). Sending makes the frame of a message, reading the message
+ * A message is bytes, a frame is 8, 16, 32 or 64 whole numbers (int32_t). Sending makes the frame of a message, reading the message
  * of a frame. Each is lent as a pointer and a length. An answer is the energy of the frame, 0 or more, or minus the number of a
  * refusal. Bad input is refused, and a refusal changes nothing that was lent. docs/GUIDE.md explains the words, docs/example.c
  * shows the calls.
  *
- * LENGTHS, by kind (3, 4 or 5) and grade (1 to 4). A lent length must be exactly the table's.
+ * LENGTHS, by kind (3 to 6) and grade (1 to 4). A lent length must be exactly the table's.
  *
- *     kind | coordinates | message bits    | message bytes | spare bits
- *        3 |           8 |  4 +  8 * grade |     grade + 1 | 4
- *        4 |          16 | 20 + 16 * grade | 2 * grade + 3 | 4
- *        5 |          32 | 32 + 32 * grade | 4 * grade + 4 | none
+ *     kind | coordinates | message bits     | message bytes  | spare bits
+ *        3 |           8 |   4 +  8 * grade |     grade + 1  | 4
+ *        4 |          16 |  20 + 16 * grade | 2 * grade + 3  | 4
+ *        5 |          32 |  32 + 32 * grade | 4 * grade + 4  | none
+ *        6 |          64 | 112 + 64 * grade | 8 * grade + 14 | none
  *
  * BITS. Message bit k is bit k mod 8, lowest first, of byte k div 8. The bits past the last are spare: at kinds 3 and 4 the four
  *     highest of the last byte. They must be 0 when sending, and a reading writes them as 0.
  *
  * ENERGY AND POWER. The energy of a frame is the sum of the squares of its coordinates; its power is the energy divided by the
- *     number of coordinates. A sent frame has an energy of 131,072 at most, and coordinates from -64 to 64. A frame that is read
- *     can have an energy of 2^45: an answer is printed with PRId64.
+ *     number of coordinates. A sent frame has an energy of 1,048,576 at most, and coordinates from -128 to 128. A frame that is
+ *     read can have an energy of 2^46: an answer is printed with PRId64.
  *
  * TIES. The sent frame is the one of least energy in the class of the message. Among frames of least energy it is the first in
  *     reading order: at the first coordinate where two differ, the smaller comes first.
@@ -63,7 +64,7 @@
 #include <stddef.h>
 #include <stdint.h>
 
-#define FRAME_CODER_VERSION "0.2.1"
+#define FRAME_CODER_VERSION "0.3.0"
 
 #ifdef __cplusplus
 extern "C" {
@@ -77,8 +78,8 @@ extern "C" {
 #endif
 
 /* The largest lengths, over all kinds and grades. */
-#define CODER_MAX_MESSAGE_LENGTH 20 /* bytes */
-#define CODER_MAX_FRAME_LENGTH 32   /* coordinates */
+#define CODER_MAX_MESSAGE_LENGTH 46 /* bytes */
+#define CODER_MAX_FRAME_LENGTH 64   /* coordinates */
 
 /* A reading takes coordinates from minus this to this. */
 #define CODER_MAX_COORDINATE 1048576
@@ -88,11 +89,12 @@ extern "C" {
 
 /* The coordinates of a kind, the message bits and the message bytes of a kind and grade, as constants where kind and grade are;
  * 0 where there is no such kind or grade. An argument may be evaluated more than once. */
-#define CODER_FRAME_LENGTH(kind) ((kind) == 3 ? 8 : (kind) == 4 ? 16 : (kind) == 5 ? 32 : 0)
+#define CODER_FRAME_LENGTH(kind) ((kind) == 3 ? 8 : (kind) == 4 ? 16 : (kind) == 5 ? 32 : (kind) == 6 ? 64 : 0)
 #define CODER_MESSAGE_BITS(kind, grade)                                                  \
     ((grade) < 1 || (grade) > 4 ? 0 : (kind) == 3 ? 4 + 8 * (grade)                      \
                                   : (kind) == 4   ? 20 + 16 * (grade)                    \
                                   : (kind) == 5   ? 32 + 32 * (grade)                    \
+                                  : (kind) == 6   ? 112 + 64 * (grade)                   \
                                                   : 0)
 #define CODER_MESSAGE_LENGTH(kind, grade) ((CODER_MESSAGE_BITS(kind, grade) + 7) / 8)
 
@@ -113,18 +115,19 @@ CODER_INLINE size_t coder_message_length(int kind, int grade)
 }
 
 /* The numbers of the refusals. Sending tests 1, 2, 3, 4, 5, and with an account 11; reading tests 1, 2, 4, 3, then 6 over all
- * coordinates, then 7, 8, and if it is strict 9. The first that holds is answered. (10 and 12 are refusals of a sheet.) */
+ * coordinates, then 7, 8, 13, and if it is strict 9. The first that holds is answered. (10 and 12 are refusals of a sheet.) */
 enum coder_refusal {
-    CODER_REFUSED_KIND = 1,           /* the kind is not 3, 4 or 5 */
+    CODER_REFUSED_KIND = 1,           /* the kind is not 3 to 6 */
     CODER_REFUSED_GRADE = 2,          /* the grade is not 1 to 4 */
     CODER_REFUSED_MESSAGE_LENGTH = 3, /* the message bytes lent differ from the kind's and grade's */
     CODER_REFUSED_FRAME_LENGTH = 4,   /* the coordinates lent differ from the kind's */
     CODER_REFUSED_SPARE_BITS = 5,     /* sending: a spare bit of the message is set */
     CODER_REFUSED_OVER_RANGE = 6,     /* reading: a coordinate is outside -1048576 .. 1048576 */
     CODER_REFUSED_BROKEN_LEVEL_0 = 7, /* reading: the coordinates' bits of weight 1 are not a codeword */
-    CODER_REFUSED_BROKEN_LEVEL_1 = 8, /* reading, kinds 4 and 5: the coordinates' bits of weight 2 are not a codeword */
+    CODER_REFUSED_BROKEN_LEVEL_1 = 8, /* reading, kinds 4 to 6: the coordinates' bits of weight 2 are not a codeword */
     CODER_REFUSED_UNSHAPED = 9,       /* strict reading: the frame is not the one that is sent for its message */
-    CODER_REFUSED_ACCOUNT_FULL = 11   /* sending with an account: the count is 1,000,000 or more */
+    CODER_REFUSED_ACCOUNT_FULL = 11,  /* sending with an account: the count is 1,000,000 or more */
+    CODER_REFUSED_BROKEN_LEVEL_2 = 13 /* reading, kind 6: the coordinates' bits of weight 4 are not a codeword */
 };
 
 /* The name of the refusal that an answer tells, in the words of the trade; "none" for an energy. */
@@ -143,6 +146,7 @@ CODER_INLINE const char *coder_refusal_name(int64_t answer)
     case CODER_REFUSED_BROKEN_LEVEL_1: return "broken level 1";
     case CODER_REFUSED_UNSHAPED: return "unshaped";
     case CODER_REFUSED_ACCOUNT_FULL: return "account full";
+    case CODER_REFUSED_BROKEN_LEVEL_2: return "broken level 2";
     default: return "not known";
     }
 }

@@ -56,7 +56,7 @@ int main(void)
 {
     size_t most[4] = {0, 0, 0, 0};
     for (int turn = 0; turn < TURNS; turn++)
-        for (kind = 3; kind <= 5; kind++)
+        for (kind = 3; kind <= 6; kind++)
             for (grade = 1; grade <= 4; grade++) {
                 bytes = coder_message_length(kind, grade);
                 coordinates = coder_frame_length(kind);

@@ -76,7 +76,7 @@ static void there_and_back(int kind, int grade)
     const int64_t answer = coder_account_send(&account, kind, grade, message, bytes, frame, coordinates);
     for (size_t p = 0; p < coordinates; p++) {
         energy += (int64_t)frame[p] * frame[p];
-        expect("range", kind, grade, frame[p] < -64 || frame[p] > 64, 0);
+        expect("range", kind, grade, frame[p] < -128 || frame[p] > 128, 0);
     }
     expect("energy", kind, grade, answer, energy);
     expect("account", kind, grade, account.count == 1 && account.sum == (double)energy / (double)coordinates, 1);
@@ -94,13 +94,33 @@ static void there_and_back(int kind, int grade)
     free(frame);
 }
 
+/* Frames of kind 6 with one coordinate that is not 0: the lowest broken level is answered. */
+static void broken(int grade)
+{
+    static const int numbers[] = {0, CODER_REFUSED_BROKEN_LEVEL_0, CODER_REFUSED_BROKEN_LEVEL_1, CODER_REFUSED_BROKEN_LEVEL_0,
+                                  CODER_REFUSED_BROKEN_LEVEL_2, CODER_REFUSED_BROKEN_LEVEL_0, CODER_REFUSED_BROKEN_LEVEL_1,
+                                  CODER_REFUSED_BROKEN_LEVEL_0};
+    const size_t bytes = coder_message_length(6, grade);
+    uint8_t *message = (uint8_t *)room(bytes);
+    int32_t *frame = (int32_t *)room(CODER_FRAME_LENGTH(6) * sizeof *frame);
+    for (int x = 0; x < 8; x++) {
+        frame[63] = x;
+        expect("broken, open", 6, grade, coder_read_open(6, (uint8_t)grade, frame, CODER_FRAME_LENGTH(6), message, bytes), -numbers[x]);
+        expect("broken, strict", 6, grade, coder_read_strict(6, (uint8_t)grade, frame, CODER_FRAME_LENGTH(6), message, bytes),
+               -numbers[x]);
+    }
+    free(message);
+    free(frame);
+}
+
 int main(void)
 {
     static const struct {
         int kind, grade, coordinates, bytes;
     } lengths[] = {{3, 1, 8, 2}, {3, 2, 8, 3}, {3, 3, 8, 4}, {3, 4, 8, 5}, {4, 1, 16, 5}, {4, 2, 16, 7}, {4, 3, 16, 9},
-                   {4, 4, 16, 11}, {5, 1, 32, 8}, {5, 2, 32, 12}, {5, 3, 32, 16}, {5, 4, 32, 20}, {2, 1, 0, 0}, {6, 1, 0, 0},
-                   {3, 0, 8, 0}, {3, 5, 8, 0}, {259, 1, 0, 0}, {3, 257, 8, 0}, {-253, 1, 0, 0}, {3, -255, 8, 0}};
+                   {4, 4, 16, 11}, {5, 1, 32, 8}, {5, 2, 32, 12}, {5, 3, 32, 16}, {5, 4, 32, 20}, {6, 1, 64, 22}, {6, 2, 64, 30},
+                   {6, 3, 64, 38}, {6, 4, 64, 46}, {2, 1, 0, 0}, {7, 1, 0, 0}, {3, 0, 8, 0}, {3, 5, 8, 0}, {6, 0, 64, 0},
+                   {6, 5, 64, 0}, {259, 1, 0, 0}, {262, 1, 0, 0}, {3, 257, 8, 0}, {-253, 1, 0, 0}, {3, -255, 8, 0}};
     for (size_t i = 0; i < sizeof lengths / sizeof lengths[0]; i++) {
         const int kind = lengths[i].kind, grade = lengths[i].grade;
         expect("frame length", kind, grade, (int64_t)coder_frame_length(kind), lengths[i].coordinates);
@@ -108,14 +128,15 @@ int main(void)
     }
 
     static const char *const names[] = {"none", "kind", "grade", "message length", "frame length", "spare bits", "over range",
-                                        "broken level 0", "broken level 1", "unshaped", "not known", "account full", "not known"};
-    for (int number = 0; number <= 12; number++)
+                                        "broken level 0", "broken level 1", "unshaped", "not known", "account full", "not known",
+                                        "broken level 2", "not known"};
+    for (int number = 0; number <= 14; number++)
         expect("name", 0, number, strcmp(coder_refusal_name(-number), names[number]), 0);
 
     void *const nowhere[] = {NULL, (void *)1, (void *)UINTPTR_MAX};
     for (size_t i = 0; i < 3; i++) {
         for (int kind = 0; kind < 256; kind++)
-            for (int grade = 0; grade < 256; grade += kind >= 2 && kind <= 6 ? 1 : 51)
+            for (int grade = 0; grade < 256; grade += kind >= 2 && kind <= 7 ? 1 : 51)
                 empty(kind, grade, nowhere[i]);
         int32_t block[8] = {0}, *gone = (int32_t *)nowhere[i];
         expect("block", 0, 0, block_least(1, gone, 0, block, 8), 0);
@@ -123,9 +144,11 @@ int main(void)
         expect("block", 0, 0, block_least(1, gone, 0, gone, 0), 0);
     }
     for (int turn = 0; turn < 100; turn++)
-        for (int kind = 3; kind <= 5; kind++)
+        for (int kind = 3; kind <= 6; kind++)
             for (int grade = 1; grade <= 4; grade++)
                 there_and_back(kind, grade);
+    for (int grade = 1; grade <= 4; grade++)
+        broken(grade);
     printf("%lu tests, %lu wrong\n", calls, wrong);
     return wrong != 0;
 }

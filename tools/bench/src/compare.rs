@@ -1,41 +1,62 @@
-//! Compares every answer of the library with the hand-tuned coder's.
+//! Compares every answer of the library with the hand-tuned coder's, and with the second coder's.
 
 use std::fmt::Debug;
+use std::ops::RangeInclusive;
+use std::sync::atomic::{AtomicU64, Ordering};
 
-use crate::{dense, lengths};
+use crate::coders::{Coder, CODERS};
+use crate::{dense, lengths, levels};
 use bench::random::Random;
 use bench::{block, hand};
-use frame_coder::{by_number, Account, Refusal};
+use frame_coder::Refusal;
+
+/// What to compare: so many frames of these kinds, of all three coders or of library and hand-tuned coder alone.
+pub struct Plan {
+    pub frames: u64,
+    pub seed: u64,
+    pub kinds: RangeInclusive<u8>,
+    pub all: bool,
+}
 
 /// The comparisons made, by answer (0 for success; for a block alone, refused and shaped), and
 /// those that differ.
 struct Tally {
-    answers: [u64; 12],
+    coders: &'static [Coder],
+    answers: [u64; 14],
     blocks: [u64; 2],
     different: u64,
 }
 
 impl Tally {
     /// Tells of the first few differences.
-    fn compare<T: PartialEq + Debug>(&mut self, what: &str, input: &dyn Debug, library: T, by_hand: T) {
-        if library != by_hand {
+    fn compare<T: PartialEq + Debug>(&mut self, what: &str, input: &dyn Debug, answers: &[T]) {
+        if answers.iter().any(|answer| *answer != answers[0]) {
             self.different += 1;
             if self.different <= 10 {
-                println!("{what} {input:?}\n  library {library:?}\n  by hand {by_hand:?}");
+                println!("{what} {input:?}");
+                for (coder, answer) in self.coders.iter().zip(answers) {
+                    println!("  {} {answer:?}", coder.name);
+                }
             }
         }
     }
 
-    /// Counts one comparison of frames or messages.
-    fn count<T: PartialEq + Debug>(
+    /// Asks every coder, and counts one comparison of what they answer and of what they leave.
+    fn ask<T: PartialEq + Debug>(
         &mut self,
         what: &str,
         input: &dyn Debug,
-        library: (Result<u64, Refusal>, T),
-        by_hand: (Result<u64, u8>, T),
+        call: impl Fn(&Coder) -> (Result<u64, u8>, T),
     ) {
-        self.answers[by_hand.0.err().unwrap_or(0) as usize] += 1;
-        self.compare(what, input, (library.0.map_err(Refusal::number), library.1), by_hand);
+        let answers: Vec<_> = self.coders.iter().map(call).collect();
+        self.answers[answers[1].0.err().unwrap_or(0) as usize] += 1;
+        self.compare(what, input, &answers);
+    }
+
+    fn add(&mut self, other: &Tally) {
+        self.answers.iter_mut().zip(other.answers).for_each(|(sum, count)| *sum += count);
+        self.blocks.iter_mut().zip(other.blocks).for_each(|(sum, count)| *sum += count);
+        self.different += other.different;
     }
 }
 
@@ -45,9 +66,8 @@ const FURTHEST: i32 = 1 << 24;
 /// A message that has several frames of least energy, often: read from a frame on a coarse grid.
 fn edge(kind: u8, grade: u8, random: &mut Random) -> Vec<u8> {
     let (length, bytes) = lengths(kind, grade);
-    let levels = if kind == 3 { 1 } else { 2 };
-    let step = 1 << (levels + (grade as i32 - 1 - random.below(2) as i32).max(0));
-    let level = random.below(1 << levels) as i32;
+    let step = 1 << (levels(kind) as i32 + (grade as i32 - 1 - random.below(2) as i32).max(0));
+    let level = random.below(1 << levels(kind)) as i32;
     let frame: Vec<i32> = (0..length).map(|_| level + step * (random.below(16) as i32 - 8)).collect();
     let mut message = vec![0; bytes];
     hand::read_open(kind, grade, &frame, &mut message).expect("the frame is of the coding set");
@@ -71,17 +91,32 @@ fn message(kind: u8, grade: u8, random: &mut Random) -> Vec<u8> {
     }
 }
 
-/// A frame, damaged: a lattice point added, a coordinate moved by a little, by the scale, or to
-/// the ends of the range and past them.
-fn damaged(frame: &[i32], scale: i32, random: &mut Random) -> Vec<i32> {
+/// A frame, damaged: one coordinate moved at one level, or at several; two moved alike, which is a
+/// codeword of the last level of kind 6; another frame added, whose carries may break a level; a
+/// coordinate moved by the scale, or to anywhere, to the ends of the range and past them; or a
+/// lattice point added.
+fn damaged(kind: u8, grade: u8, frame: &[i32], random: &mut Random) -> Vec<i32> {
     let mut frame = frame.to_vec();
+    let scale = 1 << (levels(kind) + grade as u32);
     let place = random.below(frame.len() as u64) as usize;
-    match random.below(8) {
-        0 => frame[place] += 1 + random.below(4) as i32,
-        1 => frame[place] = random.below(2_097_155) as i32 - 1_048_577,
-        2 => frame[place] = [-1, 1][random.below(2) as usize] * (1_048_574 + random.below(4) as i32),
-        3 => frame[place] = [i32::MIN, i32::MAX][random.below(2) as usize],
-        4 => frame[place] += scale * (random.below(5) as i32 - 2),
+    let sign = [-1, 1][random.below(2) as usize];
+    match random.below(12) {
+        0..=1 => frame[place] += sign << random.below(3),
+        2 => frame[place] += sign * (1 + random.below(8) as i32),
+        3 => {
+            let by = sign << random.below(3);
+            frame[place] += by;
+            frame[place ^ 1 << random.below(kind as u64)] += by;
+        }
+        4..=5 => {
+            let mut other = vec![0; frame.len()];
+            hand::send(kind, grade, &dense(kind, grade, random), &mut other).expect("the message is good");
+            frame.iter_mut().zip(other).for_each(|(x, z)| *x += z);
+        }
+        6 => frame[place] += scale * (random.below(5) as i32 - 2),
+        7 => frame[place] = random.below(2_097_155) as i32 - 1_048_577,
+        8 => frame[place] = sign * (1_048_574 + random.below(4) as i32),
+        9 => frame[place] = [i32::MIN, i32::MAX][random.below(2) as usize],
         _ => {
             let odd = random.below(2) as i32;
             let far = 1 << random.below(10);
@@ -96,52 +131,44 @@ fn damaged(frame: &[i32], scale: i32, random: &mut Random) -> Vec<i32> {
 }
 
 fn sendings(kind: u8, grade: u8, message: &[u8], length: usize, random: &mut Random, tally: &mut Tally) {
-    let input = (kind, grade, message);
-    let (mut one, mut other) = (vec![77; length], vec![77; length]);
-    let answers = (by_number::send(kind, grade, message, &mut one), hand::send(kind, grade, message, &mut other));
-    tally.count("send", &input, (answers.0, one), (answers.1, other));
+    tally.ask("send", &(kind, grade, message), |coder| {
+        let mut frame = vec![77; length];
+        ((coder.send)(kind, grade, message, &mut frame), frame)
+    });
     let count = [0, 5, 999_998, 999_999, 1_000_000, 1_000_001, u32::MAX][random.below(7) as usize];
     // A sum as it grows, or one from elsewhere.
     let sum = match random.below(4) {
         0 => f64::from_bits(random.word() & !(1 << 62)),
-        _ => random.below(1 << 40) as f64 / 32.0,
+        _ => random.below(1 << 40) as f64 / 64.0,
     };
-    let mut account = Account::from_parts(count, sum);
-    let mut own = hand::Account { count, sum };
-    let (mut one, mut other) = (vec![77; length], vec![77; length]);
-    let answers = (
-        by_number::send_counted(kind, grade, message, &mut one, &mut account),
-        hand::send_counted(kind, grade, message, &mut other, &mut own),
-    );
-    let library = (one, account.count(), account.sum().to_bits());
-    tally.count(
-        "send_counted",
-        &(input, count, sum),
-        (answers.0, library),
-        (answers.1, (other, own.count, own.sum.to_bits())),
-    );
+    tally.ask("send_counted", &(kind, grade, message, count, sum), |coder| {
+        let (mut frame, mut figures) = (vec![77; length], (count, sum));
+        let answer = (coder.send_counted)(kind, grade, message, &mut frame, &mut figures);
+        (answer, (frame, figures.0, figures.1.to_bits()))
+    });
 }
 
 fn readings(kind: u8, grade: u8, frame: &[i32], bytes: usize, tally: &mut Tally) {
     let input = (kind, grade, frame, bytes);
-    let (mut one, mut other) = (vec![0xA5; bytes], vec![0xA5; bytes]);
-    let answers = (by_number::read_open(kind, grade, frame, &mut one), hand::read_open(kind, grade, frame, &mut other));
-    tally.count("read_open", &input, (answers.0, one), (answers.1, other));
-    let (mut one, mut other) = (vec![0xA5; bytes], vec![0xA5; bytes]);
-    let answers =
-        (by_number::read_strict(kind, grade, frame, &mut one), hand::read_strict(kind, grade, frame, &mut other));
-    tally.count("read_strict", &input, (answers.0, one), (answers.1, other));
+    tally.ask("read_open", &input, |coder| {
+        let mut message = vec![0xA5; bytes];
+        ((coder.read_open)(kind, grade, frame, &mut message), message)
+    });
+    tally.ask("read_strict", &input, |coder| {
+        let mut message = vec![0xA5; bytes];
+        ((coder.read_strict)(kind, grade, frame, &mut message), message)
+    });
 }
 
 /// Wrong kinds, grades and lengths, with something in every buffer.
 fn misfits(random: &mut Random, tally: &mut Tally) {
     let (kind, grade) = match random.below(3) {
         0 => (random.below(256) as u8, random.below(256) as u8),
-        _ => (2 + random.below(5) as u8, random.below(6) as u8),
+        _ => (2 + random.below(6) as u8, random.below(6) as u8),
     };
-    let (length, bytes) = lengths(kind.clamp(3, 5), grade.clamp(1, 4));
-    let length = if random.below(2) == 0 { length } else { random.below(40) as usize };
-    let bytes = if random.below(2) == 0 { bytes } else { random.below(24) as usize };
+    let (length, bytes) = lengths(kind.clamp(3, 6), grade.clamp(1, 4));
+    let length = if random.below(2) == 0 { length } else { random.below(72) as usize };
+    let bytes = if random.below(2) == 0 { bytes } else { random.below(50) as usize };
     let mut message = vec![0; bytes];
     random.fill(&mut message);
     sendings(kind, grade, &message, length, random, tally);
@@ -184,40 +211,83 @@ fn shaping(random: &mut Random, tally: &mut Tally) {
     };
     let answer = block::least(k, &x, &mut one);
     tally.blocks[by_hand.0 as usize] += 1;
-    tally.compare("block_least", &(k, x), (answer, one), by_hand);
+    tally.compare("block_least", &(k, x), &[(answer, one), by_hand]);
 }
 
-/// Compares on so many frames, and as many blocks; gives the number of differences.
-pub fn run(frames: u64, seed: u64) -> u64 {
-    let mut random = Random(seed);
-    let random = &mut random;
-    let mut tally = Tally { answers: [0; 12], blocks: [0; 2], different: 0 };
-    for _ in 0..frames {
-        let (kind, grade) = (3 + random.below(3) as u8, 1 + random.below(4) as u8);
-        let (length, bytes) = lengths(kind, grade);
-        let scale = 1 << (if kind == 3 { 1 } else { 2 } + grade);
-        let message = message(kind, grade, random);
-        sendings(kind, grade, &message, length, random, &mut tally);
-        let mut frame = vec![0; length];
-        if hand::send(kind, grade, &message, &mut frame).is_ok() {
-            readings(kind, grade, &frame, bytes, &mut tally);
-            readings(kind, grade, &damaged(&frame, scale, random), bytes, &mut tally);
+/// One message, its frame, and the frame damaged in three ways.
+fn frame(plan: &Plan, random: &mut Random, tally: &mut Tally) {
+    let kinds = (plan.kinds.end() - plan.kinds.start() + 1) as u64;
+    let (kind, grade) = (plan.kinds.start() + random.below(kinds) as u8, 1 + random.below(4) as u8);
+    let (length, bytes) = lengths(kind, grade);
+    let message = message(kind, grade, random);
+    sendings(kind, grade, &message, length, random, tally);
+    let mut frame = vec![0; length];
+    if hand::send(kind, grade, &message, &mut frame).is_ok() {
+        readings(kind, grade, &frame, bytes, tally);
+        for _ in 0..3 {
+            readings(kind, grade, &damaged(kind, grade, &frame, random), bytes, tally);
         }
-        if random.below(8) == 0 {
-            misfits(random, &mut tally);
-        }
-        shaping(random, &mut tally);
     }
-    for (number, count) in (0..).zip(tally.answers).filter(|(_, count)| *count > 0) {
+    if random.below(8) == 0 {
+        misfits(random, tally);
+    }
+    if !plan.all {
+        shaping(random, tally);
+    }
+}
+
+/// Frames that a thread takes at a time. Each such part has random numbers of its own, so that the
+/// frames are the same with any number of threads.
+const PART: u64 = 1000;
+
+/// The parts that are left, one after the other.
+fn take_parts(plan: &Plan, next: &AtomicU64, tally: &mut Tally) {
+    loop {
+        let part = next.fetch_add(1, Ordering::Relaxed);
+        let frames = plan.frames.saturating_sub(part * PART).min(PART);
+        if frames == 0 {
+            return;
+        }
+        let mut random = Random(Random(plan.seed.wrapping_add(part)).word());
+        for _ in 0..frames {
+            frame(plan, &mut random, tally);
+        }
+    }
+}
+
+/// Compares, with a thread for each processor; gives the number of differences.
+pub fn run(plan: &Plan) -> u64 {
+    let tally = || {
+        let coders = if plan.all { &CODERS[..] } else { &CODERS[..2] };
+        Tally { coders, answers: [0; 14], blocks: [0; 2], different: 0 }
+    };
+    let next = AtomicU64::new(0);
+    let mut sum = tally();
+    std::thread::scope(|scope| {
+        let take = || {
+            let mut own = tally();
+            take_parts(plan, &next, &mut own);
+            own
+        };
+        let count = std::thread::available_parallelism().map_or(1, |count| count.get());
+        let threads: Vec<_> = (0..count).map(|_| scope.spawn(take)).collect();
+        for thread in threads {
+            sum.add(&thread.join().expect("a thread ends"));
+        }
+    });
+    for (number, count) in (0..).zip(sum.answers).filter(|(_, count)| *count > 0) {
         match (number, Refusal::try_from(number)) {
             (0, _) => println!("success: {count}"),
             (_, Ok(refusal)) => println!("{refusal}: {count}"),
             (_, Err(unknown)) => println!("{unknown}: {count}"),
         }
     }
-    let [refused, shaped] = tally.blocks;
-    println!("blocks shaped: {shaped}\nblocks refused: {refused}");
-    let all = tally.answers.iter().chain(&tally.blocks).sum::<u64>();
-    println!("{frames} frames, {all} comparisons, {} different", tally.different);
-    tally.different
+    let [refused, shaped] = sum.blocks;
+    if !plan.all {
+        println!("blocks shaped: {shaped}\nblocks refused: {refused}");
+    }
+    let all = sum.answers.iter().chain(&sum.blocks).sum::<u64>();
+    let names: Vec<&str> = sum.coders.iter().map(|coder| coder.name).collect();
+    println!("{}: {} frames, {all} comparisons, {} different", names.join(", "), plan.frames, sum.different);
+    sum.different
 }

@@ -1,8 +1,9 @@
 //! A hand-tuned coder of document 01 in portable Rust: no intrinsics and no unsafe code.
 //!
 //! A block is an array of eight i32, and its loops have no branches, so that the compiler can put
-//! them into lanes. A codeword is a u32, the sum modulo 2 of the rows of its message bits; backwards
-//! it goes through the transform in place. Numbers stand in the message by shifts.
+//! them into lanes. A codeword is the sum modulo 2 of the rows of its message bits; backwards it goes
+//! through the transform in place. It is a u32 up to 32 positions; at 64 it is a u64, and four message
+//! bits at a time are looked up. Numbers stand in the message by shifts.
 //!
 //! # Rounding finds the first of the least members
 //!
@@ -56,6 +57,7 @@ pub mod refusal {
     pub const BROKEN_LEVEL_1: u8 = 8;
     pub const UNSHAPED: u8 = 9;
     pub const ACCOUNT_FULL: u8 = 11;
+    pub const BROKEN_LEVEL_2: u8 = 13;
 }
 
 const FURTHEST: i32 = 1_048_576;
@@ -80,7 +82,7 @@ const fn order<const N: usize>() -> [u32; N] {
 }
 
 /// For each message bit, the positions whose value it is part of: those its mask lies in.
-const fn rows<const N: usize>() -> [u32; N] {
+const fn long_rows<const N: usize>() -> [u64; N] {
     let masks = order::<N>();
     let mut rows = [0; N];
     let mut k = 0;
@@ -97,12 +99,57 @@ const fn rows<const N: usize>() -> [u32; N] {
     rows
 }
 
+/// The same for 32 positions at most.
+const fn rows<const N: usize>() -> [u32; N] {
+    let long = long_rows::<N>();
+    let mut rows = [0; N];
+    let mut k = 0;
+    while k < N {
+        rows[k] = long[k] as u32;
+        k += 1;
+    }
+    rows
+}
+
+/// For each four bits of a word and each value of them, the sum modulo 2 of their rows.
+type Sums = [[u64; 16]; 16];
+
+const fn sums(rows: &[u64; 64]) -> Sums {
+    let mut sums = [[0; 16]; 16];
+    let mut k = 0;
+    while k < 64 {
+        let mut bits = 0;
+        while bits < 16 {
+            if bits >> (k % 4) & 1 == 1 {
+                sums[k / 4][bits] ^= rows[k];
+            }
+            bits += 1;
+        }
+        k += 1;
+    }
+    sums
+}
+
+/// For each mask, its place in the order, as a word with that bit set.
+const fn places() -> [u64; 64] {
+    let masks = order::<64>();
+    let mut places = [0; 64];
+    let mut k = 0;
+    while k < 64 {
+        places[masks[k] as usize] = 1 << k;
+        k += 1;
+    }
+    places
+}
+
 static ORDER_3: [u32; 8] = order();
 static ORDER_4: [u32; 16] = order();
 static ORDER_5: [u32; 32] = order();
 static ROWS_3: [u32; 8] = rows();
 static ROWS_4: [u32; 16] = rows();
 static ROWS_5: [u32; 32] = rows();
+static ROW_SUMS_6: Sums = sums(&long_rows());
+static PLACE_SUMS_6: Sums = sums(&places());
 
 /// The sum modulo 2 of the rows whose message bits are set.
 #[inline(always)]
@@ -110,6 +157,16 @@ fn sum_of_rows(rows: &[u32], bits: u32) -> u32 {
     let mut sum = 0;
     for (k, row) in rows.iter().enumerate() {
         sum ^= row & (bits >> k & 1).wrapping_neg();
+    }
+    sum
+}
+
+/// The same for a word of 64 bits, of which this many can be set.
+#[inline(always)]
+fn looked_up(sums: &Sums, count: usize, bits: u64) -> u64 {
+    let mut sum = 0;
+    for (k, sums) in sums[..count.div_ceil(4)].iter().enumerate() {
+        sum ^= sums[(bits >> (4 * k) & 15) as usize];
     }
     sum
 }
@@ -122,6 +179,13 @@ fn parities(word: u32) -> u32 {
     let word = word ^ (word & 0x0F0F_0F0F) << 4;
     let word = word ^ (word & 0x00FF_00FF) << 8;
     word ^ word << 16
+}
+
+/// The same for 64 positions.
+#[inline(always)]
+fn long_parities(word: u64) -> u64 {
+    let half = parities(word as u32);
+    half as u64 | ((parities((word >> 32) as u32) ^ half) as u64) << 32
 }
 
 /// The bits at the masks, in the order given.
@@ -140,11 +204,12 @@ struct Format<const KIND: usize, const B: usize>;
 impl<const KIND: usize, const B: usize> Format<KIND, B> {
     const N: usize = 1 << KIND;
     const BLOCKS: usize = Self::N / 8;
-    const A: usize = if KIND == 3 { 1 } else { 2 };
-    /// The dimensions of the level codes.
+    /// The number of levels, and the dimensions of their codes; 0 where a kind has no such level.
+    const A: usize = [1, 2, 2, 3][KIND - 3];
     const LEVEL_0: usize = KIND + 1;
-    const LEVEL_1: usize = [0, 15, 26][KIND - 3];
-    const LEVELS: usize = Self::LEVEL_0 + Self::LEVEL_1;
+    const LEVEL_1: usize = [0, 15, 26, 42][KIND - 3];
+    const LEVEL_2: usize = [0, 0, 0, 63][KIND - 3];
+    const LEVELS: usize = Self::LEVEL_0 + Self::LEVEL_1 + Self::LEVEL_2;
     const BYTES: usize = (Self::LEVELS + Self::N * B).div_ceil(8);
     /// Message bits of the levels in whole bytes, and those left over, which begin the next byte.
     const WHOLE: usize = Self::LEVELS / 8;
@@ -152,27 +217,34 @@ impl<const KIND: usize, const B: usize> Format<KIND, B> {
     /// The scale is 2^K.
     const K: u32 = (Self::A + B) as u32;
 
-    /// The codeword of the lowest bits, as many as the dimension.
+    /// The codeword of the level whose message bits begin here, as many as the dimension.
     #[inline(always)]
-    fn codeword(dimension: usize, bits: u32) -> u32 {
+    fn codeword(dimension: usize, message: &[u8], start: usize) -> u64 {
+        let end = start + dimension;
+        let bits = load(&message[start / 8..end.div_ceil(8)]) >> (start % 8) & ((1 << dimension) - 1);
         match KIND {
-            3 => sum_of_rows(&ROWS_3[..dimension], bits),
-            4 => sum_of_rows(&ROWS_4[..dimension], bits),
-            _ => sum_of_rows(&ROWS_5[..dimension], bits),
+            3 => sum_of_rows(&ROWS_3[..dimension], bits as u32) as u64,
+            4 => sum_of_rows(&ROWS_4[..dimension], bits as u32) as u64,
+            5 => sum_of_rows(&ROWS_5[..dimension], bits as u32) as u64,
+            _ => looked_up(&ROW_SUMS_6, dimension, bits),
         }
     }
 
     /// The message bits of a codeword; none where the word is not one.
     #[inline(always)]
-    fn message_bits(dimension: usize, word: u32) -> Option<u32> {
-        let parities = parities(word);
+    fn message_bits(dimension: usize, word: u64) -> Option<u64> {
         let (taken, others) = match KIND {
             3 => ORDER_3.split_at(dimension),
             4 => ORDER_4.split_at(dimension),
-            _ => ORDER_5.split_at(dimension),
+            5 => ORDER_5.split_at(dimension),
+            _ => {
+                let bits = looked_up(&PLACE_SUMS_6, 64, long_parities(word));
+                return (bits >> dimension == 0).then_some(bits);
+            }
         };
+        let parities = parities(word as u32);
         let others = others.iter().fold(0, |sum, mask| sum | 1 << mask);
-        (parities & others == 0).then(|| gathered(taken, parities))
+        (parities & others == 0).then(|| gathered(taken, parities) as u64)
     }
 
     /// Where number i of a block begins in its message bits.
@@ -216,16 +288,16 @@ impl<const KIND: usize, const B: usize> Format<KIND, B> {
         if Self::OVER != 0 && message[Self::BYTES - 1] >> Self::OVER != 0 {
             return Err(refusal::SPARE_BITS);
         }
-        let bits = load(&message[..Self::LEVELS.div_ceil(8)]);
-        let c0 = Self::codeword(Self::LEVEL_0, bits as u32);
-        let c1 = Self::codeword(Self::LEVEL_1, (bits >> Self::LEVEL_0) as u32);
+        let c0 = Self::codeword(Self::LEVEL_0, message, 0);
+        let c1 = Self::codeword(Self::LEVEL_1, message, Self::LEVEL_0);
+        let c2 = Self::codeword(Self::LEVEL_2, message, Self::LEVEL_0 + Self::LEVEL_1);
         let mut energy = 0;
         for (j, block) in frame.as_chunks_mut::<8>().0.iter_mut().enumerate() {
             let start = Self::WHOLE + B * j;
             let bits = load(&message[start..start + B + (Self::OVER != 0) as usize]) >> Self::OVER;
             let s = Self::unpack(bits as u32);
-            let (w0, w1) = (c0 >> (8 * j), c1 >> (8 * j));
-            let x = from_fn(|i| (s[i] << Self::A) + 2 * (w1 >> i & 1) as i32 + (w0 >> i & 1) as i32);
+            let [w0, w1, w2] = [c0, c1, c2].map(|c| (c >> (8 * j)) as u8 as i32);
+            let x = from_fn(|i| (s[i] << Self::A) + 4 * (w2 >> i & 1) + 2 * (w1 >> i & 1) + (w0 >> i & 1));
             *block = shape(Self::K, &x);
             energy += block.iter().map(|z| z * z).sum::<i32>();
         }
@@ -241,19 +313,21 @@ impl<const KIND: usize, const B: usize> Format<KIND, B> {
         }
         let (mut over, mut unlike) = (false, false);
         let mut energy = 0;
-        let (mut c0, mut c1) = (0, 0);
-        let mut packed = [0; 4];
+        let (mut c0, mut c1, mut c2) = (0, 0, 0);
+        let mut packed = [0; 8];
         for (j, block) in frame.as_chunks::<8>().0.iter().enumerate() {
-            let (mut w0, mut w1) = (0, 0);
+            let (mut w0, mut w1, mut w2) = (0, 0, 0);
             for (i, &x) in block.iter().enumerate() {
                 over |= !(-FURTHEST..=FURTHEST).contains(&x);
                 let size = x.unsigned_abs() as u64;
                 energy += size * size;
                 w0 |= (x as u32 & 1) << i;
                 w1 |= (x as u32 >> 1 & 1) << i;
+                w2 |= (x as u32 >> 2 & 1) << i;
             }
-            c0 |= w0 << (8 * j);
-            c1 |= w1 << (8 * j);
+            c0 |= (w0 as u64) << (8 * j);
+            c1 |= (w1 as u64) << (8 * j);
+            c2 |= (w2 as u64) << (8 * j);
             packed[j] = Self::reduce(block);
             if STRICT {
                 unlike |= shape(Self::K, block) != *block;
@@ -267,17 +341,22 @@ impl<const KIND: usize, const B: usize> Format<KIND, B> {
             1 => 0,
             _ => Self::message_bits(Self::LEVEL_1, c1).ok_or(refusal::BROKEN_LEVEL_1)?,
         };
+        let level_2 = match Self::A {
+            1 | 2 => 0,
+            _ => Self::message_bits(Self::LEVEL_2, c2).ok_or(refusal::BROKEN_LEVEL_2)?,
+        };
         if unlike {
             return Err(refusal::UNSHAPED);
         }
         // Bits of the levels, then of each block; those that fill no byte go on to the next.
-        let bits = level_0 as u64 | (level_1 as u64) << Self::LEVEL_0;
+        let bits = level_0 | level_1 << Self::LEVEL_0;
+        let bits = bits as u128 | (level_2 as u128) << (Self::LEVEL_0 + Self::LEVEL_1);
         store(bits, &mut message[..Self::WHOLE]);
-        let mut rest = bits >> (8 * Self::WHOLE);
+        let mut rest = (bits >> (8 * Self::WHOLE)) as u64;
         for (j, &block) in packed[..Self::BLOCKS].iter().enumerate() {
             let bits = rest | (block as u64) << Self::OVER;
             let start = Self::WHOLE + B * j;
-            store(bits, &mut message[start..start + B]);
+            store(bits as u128, &mut message[start..start + B]);
             rest = bits >> (8 * B);
         }
         if Self::OVER != 0 {
@@ -294,7 +373,7 @@ fn load(bytes: &[u8]) -> u64 {
 }
 
 #[inline(always)]
-fn store(bits: u64, bytes: &mut [u8]) {
+fn store(bits: u128, bytes: &mut [u8]) {
     for (i, byte) in bytes.iter_mut().enumerate() {
         *byte = (bits >> (8 * i)) as u8;
     }
@@ -343,24 +422,38 @@ pub fn shape(k: u32, x: &[i32; 8]) -> [i32; 8] {
     })
 }
 
+/// Kind and grade as one number from 0 to 15, for one jump; or their refusal.
+#[inline(always)]
+fn entry(kind: u8, grade: u8) -> Result<u8, u8> {
+    match (kind, grade) {
+        (3..=6, 1..=4) => Ok(4 * (kind - 3) + grade - 1),
+        (3..=6, _) => Err(refusal::GRADE),
+        _ => Err(refusal::KIND),
+    }
+}
+
 /// Calls the function of a kind and grade, or refuses them.
 macro_rules! by_format {
     ($kind:expr, $grade:expr, $function:ident $(::<$strict:literal>)? ($($argument:expr),*)) => {
-        match ($kind, $grade) {
-            (3, 1) => Format::<3, 1>::$function $(::<$strict>)? ($($argument),*),
-            (3, 2) => Format::<3, 2>::$function $(::<$strict>)? ($($argument),*),
-            (3, 3) => Format::<3, 3>::$function $(::<$strict>)? ($($argument),*),
-            (3, 4) => Format::<3, 4>::$function $(::<$strict>)? ($($argument),*),
-            (4, 1) => Format::<4, 1>::$function $(::<$strict>)? ($($argument),*),
-            (4, 2) => Format::<4, 2>::$function $(::<$strict>)? ($($argument),*),
-            (4, 3) => Format::<4, 3>::$function $(::<$strict>)? ($($argument),*),
-            (4, 4) => Format::<4, 4>::$function $(::<$strict>)? ($($argument),*),
-            (5, 1) => Format::<5, 1>::$function $(::<$strict>)? ($($argument),*),
-            (5, 2) => Format::<5, 2>::$function $(::<$strict>)? ($($argument),*),
-            (5, 3) => Format::<5, 3>::$function $(::<$strict>)? ($($argument),*),
-            (5, 4) => Format::<5, 4>::$function $(::<$strict>)? ($($argument),*),
-            (3..=5, _) => Err(refusal::GRADE),
-            _ => Err(refusal::KIND),
+        match entry($kind, $grade) {
+            Ok(0) => Format::<3, 1>::$function $(::<$strict>)? ($($argument),*),
+            Ok(1) => Format::<3, 2>::$function $(::<$strict>)? ($($argument),*),
+            Ok(2) => Format::<3, 3>::$function $(::<$strict>)? ($($argument),*),
+            Ok(3) => Format::<3, 4>::$function $(::<$strict>)? ($($argument),*),
+            Ok(4) => Format::<4, 1>::$function $(::<$strict>)? ($($argument),*),
+            Ok(5) => Format::<4, 2>::$function $(::<$strict>)? ($($argument),*),
+            Ok(6) => Format::<4, 3>::$function $(::<$strict>)? ($($argument),*),
+            Ok(7) => Format::<4, 4>::$function $(::<$strict>)? ($($argument),*),
+            Ok(8) => Format::<5, 1>::$function $(::<$strict>)? ($($argument),*),
+            Ok(9) => Format::<5, 2>::$function $(::<$strict>)? ($($argument),*),
+            Ok(10) => Format::<5, 3>::$function $(::<$strict>)? ($($argument),*),
+            Ok(11) => Format::<5, 4>::$function $(::<$strict>)? ($($argument),*),
+            Ok(12) => Format::<6, 1>::$function $(::<$strict>)? ($($argument),*),
+            Ok(13) => Format::<6, 2>::$function $(::<$strict>)? ($($argument),*),
+            Ok(14) => Format::<6, 3>::$function $(::<$strict>)? ($($argument),*),
+            Ok(15) => Format::<6, 4>::$function $(::<$strict>)? ($($argument),*),
+            Ok(_) => unreachable!(),
+            Err(number) => Err(number),
         }
     };
 }
@@ -391,7 +484,7 @@ pub struct Account {
 pub fn send_counted(kind: u8, grade: u8, message: &[u8], frame: &mut [i32], account: &mut Account) -> Result<u64, u8> {
     if account.count >= FULL {
         // The earlier tests come first; a frame of the right length is not to be filled.
-        let mut spare = [0; 32];
+        let mut spare = [0; 64];
         let length = frame.len();
         if length > spare.len() {
             // No kind has so many coordinates: refused, and not filled.

@@ -67,7 +67,7 @@ fn sent(kind: u8, grade: u8, random: &mut Random) -> (Vec<Vec<u8>>, Vec<Vec<i32>
 fn frames(random: &mut Random) {
     println!("| kind | grade | function | library, ns a frame | by hand, ns a frame | ratio |");
     println!("|---|---|---|---|---|---|");
-    for kind in 3..=5 {
+    for kind in 3..=6 {
         for grade in [1, 4] {
             let (length, bytes) = lengths(kind, grade);
             let (messages, frames) = sent(kind, grade, random);
@@ -95,7 +95,7 @@ fn frames(random: &mut Random) {
 fn blocks(random: &mut Random) {
     println!("| shape a block alone | library, ns a block | by hand, ns a block | ratio |");
     println!("|---|---|---|---|");
-    for k in [3, 6] {
+    for k in [3, 6, 7] {
         let blocks: [[i32; 8]; FRAMES] = from_fn(|_| from_fn(|_| random.below(2 << k) as i32));
         let mut least = [0; 8];
         let [library, hand] = measure([

@@ -6,7 +6,7 @@
 //!
 //! let mut frame = [0; 8];
 //! assert_eq!(by_number::send(3, 1, &[0x02, 0x00], &mut frame), Ok(4));
-//! assert_eq!(by_number::send(6, 1, &[0x02, 0x00], &mut frame), Err(Refusal::Kind));
+//! assert_eq!(by_number::send(7, 1, &[0x02, 0x00], &mut frame), Err(Refusal::Kind));
 //! assert_eq!(by_number::send(3, 5, &[0x02, 0x00], &mut frame), Err(Refusal::Grade));
 //! assert_eq!(frame, [0, 1, 0, 1, 0, 1, 0, 1]);
 //! ```
@@ -41,7 +41,7 @@ pub fn send(kind: u8, grade: u8, message: &[u8], frame: &mut [i32]) -> Result<u6
 /// # Errors
 ///
 /// In this order: kind, grade, the frame's length, the message's length, a coordinate over range, a
-/// broken level.
+/// broken level, the lowest first.
 pub fn read_open(kind: u8, grade: u8, frame: &[i32], message: &mut [u8]) -> Result<u64, Refusal> {
     // SAFETY: both slices are lent for the call, the message alone; the lengths are theirs.
     answer(unsafe {

@@ -3,35 +3,37 @@
 use crate::Refusal;
 
 /// The coordinates of the longest frame.
-pub const MAX_FRAME_LENGTH: usize = 32;
+pub const MAX_FRAME_LENGTH: usize = 64;
 
 /// The bytes of the longest message.
-pub const MAX_MESSAGE_LENGTH: usize = 20;
+pub const MAX_MESSAGE_LENGTH: usize = 46;
 
 /// A kind of frame, by its number.
 ///
 /// ```
 /// use frame_coder::{Kind, Refusal};
 ///
-/// assert_eq!(Kind::try_from(5), Ok(Kind::Five));
-/// assert_eq!(Kind::new(6), Err(Refusal::Kind));
-/// assert_eq!(Kind::Five.frame_length(), 32);
+/// assert_eq!(Kind::try_from(6), Ok(Kind::Six));
+/// assert_eq!(Kind::new(7), Err(Refusal::Kind));
+/// assert_eq!(Kind::Six.frame_length(), 64);
 /// ```
 #[derive(Clone, Copy, Debug, PartialEq, Eq, PartialOrd, Ord, Hash)]
 #[repr(u8)]
 #[non_exhaustive]
 pub enum Kind {
-    /// 8 coordinates.
+    /// 8 coordinates, one level.
     Three = 3,
-    /// 16 coordinates.
+    /// 16 coordinates, two levels.
     Four = 4,
-    /// 32 coordinates.
+    /// 32 coordinates, two levels.
     Five = 5,
+    /// 64 coordinates, three levels.
+    Six = 6,
 }
 
 impl Kind {
     /// All kinds.
-    pub const ALL: &'static [Kind] = &[Kind::Three, Kind::Four, Kind::Five];
+    pub const ALL: &'static [Kind] = &[Kind::Three, Kind::Four, Kind::Five, Kind::Six];
 
     /// The kind with this number.
     ///
@@ -43,6 +45,7 @@ impl Kind {
             3 => Ok(Kind::Three),
             4 => Ok(Kind::Four),
             5 => Ok(Kind::Five),
+            6 => Ok(Kind::Six),
             _ => Err(Refusal::Kind),
         }
     }
@@ -144,6 +147,7 @@ pub const fn message_bits(kind: Kind, grade: Grade) -> usize {
         Kind::Three => 4 + 8 * grade,
         Kind::Four => 20 + 16 * grade,
         Kind::Five => 32 + 32 * grade,
+        Kind::Six => 112 + 64 * grade,
     }
 }
 
@@ -154,6 +158,7 @@ pub const fn message_bits(kind: Kind, grade: Grade) -> usize {
 ///
 /// assert_eq!(message_bits(Kind::Three, Grade::One), 12);
 /// assert_eq!(message_length(Kind::Three, Grade::One), 2);
+/// assert_eq!(message_length(Kind::Six, Grade::Four), 46);
 /// ```
 #[must_use]
 pub const fn message_length(kind: Kind, grade: Grade) -> usize {

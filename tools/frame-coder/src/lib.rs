@@ -1,6 +1,6 @@
 //! The frame coder's static library for Rust: safe functions over its proved ones.
 //!
-//! A message of 2 to 20 bytes becomes a frame of 8, 16 or 32 whole numbers, by [`send`]; a reading
+//! A message of 2 to 46 bytes becomes a frame of 8, 16, 32 or 64 whole numbers, by [`send`]; a reading
 //! gives the message back: [`read_open`] of any frame of the coding set, [`read_strict`] of the one
 //! that is sent alone. Each gives the frame's energy, the sum of the squares of its coordinates. The
 //! power of a frame is its energy divided by the number of coordinates; an [`Account`] adds it up.
@@ -85,7 +85,8 @@ pub fn send(kind: Kind, grade: Grade, message: &[u8], frame: &mut [i32]) -> Resu
 ///
 /// # Errors
 ///
-/// In this order: the frame's length, the message's length, a coordinate over range, a broken level.
+/// In this order: the frame's length, the message's length, a coordinate over range, a broken level, the
+/// lowest first.
 pub fn read_open(kind: Kind, grade: Grade, frame: &[i32], message: &mut [u8]) -> Result<u64, Refusal> {
     by_number::read_open(kind.number(), grade.number(), frame, message)
 }

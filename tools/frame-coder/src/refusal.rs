@@ -18,7 +18,7 @@ use std::fmt::{Display, Formatter};
 #[repr(u8)]
 #[non_exhaustive]
 pub enum Refusal {
-    /// The kind is not 3, 4 or 5.
+    /// The kind is not 3 to 6.
     Kind = 1,
     /// The grade is not 1 to 4.
     Grade = 2,
@@ -32,12 +32,15 @@ pub enum Refusal {
     OverRange = 6,
     /// Reading: the coordinates' bits of weight 1 are not a codeword.
     BrokenLevel0 = 7,
-    /// Reading at kinds 4 and 5: the coordinates' bits of weight 2 are not a codeword.
+    /// Reading at kinds 4 to 6: the coordinates' bits of weight 2 are not a codeword.
     BrokenLevel1 = 8,
     /// Strict reading: the frame is not the one that is sent for its message.
     Unshaped = 9,
     /// Sending with an account: it has 1,000,000 frames or more.
     AccountFull = 11,
+    /// Reading at kind 6: the coordinates' bits of weight 4 are not a codeword. Tested after
+    /// [`BrokenLevel1`](Refusal::BrokenLevel1).
+    BrokenLevel2 = 13,
 }
 
 impl Refusal {
@@ -53,6 +56,7 @@ impl Refusal {
         Refusal::BrokenLevel1,
         Refusal::Unshaped,
         Refusal::AccountFull,
+        Refusal::BrokenLevel2,
     ];
 
     /// Its number.
@@ -65,7 +69,7 @@ impl Refusal {
     #[must_use]
     pub const fn reason(self) -> &'static str {
         match self {
-            Refusal::Kind => "the kind is not 3, 4 or 5",
+            Refusal::Kind => "the kind is not 3 to 6",
             Refusal::Grade => "the grade is not 1 to 4",
             Refusal::MessageLength => "the message has not the length of its kind and grade",
             Refusal::FrameLength => "the frame has not the length of its kind",
@@ -75,6 +79,7 @@ impl Refusal {
             Refusal::BrokenLevel1 => "level 1 of the frame is not a codeword",
             Refusal::Unshaped => "the frame is not the one that is sent for its message",
             Refusal::AccountFull => "the account is full",
+            Refusal::BrokenLevel2 => "level 2 of the frame is not a codeword",
         }
     }
 }

@@ -53,6 +53,48 @@ fn further_cases() {
     assert_eq!(read_strict(Kind::Three, Grade::One, &frame, &mut [0; 2]), Err(Refusal::OverRange));
 }
 
+/// Cases of kind 6 that are worked by hand.
+#[test]
+fn sixty_four_coordinates() {
+    let begun = |first: &[i32]| {
+        let mut frame = [0; 64];
+        frame[..first.len()].copy_from_slice(first);
+        frame
+    };
+    let mut last = [0; 64];
+    last[62..].fill(4);
+    let table = [
+        (Grade::One, 0, [1; 64], 64),
+        (Grade::One, 7, [2; 64], 256),
+        (Grade::One, 49, [-4; 64], 1024),
+        (Grade::One, 111, last, 32),
+        (Grade::One, 112, begun(&[0, 8]), 64),
+        (Grade::Four, 143, begun(&[-128]), 16_384),
+    ];
+    for (grade, bit, frame, energy) in table {
+        let mut message = vec![0; message_length(Kind::Six, grade)];
+        message[bit / 8] = 1 << (bit % 8);
+        assert_eq!(send_to_vec(Kind::Six, grade, &message), Ok((frame.to_vec(), energy)));
+        for read in [read_open_to_vec, read_strict_to_vec] {
+            assert_eq!(read(Kind::Six, grade, &frame), Ok((message.clone(), energy)));
+        }
+    }
+    use Refusal::{BrokenLevel0, BrokenLevel1, BrokenLevel2};
+    let broken = [(1, BrokenLevel0), (2, BrokenLevel1), (4, BrokenLevel2), (6, BrokenLevel1), (7, BrokenLevel0)];
+    for &grade in Grade::ALL {
+        for (first, refusal) in broken {
+            for read in [read_open_to_vec, read_strict_to_vec] {
+                assert_eq!(read(Kind::Six, grade, &begun(&[first])), Err(refusal));
+            }
+        }
+        assert_eq!(read_open_to_vec(Kind::Six, grade, &[MAX_COORDINATE; 64]).map(|read| read.1), Ok(1 << 46));
+        assert_eq!(read_open_to_vec(Kind::Six, grade, &begun(&[4, MAX_COORDINATE + 1])), Err(Refusal::OverRange));
+    }
+    let (message, energy) = read_open_to_vec(Kind::Six, Grade::One, &[4; 64]).unwrap();
+    assert_eq!((message[6], energy), (2, 1024));
+    assert_eq!(read_strict_to_vec(Kind::Six, Grade::One, &[4; 64]), Err(Refusal::Unshaped));
+}
+
 #[test]
 fn refusals_in_order() {
     let mut frame = [7; 9];
@@ -81,7 +123,7 @@ fn kinds_and_grades() {
         }
     }
     let lengths = Kind::ALL.iter().flat_map(|&kind| Grade::ALL.iter().map(move |&grade| (kind, grade)));
-    assert_eq!(lengths.clone().count(), 12);
+    assert_eq!(lengths.clone().count(), 16);
     for (kind, grade) in lengths {
         let (bits, bytes) = (message_bits(kind, grade), message_length(kind, grade));
         assert!(kind.frame_length() <= MAX_FRAME_LENGTH && bytes <= MAX_MESSAGE_LENGTH);
@@ -143,6 +185,7 @@ fn refusals() {
         }
     }
     let numbers: Vec<u8> = Refusal::ALL.iter().map(|refusal| refusal.number()).collect();
-    assert_eq!(numbers, [1, 2, 3, 4, 5, 6, 7, 8, 9, 11]);
+    assert_eq!(numbers, [1, 2, 3, 4, 5, 6, 7, 8, 9, 11, 13]);
     assert_eq!(Refusal::Unshaped.to_string(), "refused 9: the frame is not the one that is sent for its message");
+    assert_eq!(Refusal::BrokenLevel2.to_string(), "refused 13: level 2 of the frame is not a codeword");
 }

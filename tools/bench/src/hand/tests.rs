@@ -1,5 +1,6 @@
 //! The hand-tuned coder against the second coder's search.
 
+use super::refusal::{BROKEN_LEVEL_0, BROKEN_LEVEL_1, BROKEN_LEVEL_2};
 use super::*;
 use crate::random::Random;
 use second_coder::{class, frame, random, vectors};
@@ -156,7 +157,7 @@ fn check_messages(rounds: usize, seed: u64) {
     let mut own = Random(seed);
     let mut random = random::Random::new(seed);
     for round in 0..rounds {
-        let (kind, grade) = (3 + (round % 3) as u8, 1 + (round / 3 % 4) as u8);
+        let (kind, grade) = (3 + (round % 4) as u8, 1 + (round / 4 % 4) as u8);
         let format = frame::Format::new(kind, grade).unwrap();
         let message = match own.below(3) {
             0 => vectors::dense(&format, &mut random),
@@ -195,8 +196,8 @@ fn lengths_and_spare_bits() {
     let mut random = Random(5);
     for kind in 0..=8 {
         for grade in 0..=6 {
-            for bytes in 0..=22 {
-                for length in [0, 7, 8, 9, 15, 16, 17, 31, 32, 33] {
+            for bytes in 0..=47 {
+                for length in [0, 7, 8, 9, 15, 16, 17, 31, 32, 33, 63, 64, 65] {
                     let mut message = vec![0; bytes];
                     random.fill(&mut message);
                     let mut sent = vec![77; length];
@@ -226,6 +227,15 @@ fn accounts() {
     assert_eq!(send_counted(4, 1, &[0; 5], &mut frame, &mut account), Err(refusal::ACCOUNT_FULL));
     assert_eq!((frame, account), (before, full));
     assert_eq!(send_counted(4, 1, &[0; 5], &mut [0; 99], &mut account), Err(refusal::FRAME_LENGTH));
+    // The longest frames, and 64 ones.
+    let mut frame = [77; 64];
+    assert_eq!(send_counted(6, 4, &[0; 46], &mut frame, &mut account), Err(refusal::ACCOUNT_FULL));
+    assert_eq!((frame, account), ([77; 64], full));
+    account = Account { count: 0, sum: 0.0 };
+    let mut message = [0; 46];
+    message[0] = 1;
+    assert_eq!(send_counted(6, 4, &message, &mut frame, &mut account), Ok(64));
+    assert_eq!((frame, account), ([1; 64], Account { count: 1, sum: 1.0 }));
 }
 
 /// The vectors that the second coder wrote, by the format of its README.
@@ -246,7 +256,8 @@ fn written_vectors() {
         assert_eq!((send(*kind, *grade, message, &mut sent), &sent), (energy, &expected));
         assert_eq!((read_strict(*kind, *grade, &sent, &mut back), &back[..]), (energy, message));
         // The frame with a point added: M at the first two places, and half of M at each place of the last block.
-        let scale = 1 << (if *kind == 3 { 1 } else { 2 } + grade);
+        let levels = frame::Format::new(*kind, *grade).unwrap().levels.len();
+        let scale = 1 << (levels as u8 + grade);
         let (mut first, mut last) = (sent.clone(), sent);
         first.iter_mut().take(2).for_each(|x| *x += scale);
         last.iter_mut().rev().take(8).for_each(|x| *x += scale / 2);
@@ -255,7 +266,17 @@ fn written_vectors() {
             assert_eq!(read_strict(*kind, *grade, frame, &mut back), Err(refusal::UNSHAPED));
             assert_eq!((read_open(*kind, *grade, frame, &mut back), &back[..]), (energy, message));
         }
+        // The first coordinate moved out of the coding set, at each level.
+        for (level, refusal) in [BROKEN_LEVEL_0, BROKEN_LEVEL_1, BROKEN_LEVEL_2].into_iter().take(levels).enumerate() {
+            let mut frame = expected.clone();
+            frame[0] += 1 << level;
+            for read in [read_open, read_strict] {
+                back.fill(0xA5);
+                assert_eq!(read(*kind, *grade, &frame, &mut back), Err(refusal));
+                assert!(back.iter().all(|byte| *byte == 0xA5));
+            }
+        }
         (rest, count) = (after, count + 1);
     }
-    assert!(rest.is_empty() && count >= 2400);
+    assert!(rest.is_empty() && count >= 4800);
 }
