@@ -26,7 +26,7 @@ fn refused(number: u8) -> Tested
 }
 
 // The number of the first level that is not a codeword, 0 where each one is; the words hold the levels, taken backwards.
-// Three turns at most, as in `level_words`.
+// Always three turns, so that the compiler lays them out one by one.
 fn broken_level(kind: u8, words: [u64; 3]) -> u8
     requires { ⌜ isKind kind ≡ true ⌝ }
     ensures { λ r. ⌜ r ≡ brokenIn kind 0 (degrees kind) words ⌝ }
@@ -35,13 +35,12 @@ fn broken_level(kind: u8, words: [u64; 3]) -> u8
     let count = kind_table::levels(kind);
     let mut i: usize = 0;
     while i < 3 {
-        if count <= i {
-            return 0;
-        }
-        let degree = kind_table::degree(kind, i);
-        let bits = words[i];
-        if !reed_muller::clear_above(bits, m, degree) {
-            return kind_table::broken(i);
+        if i < count {
+            let degree = kind_table::degree(kind, i);
+            let bits = words[i];
+            if !reed_muller::clear_above(bits, m, degree) {
+                return kind_table::broken(i);
+            }
         }
         i += 1;
     }

@@ -1,6 +1,6 @@
 -- The constant tables of masks, places and dimensions, one record of computed tests for each length. Assumes nothing.
 use Prim.Native.Nat.{ℕ, zero, suc, _+_, _/_, _^_, _≤_, _<_}
-use mathlib.Core.Path.{_≡_, refl, sym, ap, ap₂, _∙_, subst}
+use mathlib.Core.Path.{_≡_, refl, sym, ap, _∙_, subst}
 use mathlib.Core.List.{List, [], _∷_}
 use native.Mathlib.Omega.{arith}
 use lib.Count.{ones}
@@ -11,7 +11,6 @@ use Rattle.bits.proofs.Table.{table-at}
 use Rattle.bits.proofs.Message.{number-ext}
 use Rattle.bits.proofs.Digits.{digit}
 use Rattle.reed_muller.specs.Level.{ofWeight, masks, order, place, dimension, Tabled}
-use Rattle.reed_muller.proofs.Order.{dimension-small}
 
 -- the tables of length 2 ^ m: the masks in order, their places, the dimensions for r = 0, .., m
 pub record Right (m : ℕ) (os ps ds : List ℕ) : Type 0 where
@@ -83,19 +82,15 @@ none-past zero at e i h = absurd (omega arith)
 none-past (suc n) at e zero h = omega arith
 none-past (suc n) at e (suc i) h = none-past n (λ i. at (suc i)) (omega arith) i (omega arith)
 
--- the bits gathered at all places of a table of length 2 ^ n, whichever it is
+-- the bits gathered at the first places of a table of length 2 ^ n, whichever it is, and at all of them
 module _ {m n : ℕ} (e : m ≡ n) (h : Tabled m) {at : ℕ → ℕ} (none : past (2 ^ n) at ≡ 0) where
-  few-within : {k : ℕ} → k ≤ 2 ^ m → Within k (2 ^ n) at
-  few-within l =
+  pub masks-within : {k : ℕ} → k ≤ 2 ^ m → Within k (2 ^ n) at
+  masks-within l =
       let same : 2 ^ n ≡ 2 ^ m = ap (λ (x : ℕ). 2 ^ x) (sym e) in
       (omega (arith, short h, l), omega (arith, same, l), λ i q. none-past (2 ^ n) at none i (omega (arith, same, l, q)))
 
   pub places-within : Within (2 ^ n) (2 ^ n) at
-  places-within = few-within (omega (arith, ap (λ (x : ℕ). 2 ^ x) e))
-
-  -- and at the first of them, for the message bits of RM(r,m)
-  pub masks-within : (r : ℕ) → r ≤ m → (k : ℕ) → k ≡ dimension r m → Within k (2 ^ n) at
-  masks-within r hr k d = few-within (omega (arith, d, dimension-small r m hr))
+  places-within = masks-within (omega (arith, ap (λ (x : ℕ). 2 ^ x) e))
 
 -- ---- the tables of length 2 ^ n, read where m is n
 
@@ -120,6 +115,5 @@ module _ {m n : ℕ} (e : m ≡ n) {os ps ds : List ℕ} (t : Right n os ps ds) 
       number-ext (2 ^ n) (λ S l. ap (digit bits) (place-entry S l)) ∙ ap (λ (x : ℕ). number (2 ^ x) (λ S. digit bits (place (order m) S))) (sym e)
 
   -- and at the first masks of the order
-  module _ (r : ℕ) (hr : r ≤ m) (k : ℕ) (d : k ≡ dimension r m) where
-    pub by-masks : (bits : ℕ) → number k (λ i. digit bits (getD os i 0)) ≡ number (dimension r m) (λ i. digit bits (getD (order m) i 0))
-    by-masks bits = ap₂ (λ (k : ℕ) (xs : List ℕ). number k (λ i. digit bits (getD xs i 0))) d order-entry
+  pub by-masks : (k bits : ℕ) → number k (λ i. digit bits (getD os i 0)) ≡ number k (λ i. digit bits (getD (order m) i 0))
+  by-masks k bits = ap (λ (xs : List ℕ). number k (λ i. digit bits (getD xs i 0))) order-entry

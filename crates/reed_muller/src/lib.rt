@@ -408,12 +408,11 @@ pub fn clear_above(bits: u64, m: usize, r: usize) -> bool
     heavies << (64 - positions(m)) == 0
 }
 
-// The message bits of RM(r,m), given the bits of the masks: message bit k is the bit of mask k of the order.
-pub fn message_held(bits: u64, m: usize, r: usize) -> u64
-    requires { ⌜ Tabled m × (r ≤ m) ⌝ }
-    ensures { λ b. ⌜ b ≡ number (dimension r m) (λ k. bits / 2 ^ getD (order m) k 0 % 2) ⌝ }
+// The first `count` message bits, given the bits of the masks: message bit k is the bit of mask k of the order.
+pub fn message_held(bits: u64, m: usize, count: usize) -> u64
+    requires { ⌜ Tabled m × (count ≤ 2 ^ m) ⌝ }
+    ensures { λ b. ⌜ b ≡ number count (λ k. bits / 2 ^ getD (order m) k 0 % 2) ⌝ }
 {
-    let count = dimension_of(m, r);
     if m == 3 {
         return gathered(bits, &ORDER_8, count);
     }
@@ -426,13 +425,13 @@ pub fn message_held(bits: u64, m: usize, r: usize) -> u64
     gathered(bits, &ORDER_64, count)
 }
 
-// Writes the message bits into `out` from bit `from` on, given the bits of the masks, and leaves every other bit as it was.
+// Writes the message bits of RM(r,m) into `out` from bit `from` on, given the bits of the masks, and leaves every other bit as it was.
 pub fn put_message(bits: u64, m: usize, r: usize, out: &mut [u8], from: usize)
     requires { ⌜ Tabled m × (r ≤ m) × (dimension r m ≤ 63) × (from % 8 + dimension r m ≤ 64) × (from + dimension r m ≤ 8 * length (now out)) ⌝ }
     ensures { λ _. ⌜ now (out .exit) ≡ bytesOf (length (now (out .entry)))
         (withBits from (dimension r m) (λ k. bits / 2 ^ getD (order m) k 0 % 2) (messageBit (now (out .entry)))) ⌝ }
 {
     let count = dimension_of(m, r);
-    let message = message_held(bits, m, r);
+    let message = message_held(bits, m, count);
     bits::put_bits(message, count, out, from);
 }

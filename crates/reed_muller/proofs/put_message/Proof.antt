@@ -1,13 +1,14 @@
 -- `put_message`: the message bits put in a row. Assumes nothing.
 use Prim.Native.Nat.{_+_, _*_, _%_, _≤_}
-use mathlib.Core.Path.{_∙_}
+use mathlib.Core.Path.{sym, _∙_}
 use native.Mathlib.Omega.{arith}
 use lib.ListN.{length, getD}
 use borrow.Author.Needs.{needs}
 use Rattle.bits.specs.Message.{messageBit}
 use Rattle.bits.proofs.Digits.{digit-small}
 use Rattle.bits.proofs.Bytewise.{put-number}
-use Rattle.reed_muller.specs.Level.{order, dimension}
+use Rattle.reed_muller.specs.Level.{order}
+use Rattle.reed_muller.proofs.Order.{dimension-small}
 use Rattle.reed_muller.proofs.put_message.Statement.{statement}
 use Rattle.reed_muller.proofs.put_message.Tie as tie
 
@@ -15,7 +16,9 @@ dimension-of-requires : tie.Need-dimension-of-requires
 dimension-of-requires c κs = search needs
 
 message-held-requires : tie.Need-message-held-requires
-message-held-requires c κs = search needs
+message-held-requires c κs =
+    let start = c .before .before in
+    (start .pre .0, omega (arith, c .dimension-of .ensures, dimension-small (start .args .r) (start .args .m) (start .pre .1)))
 
 put-bits-requires : tie.Need-put-bits-requires
 put-bits-requires c κs =
@@ -36,9 +39,10 @@ returns c =
     let args = read .before .before .before .args in
     let out = args .out .now in
     let message = read .message-held in
-    put .ensures
-    ∙ rw (read .before .dimension-of .ensures)
-    (put-number (length out) (args .from) (dimension (args .r) (args .m)) (message .ensures)
+    let count = read .before .dimension-of in
+    rw (sym (count .ensures))
+    (put .ensures
+    ∙ put-number (length out) (args .from) (count .result) (message .ensures)
     (λ k l. digit-small (args .bits) (getD (order (args .m)) k 0)) (messageBit out))
 
 pub put-message-spec : {M : Type 1} → statement M
