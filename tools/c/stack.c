@@ -36,7 +36,7 @@ static void call(void)
     }
 }
 
-/* The bytes of stack that the call used. */
+/* The bytes of stack that the call used, in words of 8, by which the stack pointer moves. */
 static size_t used(void)
 {
     size_t lowest = 0;
@@ -49,7 +49,7 @@ static size_t used(void)
     swapcontext(&here, &there);
     while (lowest < ROOM && stack[lowest] == FILL)
         lowest++;
-    return (size_t)(top - (stack + lowest));
+    return ((size_t)(top - (stack + lowest)) + 7) / 8 * 8;
 }
 
 int main(void)
