@@ -60,7 +60,7 @@ sent-fits number k b bytes n e = either (eqb number 0) (energy (sentFrame k b by
 taken-energy : (k b : ℕ) (f : List ℤ) (n : ℕ) → openRefusal k b f n ≡ 0 → energy f ≤ 2 ^ 46
 taken-energy k b f n e =
     let a = accepted k b f n e in
-    omega (arith, short-energy 1048576 f (omega (arith, a .coordinates, few-positions k (a .kind))) (range-within f (a .range)))
+    omega (arith, short-energy 64 1048576 f (omega (arith, a .coordinates, few-positions k (a .kind))) (range-within f (a .range)))
 
 pub open-fits : (number k b : ℕ) (f : List ℤ) (n : ℕ) → number ≡ openRefusal k b f n → energyRead number f ≤ 2 ^ 46
 unfolding energyRead

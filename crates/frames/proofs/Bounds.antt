@@ -15,12 +15,12 @@ use Rattle.frames.proofs.Rows.{grade-low}
 use Rattle.frames.proofs.Limits.{few-positions, scale-128}
 use Rattle.frames.proofs.Demands.{sent-length, sent-within}
 
--- a frame of at most 64 coordinates, each at most B in size
-pub short-energy : (B : ℕ) (f : List ℤ) → length f ≤ 64 → Within B f → energy f ≤ 64 * (B * B)
-short-energy B f l w = omega (arith, energy-within B f w, mul-le-mul-right (B * B) l)
+-- a frame of at most n coordinates, each at most B in size
+pub short-energy : (n B : ℕ) (f : List ℤ) → length f ≤ n → Within B f → energy f ≤ n * (B * B)
+short-energy n B f l w = omega (arith, energy-within B f w, mul-le-mul-right (B * B) l)
 
 -- the energy of a sent frame is at most 2^20
 pub sent-energy : (k b : ℕ) (bytes : List ℕ) → isKind k ≡ true → isGrade b ≡ true → energy (sentFrame k b bytes) ≤ 2 ^ 20
-sent-energy k b bytes kind grade = short-energy 128 (sentFrame k b bytes)
+sent-energy k b bytes kind grade = short-energy 64 128 (sentFrame k b bytes)
     (omega (arith, sent-length k b kind (grade-low b grade) bytes, few-positions k kind))
     (within-to (scale k b) 128 (sentFrame k b bytes) (scale-128 k b kind grade) (sent-within k b kind (grade-low b grade) bytes))
