@@ -1,5 +1,5 @@
 -- The number of sending with an account by its tests, the account by the number, and the energies that are counted. Assumes nothing.
-use Prim.Native.Nat.{ℕ, _^_, _≤_}
+use Prim.Native.Nat.{ℕ, _≤_}
 use mathlib.Core.Path.{_≡_, refl, sym, _∙_}
 use mathlib.Core.Bool.{Bool, true, false, cond}
 use mathlib.Core.List.{List}
@@ -58,7 +58,7 @@ module _ (number k b : ℕ) (m : List ℕ) (a : Account) where
   unfolding countedAccount
   account-refused h = rw (ne-eqb number 0 h)
 
-  pub account-sent : number ≡ 0 → countedAccount number k b m a ≡ grown a (energy (sentFrame k b m)) (2 ^ k)
+  pub account-sent : number ≡ 0 → countedAccount number k b m a ≡ grown a (sentFrame k b m)
   unfolding countedAccount
   account-sent z = rw z
 

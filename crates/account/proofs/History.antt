@@ -1,40 +1,54 @@
--- An account grown from the beginning by calls of sending, refused ones among them, holds the number of accepted sends and exactly
--- the sum of their powers. Assumes nothing.
+-- An account grown from the beginning by calls of sending, refused ones among them, holds the number of accepted sends, exactly the sum
+-- of their powers, and their largest block. Assumes nothing.
 use Prim.Native.Nat.{ℕ, _+_, _≤_, _<_}
 use mathlib.Core.Path.{_≡_, refl, sym, ap, _∙_}
 use mathlib.Core.Bool.{Bool, true, false}
 use mathlib.Core.List.{List, [], _∷_}
 use native.Mathlib.Omega.{arith}
 use lib.Dec.{eqb}
+use lib.IntN.{ℤ}
 use lib.ListN.{length}
-use lib.Ieee.Exact.{HasValue}
-use borrow.Author.Tests.{eqb-true, leb-false}
-use Rattle.e8.specs.Energy.{energy}
-use Rattle.frames.proofs.Limits.{kind-high}
+use borrow.Author.Tests.{ne-eqb, eqb-true, leb-false}
+use Rattle.frames.specs.Frame.{sentFrame}
+use Rattle.frames.proofs.Limits.{kind-high, some-block}
+use Rattle.frames.proofs.Rows.{grade-low}
+use Rattle.frames.proofs.Demands.{sent-length}
 use Rattle.frames.proofs.Accepted.{Passed, all-passed}
 use Rattle.account.specs.declared.Account.{Account}
 use Rattle.account.specs.Power.{begun, grown}
 use Rattle.account.specs.Counted.{countedAccount}
-use Rattle.account.specs.History.{Call, answer, after, accountAfter, entryOf, sentBy, powersIn}
+use Rattle.account.specs.History.{Call, answer, after, accountAfter, sentBy, Holds}
 use Rattle.account.proofs.Answers.{passed, room}
 use Rattle.account.proofs.Grown.{grownBy, Countable, AllCountable, grown-exactly}
+use Rattle.account.proofs.Largest.{grown-largest}
 use Rattle.frames.proofs.Bounds.{sent-energy}
+
+-- the frame of a call
+abbrev frame-of : Call → List ℤ
+frame-of c = sentFrame (c .kind) (c .grade) (c .message)
 
 module _ (a : Account) (c : Call) where
   -- an accepted call passed sending's tests, and the account had room
   tests : answer a c ≡ 0 → Passed (c .kind) (c .grade) (c .message) (c .n)
   tests e = all-passed (c .kind) (c .grade) (c .message) (c .n) (passed (c .kind) (c .grade) (c .message) (c .n) a 0 (sym e) (λ l. refl))
 
-  counts : answer a c ≡ 0 → Countable 6 (entryOf c)
+  counts : answer a c ≡ 0 → Countable 6 (frame-of c)
   counts e =
       let p = tests e in
       let s = sent-energy (c .kind) (c .grade) (c .message) (p .kind) (p .grade) in
-      record { exponent = c .kind; short = kind-high (c .kind) (p .kind); is = refl; small = omega (arith, s) }
+      let n = sent-length (c .kind) (c .grade) (p .kind) (grade-low (c .grade) (p .grade)) (c .message) in
+      record {
+        blocks = rw n (some-block (c .kind) (p .kind));
+        exponent = c .kind;
+        short = kind-high (c .kind) (p .kind);
+        is = n;
+        small = omega (arith, s);
+      }
 
   has-room : answer a c ≡ 0 → a .count < 1000000
   has-room e = leb-false 1000000 (a .count) (room (c .kind) (c .grade) (c .message) (c .n) a e)
 
-  after-sent : eqb (answer a c) 0 ≡ true → after a c ≡ grown a (entryOf c .energy) (entryOf c .n)
+  after-sent : eqb (answer a c) 0 ≡ true → after a c ≡ grown a (frame-of c)
   unfolding countedAccount
   after-sent q = simp q
 
@@ -42,7 +56,7 @@ module _ (a : Account) (c : Call) where
   unfolding countedAccount
   after-refused q = simp q
 
-  by-sent : eqb (answer a c) 0 ≡ true → (cs : List Call) → sentBy a (c ∷ cs) ≡ entryOf c ∷ sentBy (after a c) cs
+  by-sent : eqb (answer a c) 0 ≡ true → (cs : List Call) → sentBy a (c ∷ cs) ≡ frame-of c ∷ sentBy (after a c) cs
   unfolding sentBy
   by-sent q cs = simp q
 
@@ -79,11 +93,15 @@ grows a (c ∷ cs) = go (eqb (answer a c) 0) refl (grows (after a c) cs)
         }
 
 -- THE HISTORY of an account: for any calls from the beginning on
-pub history : (cs : List Call)
-    → (length (sentBy begun cs) ≤ 1000000) × (accountAfter begun cs .count ≡ length (sentBy begun cs))
-    × HasValue (accountAfter begun cs .sum) false (powersIn 64 (sentBy begun cs)) 64
+pub history : (cs : List Call) → Holds (accountAfter begun cs) (sentBy begun cs)
 history cs =
     let g = grows begun cs in
     let l : length (sentBy begun cs) ≤ 1000000 = omega (arith, g .most (omega arith)) in
     let r = grown-exactly 6 (sentBy begun cs) (omega arith) l (g .counted) in
-    (l, rw (g .is) (r .0), rw (g .is) (r .1))
+    rw (g .is) (record { few = l; count = r .0; sum = r .1; largest = grown-largest 6 (sentBy begun cs) (g .counted) })
+
+-- a refused call changes none of the three figures, wherever the account is from, and is not in the history
+pub refused-call : (a : Account) (c : Call) → (answer a c ≡ 0 → ⊥) → (after a c ≡ a) × ((cs : List Call) → sentBy a (c ∷ cs) ≡ sentBy a cs)
+refused-call a c h =
+    let q = ne-eqb (answer a c) 0 h in
+    (after-refused a c q, λ cs. by-refused a c q cs ∙ ap (λ (x : Account). sentBy x cs) (after-refused a c q))

@@ -1,4 +1,5 @@
 pub mod Exact
 pub mod Answers
 pub mod Grown
+pub mod Largest
 pub mod History

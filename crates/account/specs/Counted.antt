@@ -1,11 +1,10 @@
 -- Sending with an account (document 01, "The two readings, power, account"): what it answers, for any message, frame and account.
 -- What it leaves in the lent frame, and the energy, are those of sending by the number that is answered: frameAfter and energySent of
 -- frames. Assumes nothing.
-use Prim.Native.Nat.{ℕ, _^_}
+use Prim.Native.Nat.{ℕ}
 use mathlib.Core.Bool.{cond}
 use mathlib.Core.List.{List}
 use lib.Dec.{eqb}
-use Rattle.e8.specs.Energy.{energy}
 use Rattle.frames.specs.Frame.{sentFrame}
 use Rattle.frames.specs.Sending.{sendRefusal}
 use Rattle.account.specs.declared.Account.{Account}
@@ -19,4 +18,4 @@ countedRefusal k b bytes n a = cond (eqb (sendRefusal k b bytes n) 0) (cond (ful
 -- the account after a call that answers `number`: grown by the sent frame, or as it came where sending is refused
 unfoldable pub countedAccount : ℕ → ℕ → ℕ → List ℕ → Account → Account
 unfolding sentFrame
-countedAccount number k b bytes a = cond (eqb number 0) (grown a (energy (sentFrame k b bytes)) (2 ^ k)) a
+countedAccount number k b bytes a = cond (eqb number 0) (grown a (sentFrame k b bytes)) a

@@ -1,11 +1,15 @@
--- Power and the account, as document 01 has them. Clients cite powerOf, begun, full and grown; Measured is cited by private contracts.
--- Assumes nothing.
-use Prim.Native.Nat.{ℕ, _+_, _^_, _<_}
+-- Power and the account, as document 01 has them, with the largest block of request E2. Clients cite powerOf, begun, full and grown;
+-- Measured and grownWith are cited by private contracts. Assumes nothing.
+use Prim.Native.Nat.{ℕ, max, _+_, _^_, _<_}
 use mathlib.Core.Path.{_≡_}
 use mathlib.Core.Bool.{Bool, false}
+use mathlib.Core.List.{List}
 use lib.Dec.{leb}
-use lib.IntN.{pos}
+use lib.IntN.{ℤ, pos}
+use lib.ListN.{length}
 use lib.Ieee.{Float, fin, binary64, add, div, ofInt}
+use Rattle.e8.specs.Energy.{energy}
+use Rattle.e8.specs.Largest.{largestBlock}
 use Rattle.account.specs.declared.Account.{Account}
 
 -- an energy that f64 holds as a whole number, and a length n that is a power of two, as every frame's is
@@ -19,14 +23,23 @@ pub record Measured (energy n : ℕ) : Type 0 where
 unfoldable pub powerOf : ℕ → ℕ → Float
 powerOf energy n = div binary64 (ofInt binary64 (pos energy)) (ofInt binary64 (pos n))
 
--- an account begins at 0 and 0.0
+-- an account begins at 0 and 0.0, and with 0 for the largest block
 abbrev pub begun : Account
-begun = record { count = 0; sum = fin false 0 (pos 0) }
+begun = record { count = 0; sum = fin false 0 (pos 0); largest = 0 }
 
 -- it is full at 1,000,000 frames
 abbrev pub full : Account → Bool
 full a = leb 1000000 (a .count)
 
--- grown by a frame of an energy and a length n: one more in the count, and one f64 addition of the power to the sum
-abbrev pub grown : Account → ℕ → ℕ → Account
-grown a energy n = record { count = a .count + 1; sum = add binary64 (a .sum) (powerOf energy n) }
+-- grown by a frame of an energy, a length n and a largest block energy: one more in the count, one f64 addition of the power to the sum,
+-- and the larger of the old figure and the frame's largest block
+abbrev pub grownWith : Account → ℕ → ℕ → ℕ → Account
+grownWith a energy n largest = record {
+  count = a .count + 1;
+  sum = add binary64 (a .sum) (powerOf energy n);
+  largest = max (a .largest) largest;
+}
+
+-- grown by a frame
+abbrev pub grown : Account → List ℤ → Account
+grown a f = grownWith a (energy f) (length f) (largestBlock f)

@@ -1,16 +1,18 @@
-// Sending with an account: the frame, and the account grown by its power as f64.
+// Sending with an account: the frame, and the account grown by it: its power as f64, and its largest block.
 ghost use mathlib.Core.Path.{_≡_};
 ghost use mathlib.Core.Bool.{false, cond};
 ghost use lib.Ieee.Exact.{HasValue};
 ghost use lib.ListN.{length};
 ghost use Rattle.frames.specs.Sending.{frameAfter, energySent, LeastEnergy};
-ghost use Rattle.account.specs.Power.{Measured, powerOf, begun, full, grown};
+ghost use Rattle.account.specs.Power.{Measured, powerOf, begun, full, grownWith};
 ghost use Rattle.account.specs.Counted.{countedRefusal, countedAccount};
 
-// An account, by value: a count of frames and the sum of their powers. One from elsewhere may have any count and any sum.
+// An account, by value: a count of frames, the sum of their powers, and the largest block energy among them. One from elsewhere may
+// have any figures.
 pub struct Account {
     pub count: u32,
     pub sum: f64,
+    pub largest: u64,
 }
 
 // What sending with an account answers: the refusal number, 0 for success, the energy of the frame sent, and the account.
@@ -34,7 +36,11 @@ fn power(energy: u64, n: usize) -> f64
 pub fn begin() -> Account
     ensures { λ r. ⌜ r ≡ begun ⌝ }
 {
-    Account { count: 0, sum: 0.0 }
+    Account {
+        count: 0,
+        sum: 0.0,
+        largest: 0,
+    }
 }
 
 // Whether an account takes no further frame.
@@ -44,18 +50,21 @@ fn is_full(a: Account) -> bool
     1000000 <= a.count
 }
 
-// The account grown by a frame: one more in the count, one f64 addition to the sum. A full account stays as it is.
-fn grow(a: Account, energy: u64, n: usize) -> Account
+// The account grown by a frame: one more in the count, one f64 addition to the sum, the larger of two largest blocks. A full account stays
+// as it is.
+fn grow(a: Account, energy: u64, n: usize, block: u64) -> Account
     requires { ⌜ Measured energy n ⌝ }
-    ensures { λ r. ⌜ r ≡ cond (full a) a (grown a energy n) ⌝ }
+    ensures { λ r. ⌜ r ≡ cond (full a) a (grownWith a energy n block) ⌝ }
 {
     let p = power(energy, n);
+    let largest = coordinates::larger(a.largest, block);
     if is_full(a) {
         return a;
     }
     Account {
         count: a.count + 1,
         sum: a.sum + p,
+        largest,
     }
 }
 
@@ -103,10 +112,10 @@ pub fn send_counted(
     if number != 0 {
         return refused(number, account);
     }
-    let sent = sending::send(kind, grade, message, frame);
+    let sent = sending::write_sent(kind, grade as usize, message, frame);
     Counted {
         number,
         energy: sent.energy,
-        account: grow(account, sent.energy, n),
+        account: grow(account, sent.energy, n, sent.largest),
     }
 }

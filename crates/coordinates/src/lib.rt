@@ -1,7 +1,7 @@
 // A block of eight coordinates, or a whole frame of them, as a part of what is lent: its energy, its range, loading and storing it, remainders of its numbers.
 ghost use mathlib.Core.Path.{_≡_};
 ghost use mathlib.Core.Bool.{cond};
-ghost use Prim.Native.Nat.{_^_, _≤_};
+ghost use Prim.Native.Nat.{max, _^_, _≤_};
 ghost use lib.Dec.{leb};
 ghost use lib.IntN.{pos, natAbs, _-ℤ_};
 ghost use lib.ListN.{length};
@@ -91,6 +91,13 @@ pub fn block_energy(part: &[i32]) -> u64
         n += 1;
     }
     sum as u64
+}
+
+// The larger of two energies.
+pub fn larger(a: u64, b: u64) -> u64
+    ensures { λ r. ⌜ r ≡ max a b ⌝ }
+{
+    if a < b { b } else { a }
 }
 
 // ---- the range

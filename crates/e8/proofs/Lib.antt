@@ -11,3 +11,4 @@ pub mod Reduction
 pub mod Generators
 pub mod Frame
 pub mod Within
+pub mod Largest

@@ -1,5 +1,6 @@
 pub mod Energy
 pub mod Order
 pub mod Lattice
+pub mod Largest
 pub mod Least
 pub mod Rows

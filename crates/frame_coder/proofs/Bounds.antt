@@ -7,8 +7,6 @@ use mathlib.Core.List.{List}
 use native.Mathlib.Omega.{arith}
 use lib.Dec.{eqb}
 use lib.IntN.{ℤ, pos, negℤ}
-use lib.ListN.{length}
-use lib.Ieee.{Float}
 use borrow.Author.Tests.{eqb-true}
 use Rattle.e8.specs.Energy.{energy}
 use Rattle.frames.specs.Frame.{sentFrame}
@@ -20,9 +18,9 @@ use Rattle.frames.proofs.Limits.{few-positions}
 use Rattle.frames.proofs.Bounds.{short-energy, sent-energy}
 use Rattle.frames.proofs.Reading.{strict-passed}
 use Rattle.account.specs.declared.Account.{Account}
-use Rattle.account.specs.Counted.{countedAccount}
-use Rattle.account.proofs.Answers.{passed, account-refused}
-use Rattle.frame_coder.specs.Answer.{answerOf, sendAnswer, openAnswer, strictAnswer, accountOf, countedNumber, countedAnswer, countOf, sumOf}
+use Rattle.account.specs.Counted.{countedRefusal}
+use Rattle.account.proofs.Answers.{passed}
+use Rattle.frame_coder.specs.Answer.{answerOf, sendAnswer, openAnswer, strictAnswer, countedAnswer}
 
 -- the energy that stands with a refusal number says nothing
 answer-is : (number e : ℕ) → answerOf number (cond (eqb number 0) e 0) ≡ answerOf number e
@@ -70,21 +68,15 @@ pub strict-fits : (number k b : ℕ) (f : List ℤ) (n : ℕ) → number ≡ str
 unfolding energyRead
 strict-fits number k b f n e = either (eqb number 0) (energy f) (2 ^ 46) (λ t. taken-energy k b f n (strict-passed k b f n (sym e ∙ eqb-true number 0 t) .0))
 
--- ---- sending with an account: the answer and the two lent numbers, by the refusal number
+-- ---- sending with an account: the energy and the answer, by the refusal number
 
-module _ (k b : ℕ) (bytes : List ℕ) (f : List ℤ) (count : ℕ) (sum : Float) (number : ℕ) (is : number ≡ countedNumber k b bytes f count sum) where
+module _ (k b : ℕ) (bytes : List ℕ) (n : ℕ) (a : Account) (number : ℕ) (is : number ≡ countedRefusal k b bytes n a) where
   pub counted-fits : energySent number k b bytes ≤ 2 ^ 46
   unfolding energySent
   counted-fits = either (eqb number 0) (energy (sentFrame k b bytes)) (2 ^ 46) (λ t.
-      let p = all-passed k b bytes (length f) (passed k b bytes (length f) (accountOf count sum) number is (λ l. eqb-true number 0 t)) in
+      let p = all-passed k b bytes n (passed k b bytes n a number is (λ l. eqb-true number 0 t)) in
       omega (arith, sent-energy k b bytes (p .kind) (p .grade)))
 
-  pub counted-answer : answerOf number (energySent number k b bytes) ≡ countedAnswer k b bytes f count sum
+  pub counted-answer : answerOf number (energySent number k b bytes) ≡ countedAnswer k b bytes n a
   unfolding countedAnswer energySent
   counted-answer = answer-is number (energy (sentFrame k b bytes)) ∙ ap (λ (m : ℕ). answerOf m (energy (sentFrame k b bytes))) is
-
-  -- a refusal leaves the two numbers as they were
-  pub as-they-were : (number ≡ 0 → ⊥) → (count ≡ countOf k b bytes f count sum) × (sum ≡ sumOf k b bytes f count sum)
-  as-they-were h =
-      let a = sym (account-refused number k b bytes (accountOf count sum) h) ∙ ap (λ (m : ℕ). countedAccount m k b bytes (accountOf count sum)) is in
-      (ap (λ (x : Account). x .count) a, ap (λ (x : Account). x .sum) a)

@@ -43,28 +43,21 @@ strictAnswer k b f n = answerOf (strictRefusal k b f n) (energy f)
 abbrev pub strictBytes : ℕ → ℕ → List ℤ → List ℕ → List ℕ
 strictBytes k b f bytes = messageAfter (strictRefusal k b f (length bytes)) k b f bytes
 
--- ---- sending with an account, into a lent frame f
+-- ---- sending with an account a, into a lent frame f
 
--- the account that two lent numbers hold
-abbrev pub accountOf : ℕ → Float → Account
-accountOf count sum = record { count = count; sum = sum }
+-- the account that three lent numbers hold
+abbrev pub accountOf : ℕ → Float → ℕ → Account
+accountOf count sum largest = record { count = count; sum = sum; largest = largest }
 
--- the number that is answered
-abbrev pub countedNumber : ℕ → ℕ → List ℕ → List ℤ → ℕ → Float → ℕ
-countedNumber k b bytes f count sum = countedRefusal k b bytes (length f) (accountOf count sum)
-
--- the energy of the sent frame, or minus the refusal number
-unfoldable pub countedAnswer : ℕ → ℕ → List ℕ → List ℤ → ℕ → Float → ℤ
+-- the energy of the sent frame, or minus the refusal number; n coordinates are lent
+unfoldable pub countedAnswer : ℕ → ℕ → List ℕ → ℕ → Account → ℤ
 unfolding answerOf
-countedAnswer k b bytes f count sum = answerOf (countedNumber k b bytes f count sum) (energy (sentFrame k b bytes))
+countedAnswer k b bytes n a = answerOf (countedRefusal k b bytes n a) (energy (sentFrame k b bytes))
 
 -- the lent frame afterwards
-abbrev pub frameOf : ℕ → ℕ → List ℕ → List ℤ → ℕ → Float → List ℤ
-frameOf k b bytes f count sum = frameAfter (countedNumber k b bytes f count sum) k b bytes f
+abbrev pub countedFrame : ℕ → ℕ → List ℕ → List ℤ → Account → List ℤ
+countedFrame k b bytes f a = frameAfter (countedRefusal k b bytes (length f) a) k b bytes f
 
--- the two lent numbers afterwards: those of the account grown by the sent frame, or as they were where sending is refused
-abbrev pub countOf : ℕ → ℕ → List ℕ → List ℤ → ℕ → Float → ℕ
-countOf k b bytes f count sum = countedAccount (countedNumber k b bytes f count sum) k b bytes (accountOf count sum) .count
-
-abbrev pub sumOf : ℕ → ℕ → List ℕ → List ℤ → ℕ → Float → Float
-sumOf k b bytes f count sum = countedAccount (countedNumber k b bytes f count sum) k b bytes (accountOf count sum) .sum
+-- the account that the lent numbers hold afterwards: grown by the sent frame, or as it came where sending is refused
+abbrev pub countedHeld : ℕ → ℕ → List ℕ → ℕ → Account → Account
+countedHeld k b bytes n a = countedAccount (countedRefusal k b bytes n a) k b bytes a

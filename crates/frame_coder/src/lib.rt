@@ -3,7 +3,7 @@ ghost use mathlib.Core.Path.{_≡_};
 ghost use Prim.Native.Nat.{_≤_, _^_};
 ghost use lib.ListN.{length};
 ghost use Rattle.frame_coder.specs.Answer.{answerOf, sendAnswer, sendFrame, openAnswer, openBytes, strictAnswer, strictBytes};
-ghost use Rattle.frame_coder.specs.Answer.{countedAnswer, frameOf, countOf, sumOf};
+ghost use Rattle.frame_coder.specs.Answer.{accountOf, countedAnswer, countedFrame, countedHeld};
 
 // The energy, or minus the refusal number.
 fn answer(number: u8, energy: u64) -> i64
@@ -46,7 +46,7 @@ pub extern "C" fn coder_read_strict(kind: u8, grade: u8, frame: &[i32], message:
     answer(r.number, r.energy)
 }
 
-// Sending with an account that is held in two lent numbers, stored to on success only: the energy, or minus the refusal number.
+// Sending with an account that is held in three lent numbers, stored to on success only: the energy, or minus the refusal number.
 #[no_mangle]
 pub extern "C" fn coder_send_counted(
     kind: u8,
@@ -55,15 +55,20 @@ pub extern "C" fn coder_send_counted(
     frame: &mut [i32],
     count: &mut u32,
     sum: &mut f64,
+    largest: &mut u64,
 ) -> i64
-    ensures answer { λ r. ⌜ r ≡ countedAnswer kind grade (now (message .entry)) (now (frame .entry)) (now (count .entry)) (now (sum .entry)) ⌝ }
-    ensures frame { λ r. ⌜ now (frame .exit) ≡ frameOf kind grade (now (message .entry)) (now (frame .entry)) (now (count .entry)) (now (sum .entry)) ⌝ }
-    ensures count { λ r. ⌜ now (count .exit) ≡ countOf kind grade (now (message .entry)) (now (frame .entry)) (now (count .entry)) (now (sum .entry)) ⌝ }
-    ensures sum { λ r. ⌜ now (sum .exit) ≡ sumOf kind grade (now (message .entry)) (now (frame .entry)) (now (count .entry)) (now (sum .entry)) ⌝ }
+    ensures answer { λ r. ⌜ r ≡ countedAnswer kind grade (now (message .entry)) (length (now (frame .entry)))
+        (accountOf (now (count .entry)) (now (sum .entry)) (now (largest .entry))) ⌝ }
+    ensures frame { λ r. ⌜ now (frame .exit) ≡ countedFrame kind grade (now (message .entry)) (now (frame .entry))
+        (accountOf (now (count .entry)) (now (sum .entry)) (now (largest .entry))) ⌝ }
+    ensures account { λ r. ⌜ accountOf (now (count .exit)) (now (sum .exit)) (now (largest .exit))
+        ≡ countedHeld kind grade (now (message .entry)) (length (now (frame .entry)))
+        (accountOf (now (count .entry)) (now (sum .entry)) (now (largest .entry))) ⌝ }
 {
     let before = account::Account {
         count: *count,
         sum: *sum,
+        largest: *largest,
     };
     let r = account::send_counted(kind, grade, message, frame, before);
     if r.number != 0 {
@@ -72,5 +77,6 @@ pub extern "C" fn coder_send_counted(
     let after = r.account;
     *count = after.count;
     *sum = after.sum;
+    *largest = after.largest;
     answer(0, r.energy)
 }

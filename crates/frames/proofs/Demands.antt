@@ -16,7 +16,7 @@ use Rattle.e8.proofs.Frame.{differ-refl, differ-sym, differ-trans, leastFrame-i
 use Rattle.frames.specs.Kind.{isKind, isGrade, degrees, levels, blocks, scale}
 use Rattle.frames.specs.Message.{Bytes, Message, blockNumbers, coordinate, leader}
 use Rattle.frames.specs.Frame.{InCodingSet, half, SameClass, Sent, sentFrame, leastDistance}
-use Rattle.frames.specs.Sending.{Accepts}
+use Rattle.frames.specs.Sending.{Accepts, LeastEnergy}
 use Rattle.frames.specs.Reading.{openMessage}
 use Rattle.frames.specs.Demands.{Sendable, OneMessage, Reached}
 use Rattle.frames.proofs.Levels.{Codes, apartBy, apart}
@@ -80,6 +80,14 @@ module _ (k b : ℕ) (kind : isKind k ≡ true) (grade : 1 ≤ b) where
 
       scale-half : scale k b ≡ 2 * half k b
       scale-half = subst (λ (d : ℕ). scale k d ≡ 2 * half k d) (sym (above .is)) (scale-is k (above .less))
+
+  -- what sending promises of the frame that it wrote, and of the energy that it reports
+  pub least-energy : (bytes : List ℕ) (f : List ℤ) (e : ℕ) → f ≡ sentFrame k b bytes → e ≡ energy (sentFrame k b bytes) → LeastEnergy k b f e
+  least-energy bytes f e q w = subst (λ (x : List ℤ). LeastEnergy k b x e) (sym q) (record {
+    reported = w;
+    least = λ g d. subst (λ (n : ℕ). n ≤ energy g) (sym w) (sent-least bytes g d);
+    small = sent-within bytes;
+  })
 
 -- ---- one message for each class
 

@@ -4,6 +4,7 @@ ghost use mathlib.Core.Bool.{true};
 ghost use Prim.Native.Nat.{_*_, _/_, _%_, _≤_, _^_};
 ghost use lib.ListN.{length};
 ghost use Rattle.e8.specs.Energy.{energy as energyOf, Within};
+ghost use Rattle.e8.specs.Largest.{largestBlock};
 ghost use Rattle.e8.specs.Least.{leastFrame};
 ghost use Rattle.frames.specs.Kind.{isKind, messageBytes};
 ghost use Rattle.frames.specs.Message.{leader};
@@ -17,6 +18,12 @@ mod refusal;
 pub struct Outcome {
     pub number: u8,
     pub energy: u64,
+}
+
+// The energy of a frame, and the largest of its blocks'.
+pub struct Energies {
+    pub energy: u64,
+    pub largest: u64,
 }
 
 // Writes the coset leader of a message over the lent frame, block by block.
@@ -58,34 +65,38 @@ fn shape(k: u32, frame: &mut [i32])
     }
 }
 
-// The energy of a shaped frame, block by block.
-fn shaped_energy(frame: &[i32]) -> u64
+// The energy of a shaped frame, and the largest of its blocks', block by block.
+fn shaped_energies(frame: &[i32]) -> Energies
     requires { ⌜ (length (now frame) % 8 ≡ 0) × (length (now frame) ≤ 1024) × Within (2 ^ 10) (now frame) ⌝ }
-    ensures { λ r. ⌜ r ≡ energyOf (now (frame .entry)) ⌝ }
+    ensures { λ r. ⌜ (r .energy ≡ energyOf (now (frame .entry))) × (r .largest ≡ largestBlock (now (frame .entry))) ⌝ }
 {
     let n = frame.len() / 8;
     let mut energy: u64 = 0;
+    let mut largest: u64 = 0;
     let mut j: usize = 0;
     while j < n {
         let s = 8 * j;
         let e = s + 8;
-        energy += coordinates::block_energy(&frame[s..e]);
+        let block = coordinates::block_energy(&frame[s..e]);
+        energy += block;
+        largest = coordinates::larger(largest, block);
         j += 1;
     }
-    energy
+    Energies { energy, largest }
 }
 
-// Writes the sent frame of a message of a good kind, grade and length, and gives its energy: the leader is written, and shaped.
-fn write_sent(kind: u8, grade: usize, message: &[u8], frame: &mut [i32]) -> u64
+// Writes the sent frame of a message that has passed the tests, and gives its energy and its largest block's: the leader is written, and shaped.
+pub fn write_sent(kind: u8, grade: usize, message: &[u8], frame: &mut [i32]) -> Energies
     requires { ⌜ (isKind kind ≡ true) × (1 ≤ grade) × (grade ≤ 4)
         × (length (now message) ≡ messageBytes kind grade) × (length (now frame) ≡ 2 ^ kind) ⌝ }
     ensures frame { λ _. ⌜ now (frame .exit) ≡ sentFrame kind grade (now (message .entry)) ⌝ }
-    ensures energy { λ r. ⌜ r ≡ energyOf (sentFrame kind grade (now (message .entry))) ⌝ }
+    ensures energy { λ r. ⌜ r .energy ≡ energyOf (sentFrame kind grade (now (message .entry))) ⌝ }
+    ensures largest { λ r. ⌜ r .largest ≡ largestBlock (sentFrame kind grade (now (message .entry))) ⌝ }
 {
     write_leader(kind, grade, message, frame);
     let k = kind_table::levels(kind) + grade - 1;
     shape(k as u32, frame);
-    shaped_energy(frame)
+    shaped_energies(frame)
 }
 
 // The tests alone, for a caller that has a test of its own to make before anything is written; n coordinates are lent.
@@ -107,6 +118,9 @@ pub fn send(kind: u8, grade: u8, message: &[u8], frame: &mut [i32]) -> Outcome
     if number != 0 {
         return Outcome { number, energy: 0 };
     }
-    let energy = write_sent(kind, grade as usize, message, frame);
-    Outcome { number, energy }
+    let sent = write_sent(kind, grade as usize, message, frame);
+    Outcome {
+        number,
+        energy: sent.energy,
+    }
 }

@@ -1,13 +1,15 @@
 -- `send_counted` meets its contract: what is left, by the number that is answered. Assumes nothing.
+use Prim.Native.Nat.{ℕ}
 use mathlib.Core.Path.{_≡_, sym, ap, ap₂, _∙_}
 use mathlib.Core.Bool.{Bool, cond}
 use native.Mathlib.Omega.{arith}
 use lib.ListN.{length}
-use Rattle.e8.specs.Energy.{energy}
 use Rattle.frames.specs.Frame.{sentFrame}
 use Rattle.frames.specs.Sending.{sendRefusal}
-use Rattle.frames.proofs.Accepted.{all-passed, sent-leaves, refused-leaves}
-use Rattle.account.specs.Power.{grown}
+use Rattle.frames.proofs.Accepted.{Passed, all-passed, sent-leaves, refused-leaves}
+use Rattle.frames.proofs.Rows.{grade-low, grade-high}
+use Rattle.frames.proofs.Demands.{sent-length, least-energy}
+use Rattle.account.specs.Power.{grown, grownWith}
 use Rattle.account.proofs.Answers.{passed, room, account-refused, account-sent, measured}
 use borrow.Author.Needs.{needs}
 use Rattle.account.proofs.send_counted.Statement.{statement}
@@ -37,43 +39,65 @@ sends d =
     passed (s .kind) (s .grade) (s .message .now) (length (s .frame .now)) (s .account) (d .before .refusal .result) (d .before .refusal .ensures)
     (λ l. omega (arith, l, d .if1 .left))
 
-send-requires : tie.Need-send-requires
-send-requires c κs = search needs
+tests : (d : tie.Else1) → let s = d .before .before .before .args in Passed (s .kind) (s .grade) (s .message .now) (length (s .frame .now))
+tests d = let s = d .before .before .before .args in all-passed (s .kind) (s .grade) (s .message .now) (length (s .frame .now)) (sends d)
 
--- what was sent, and its energy
-was-sent : (c : tie.After-send) → let d = c .before .before in let s = d .before .before .before .args in
-    (c .send .last .1 .1 .1 .0 ≡ sentFrame (s .kind) (s .grade) (s .message .now)) × (c .send .result .energy ≡ energy (sentFrame (s .kind) (s .grade) (s .message .now)))
-was-sent c =
-    let d = c .before .before in
-    let s = d .before .before .before .args in
-    let e = c .send .ensures in
-    let t = sent-leaves (c .send .result .number) (s .kind) (s .grade) (s .message .now) (s .frame .now) (e .0 ∙ sends d) in
-    (e .1 .0 ∙ t .0, e .1 .1 .0 ∙ t .1)
+write-sent-requires : tie.Need-write-sent-requires
+write-sent-requires c κs =
+    let s = c .before .before .before .before .args in
+    let p = tests (c .before) in
+    (p .kind, grade-low (s .grade) (p .grade), grade-high (s .grade) (p .grade), p .long, p .coordinates)
 
 grow-requires : tie.Need-grow-requires
 grow-requires c κs =
     let a = c .before in
     let d = a .before .before in
     let s = d .before .before .before .args in
-    measured (s .kind) (s .grade) (s .message .now) (length (s .frame .now)) (sends d) (a .send .result .energy) (was-sent a .1)
+    measured (s .kind) (s .grade) (s .message .now) (length (s .frame .now)) (sends d) (a .write-sent .result .energy) (a .write-sent .ensures .1 .0)
 
 same-length : tie.Need-same-length
 same-length c = search needs
 
+-- the account grown by the sent frame
+has-grown : (c : tie.After-grow) → let s = c .before .before .before .before .before .before .before .args in
+    c .grow .result ≡ grown (s .account) (sentFrame (s .kind) (s .grade) (s .message .now))
+has-grown c =
+    let w = c .before .before in
+    let d = w .before .before in
+    let s = d .before .before .before .args in
+    let n = length (s .frame .now) in
+    let p = tests d in
+    let e = w .write-sent .ensures in
+    let r = room (s .kind) (s .grade) (s .message .now) n (s .account) (sym (d .before .refusal .ensures) ∙ d .if1 .left) in
+    let long = p .coordinates ∙ sym (sent-length (s .kind) (s .grade) (p .kind) (grade-low (s .grade) (p .grade)) (s .message .now)) in
+    c .grow .ensures
+    ∙ ap (λ (v : Bool). cond v (s .account) (grownWith (s .account) (w .write-sent .result .energy) n (w .write-sent .result .largest))) r
+    ∙ ap (λ (m : ℕ). grownWith (s .account) (w .write-sent .result .energy) m (w .write-sent .result .largest)) long
+    ∙ ap₂ (λ (x y : ℕ). grownWith (s .account) x (length (sentFrame (s .kind) (s .grade) (s .message .now))) y) (e .1 .0) (e .1 .1)
+
 returns-2 : tie.Need-returns-2
 returns-2 c =
-    let a = c .before .before in
-    let d = a .before .before in
+    let w = c .before .before in
+    let d = w .before .before in
     let s = d .before .before .before .args in
     let number = d .before .refusal .result in
     let zero : number ≡ 0 = omega (arith, d .if1 .left) in
+    let p = tests d in
     let t = sent-leaves number (s .kind) (s .grade) (s .message .now) (s .frame .now) zero in
     let q = account-sent number (s .kind) (s .grade) (s .message .now) (s .account) zero in
-    let w = was-sent a in
-    let r = room (s .kind) (s .grade) (s .message .now) (length (s .frame .now)) (s .account) (sym (d .before .refusal .ensures) ∙ zero) in
-    let g = c .grow .ensures ∙ ap (λ (v : Bool). cond v (s .account) (grown (s .account) (a .send .result .energy) (length (s .frame .now)))) r
-    ∙ ap₂ (grown (s .account)) (w .1) (all-passed (s .kind) (s .grade) (s .message .now) (length (s .frame .now)) (sends d) .coordinates) in
-    (d .before .refusal .ensures, (w .0 ∙ sym (t .0), (w .1 ∙ sym (t .1), (g ∙ sym q, (λ z. a .send .ensures .1 .1 .1 (a .send .ensures .0 ∙ sends d))))))
+    let e = w .write-sent .ensures in (
+      d .before .refusal .ensures,
+      (
+        e .0 ∙ sym (t .0),
+        (
+          e .1 .0 ∙ sym (t .1),
+          (
+            has-grown c ∙ sym q,
+            (λ z. least-energy (s .kind) (s .grade) (p .kind) (grade-low (s .grade) (p .grade)) (s .message .now) _ _ (e .0) (e .1 .0)),
+          ),
+        ),
+      ),
+    )
 
 pub send-counted-spec : {M : Type 1} → statement M
 send-counted-spec =
@@ -82,7 +106,7 @@ send-counted-spec =
     refusal-requires
     refused-requires
     returns
-    send-requires
+    write-sent-requires
     grow-requires
     same-length
     returns-2)

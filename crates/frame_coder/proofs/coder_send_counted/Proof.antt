@@ -1,20 +1,42 @@
--- `coder_send_counted` meets its contract: what sending with an account ensures, in one number and the two lent ones. Assumes nothing.
+-- `coder_send_counted` meets its contract: what sending with an account ensures, in one number and the three lent ones. Assumes nothing.
 use Prim.Native.Nat.{ℕ}
-use mathlib.Core.Path.{sym, ap, ap₂, _∙_}
+use mathlib.Core.Path.{_≡_, sym, ap, ap₂, _∙_}
 use native.Mathlib.Omega.{arith}
+use lib.ListN.{length}
 use mir.Facts.{toZ-ofZ}
 use borrow.Author.Needs.{needs}
 use Rattle.account.specs.declared.Account.{Account}
 use Rattle.frames.specs.Sending.{frameAfter}
 use Rattle.frames.proofs.Accepted.{refused-leaves}
 use Rattle.account.specs.Counted.{countedAccount}
-use Rattle.frame_coder.specs.Answer.{answerOf, accountOf}
-use Rattle.frame_coder.proofs.Bounds.{counted-fits, counted-answer, as-they-were}
+use Rattle.account.proofs.Answers.{account-refused}
+use Rattle.frame_coder.specs.Answer.{answerOf, accountOf, countedFrame, countedHeld}
+use Rattle.frame_coder.proofs.Bounds.{counted-fits, counted-answer}
 use Rattle.frame_coder.proofs.coder_send_counted.Statement.{statement}
 use Rattle.frame_coder.proofs.coder_send_counted.Tie as tie
 
+-- the beginning, and the account that is lent
+abbrev start : tie.After-send-counted → tie.Start
+start w = w .before .before .before .before .before
+
+abbrev held : tie.After-send-counted → Account
+held w = let s = start w .args in accountOf (s .count .now) (s .sum .now) (s .largest .now)
+
 send-counted-requires : tie.Need-send-counted-requires
 send-counted-requires c κs = search needs
+
+-- what sending with the account leaves, by the definitions
+module _ (w : tie.After-send-counted) where
+  frame-is : let s = start w .args in w .send-counted .last .1 .1 .1 .0 ≡ countedFrame (s .kind) (s .grade) (s .message .now) (s .frame .now) (held w)
+  frame-is =
+      let s = start w .args in
+      let e = w .send-counted .ensures in
+      e .1 .0 ∙ ap (λ (n : ℕ). frameAfter n (s .kind) (s .grade) (s .message .now) (s .frame .now)) (e .0)
+
+  account-is : let s = start w .args in
+      countedAccount (w .send-counted .result .number) (s .kind) (s .grade) (s .message .now) (held w)
+      ≡ countedHeld (s .kind) (s .grade) (s .message .now) (length (s .frame .now)) (held w)
+  account-is = let s = start w .args in ap (λ (n : ℕ). countedAccount n (s .kind) (s .grade) (s .message .now) (held w)) (w .send-counted .ensures .0)
 
 answer-requires : tie.Need-answer-requires
 answer-requires c κs = search needs
@@ -26,22 +48,21 @@ returns : tie.Need-returns
 returns c =
     let t = c .before in
     let w = t .before .before .before in
-    let s = w .before .before .before .before .args in
+    let s = start w .args in
     let e = w .send-counted .ensures in
     let r = w .send-counted .result .number in
-    let n = as-they-were (s .kind) (s .grade) (s .message .now) (s .frame .now) (s .count .now) (s .sum .now) r (e .0) (t .if1 .taken) in
-    let l = counted-answer (s .kind) (s .grade) (s .message .now) (s .frame .now) (s .count .now) (s .sum .now) r (e .0) in
+    let l = counted-answer (s .kind) (s .grade) (s .message .now) (length (s .frame .now)) (held w) r (e .0) in
     let z = refused-leaves r (s .kind) (s .grade) (s .message .now) (s .frame .now) (t .if1 .taken) in (
       toZ-ofZ (record { sfits = c .answer .ok }) ∙ c .answer .ensures ∙ ap (answerOf r) (sym (z .1)) ∙ l,
-      (e .1 .0 ∙ ap (λ (n : ℕ). frameAfter n (s .kind) (s .grade) (s .message .now) (s .frame .now)) (e .0), (n .0, n .1)),
+      (frame-is w, sym (account-refused r (s .kind) (s .grade) (s .message .now) (held w) (t .if1 .taken)) ∙ account-is w),
     )
 
 answer-requires-2 : tie.Need-answer-requires-2
 answer-requires-2 c κs =
     let w = c .before .before .before .before in
-    let s = w .before .before .before .before .args in
+    let s = start w .args in
     let e = w .send-counted .ensures in
-    omega (arith, e .1 .1 .0, counted-fits (s .kind) (s .grade) (s .message .now) (s .frame .now) (s .count .now) (s .sum .now) (w .send-counted .result .number) (e .0))
+    omega (arith, e .1 .1 .0, counted-fits (s .kind) (s .grade) (s .message .now) (length (s .frame .now)) (held w) (w .send-counted .result .number) (e .0))
 
 same-length-2 : tie.Need-same-length-2
 same-length-2 c = search needs
@@ -50,16 +71,11 @@ returns-2 : tie.Need-returns-2
 returns-2 c =
     let t = c .before .before in
     let w = t .before .before .before in
-    let s = w .before .before .before .before .args in
+    let s = start w .args in
     let e = w .send-counted .ensures in
-    let r = w .send-counted .result .number in
-    let l = counted-answer (s .kind) (s .grade) (s .message .now) (s .frame .now) (s .count .now) (s .sum .now) r (e .0) in
-    let a = e .1 .1 .1 .0 ∙ ap (λ (n : ℕ). countedAccount n (s .kind) (s .grade) (s .message .now) (accountOf (s .count .now) (s .sum .now))) (e .0) in (
+    let l = counted-answer (s .kind) (s .grade) (s .message .now) (length (s .frame .now)) (held w) (w .send-counted .result .number) (e .0) in (
       toZ-ofZ (record { sfits = c .answer2 .ok }) ∙ c .answer2 .ensures ∙ ap₂ answerOf (sym (t .if1 .left)) (e .1 .1 .0) ∙ l,
-      (
-        e .1 .0 ∙ ap (λ (n : ℕ). frameAfter n (s .kind) (s .grade) (s .message .now) (s .frame .now)) (e .0),
-        (ap (λ (x : Account). x .count) a, ap (λ (x : Account). x .sum) a),
-      ),
+      (frame-is w, e .1 .1 .1 .0 ∙ account-is w),
     )
 
 pub coder-send-counted-spec : {M : Type 1} → statement M

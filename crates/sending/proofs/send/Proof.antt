@@ -1,30 +1,14 @@
 -- `send` meets its contract: the definitions by its number, and the demands of what is sent. Assumes nothing.
-use Prim.Native.Nat.{ℕ, _≤_}
-use mathlib.Core.Path.{_≡_, sym, _∙_, subst}
-use mathlib.Core.Bool.{true}
-use mathlib.Core.List.{List}
+use mathlib.Core.Path.{sym, _∙_}
 use native.Mathlib.Omega.{arith}
 use lib.ListN.{length}
-use lib.IntN.{ℤ}
-use Rattle.e8.specs.Energy.{energy}
-use Rattle.frames.specs.Kind.{isKind}
-use Rattle.frames.specs.Frame.{sentFrame}
-use Rattle.frames.specs.Sending.{LeastEnergy}
 use Rattle.frames.proofs.Accepted.{sent-leaves, refused-leaves}
 use Rattle.frames.proofs.Rows.{grade-low, grade-high}
-use Rattle.frames.proofs.Demands.{sent-least, sent-within}
+use Rattle.frames.proofs.Demands.{least-energy}
 use Rattle.sending.proofs.Answers.{Fits, fits}
 use borrow.Author.Needs.{needs}
 use Rattle.sending.proofs.send.Statement.{statement}
 use Rattle.sending.proofs.send.Tie as tie
-
--- what is written has the least energy of its class
-least : (k b : ℕ) (m : List ℕ) (f : List ℤ) (e : ℕ) → isKind k ≡ true → 1 ≤ b → f ≡ sentFrame k b m → e ≡ energy (sentFrame k b m) → LeastEnergy k b f e
-least k b m f e kind grade q w = subst (λ (x : List ℤ). LeastEnergy k b x e) (sym q) (record {
-  reported = w;
-  least = λ g d. subst (λ (n : ℕ). n ≤ energy g) (sym w) (sent-least k b kind grade m g d);
-  small = sent-within k b kind grade m;
-})
 
 refusal-requires : tie.Need-refusal-requires
 refusal-requires c κs = search needs
@@ -64,8 +48,8 @@ returns-2 c =
       (
         f .0 ∙ sym (t .0),
         (
-          f .1 ∙ sym (t .1),
-          (λ e. least (s .kind) (s .grade) (s .message .now) (c .before .write-sent .last .1 .1 .1 .0) (c .before .write-sent .result) (a .kind) (grade-low (s .grade) (a .grade)) (f .0) (f .1)),
+          f .1 .0 ∙ sym (t .1),
+          (λ e. least-energy (s .kind) (s .grade) (a .kind) (grade-low (s .grade) (a .grade)) (s .message .now) _ _ (f .0) (f .1 .0)),
         ),
       ),
     )

@@ -9,6 +9,7 @@ use lib.IntN.{ℤ}
 use lib.Pow.{pow-mono}
 use Rattle.e8.proofs.Within.{within-to}
 use Rattle.e8.specs.Energy.{energy, Within}
+use Rattle.e8.specs.Largest.{largestBlock}
 use Rattle.e8.specs.Least.{leastFrame}
 use Rattle.frames.specs.Kind.{isKind, scale, levels as levels-of}
 use Rattle.frames.specs.Message.{leader}
@@ -74,8 +75,8 @@ near : (k b : ℕ) (bytes : List ℕ) → isKind k ≡ true → 1 ≤ b → b �
 unfolding scale
 near k b bytes kind low high = within-to (scale k b) (2 ^ 10) (sentFrame k b bytes) (pow-mono {j = 10} (omega (arith, few-levels k kind))) (sent-within k b kind low bytes)
 
-shaped-energy-requires : tie.Need-shaped-energy-requires
-shaped-energy-requires c κs =
+shaped-energies-requires : tie.Need-shaped-energies-requires
+shaped-energies-requires c κs =
     let h = c .before .before in
     let s = h .before .before .before .before .before .before .before in
     let k = s .args .kind in
@@ -89,7 +90,10 @@ same-length : tie.Need-same-length
 same-length c = search needs
 
 returns : tie.Need-returns
-returns c = let h = c .before .before .before in (shaped h, c .shaped-energy .ensures ∙ ap energy (shaped h))
+returns c =
+    let h = c .before .before .before in
+    let e = c .shaped-energies .ensures in
+    (shaped h, (e .0 ∙ ap energy (shaped h), e .1 ∙ ap largestBlock (shaped h)))
 
 pub write-sent-spec : {M : Type 1} → statement M
 write-sent-spec =
@@ -101,6 +105,6 @@ write-sent-spec =
     sub-k
     cast-shape
     shape-requires
-    shaped-energy-requires
+    shaped-energies-requires
     same-length
     returns)
