@@ -1,6 +1,6 @@
 -- An account grown from the beginning by calls of sending, refused ones among them, holds the number of accepted sends, exactly the sum
 -- of their powers, and their largest block. Assumes nothing.
-use Prim.Native.Nat.{ℕ, _+_, _≤_, _<_}
+use Prim.Native.Nat.{_+_, _≤_, _<_}
 use mathlib.Core.Path.{_≡_, refl, sym, ap, _∙_}
 use mathlib.Core.Bool.{Bool, true, false}
 use mathlib.Core.List.{List, [], _∷_}

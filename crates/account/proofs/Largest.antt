@@ -1,6 +1,6 @@
 -- An account grown by frames from the beginning holds the largest block energy among them. Assumes nothing.
 use Prim.Native.Nat.{ℕ, zero, suc, max, _<_, _≤_}
-use mathlib.Core.Path.{_≡_, refl, sym, ap, _∙_, subst}
+use mathlib.Core.Path.{_≡_, refl, sym, _∙_}
 use mathlib.Core.Logic.{_⊎_, inl, inr}
 use mathlib.Core.List.{List, [], _∷_}
 use native.Mathlib.Nat.{le-refl, le-trans, le-max-left, le-max-right, zero-max}
@@ -9,7 +9,7 @@ use lib.IntN.{ℤ}
 use lib.ListN.{length, getD}
 use Rattle.e8.specs.Energy.{energy}
 use Rattle.e8.specs.Lattice.{part}
-use Rattle.e8.specs.Largest.{blocksOf, IsLargest, largestBlock}
+use Rattle.e8.specs.Largest.{blocksOf, largestBlock}
 use Rattle.e8.proofs.Largest.{one-of, largest-is}
 use Rattle.account.specs.declared.Account.{Account}
 use Rattle.account.specs.Power.{begun, grown}

@@ -3,3 +3,4 @@ pub mod Answers
 pub mod Grown
 pub mod Largest
 pub mod History
+pub mod Worked

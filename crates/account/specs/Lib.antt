@@ -1,3 +1,4 @@
 pub mod Power
 pub mod Counted
 pub mod History
+pub mod Worked

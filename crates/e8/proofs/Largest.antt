@@ -1,13 +1,12 @@
 -- The largest block energy that is computed is the one of the rule, and no other number is. Assumes nothing.
 use Prim.Native.Nat.{ℕ, zero, suc, max, _+_, _<_, _≤_}
-use mathlib.Core.Path.{_≡_, refl, sym, ap, _∙_, subst}
+use mathlib.Core.Path.{_≡_, refl, sym, _∙_, subst}
 use mathlib.Core.Logic.{_⊎_, inl, inr}
 use mathlib.Core.List.{List}
 use native.Mathlib.Nat.{le-trans, le-antisymm, le-max-left, le-max-right, max-eq-left, max-eq-right, zero-max}
 use native.Mathlib.Omega.{arith}
 use native.Mathlib.Decide.{decLt, ℕ-discrete}
 use native.Mathlib.Numerals.{add-one}
-use lib.ListN.{length}
 use lib.IntN.{ℤ}
 use Rattle.e8.specs.Energy.{energy}
 use Rattle.e8.specs.Lattice.{part}
@@ -20,11 +19,6 @@ one-of a b = go (decLt b a)
     go : Dec (b < a) → (max a b ≡ a) ⊎ (max a b ≡ b)
     go (yes h) = inl (max-eq-left (omega arith))
     go (no h) = inr (max-eq-right (omega (arith, h)))
-
--- one block more
-pub largest-more : (n : ℕ) (f : List ℤ) → largestTo (n + 1) f ≡ max (largestTo n f) (energy (part n f))
-unfolding largestTo
-largest-more n f = rw add-one refl
 
 -- no block among the first n has more
 to-most : (n : ℕ) (f : List ℤ) (i : ℕ) → i < n → energy (part i f) ≤ largestTo n f
@@ -68,3 +62,8 @@ pub largest-only : (f : List ℤ) (r : ℕ) → IsLargest f r → r ≡ largestB
 largest-only f r is =
     let g = largest-is f (omega (arith, is .inside)) in
     le-antisymm (subst (λ (e : ℕ). e ≤ largestBlock f) (is .has) (g .most (is .block) (is .inside))) (subst (λ (e : ℕ). e ≤ r) (g .has) (is .most (g .block) (g .inside)))
+
+-- one block more
+pub largest-more : (n : ℕ) (f : List ℤ) → largestTo (n + 1) f ≡ max (largestTo n f) (energy (part n f))
+unfolding largestTo
+largest-more n f = rw add-one refl

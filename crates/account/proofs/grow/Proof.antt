@@ -1,5 +1,5 @@
 -- `grow` meets its contract: a full account stays, and any other has room for one more. Assumes nothing.
-use Prim.Native.Nat.{ℕ, _+_}
+use Prim.Native.Nat.{ℕ, max, _+_}
 use mathlib.Core.Path.{_≡_, sym, ap₂, _∙_}
 use mathlib.Core.Bool.{true, false}
 use native.Mathlib.Omega.{arith}
@@ -20,6 +20,10 @@ power-requires c κs = search needs
 
 larger-requires : tie.Need-larger-requires
 larger-requires c κs = search needs
+
+-- the larger of the old figure and the frame's largest block
+largest-is : (c : tie.After-larger) → let s = c .before .before .args in c .larger .result ≡ max (s .a .largest) (s .block)
+largest-is c = c .larger .ensures
 
 is-full-requires : tie.Need-is-full-requires
 is-full-requires c κs = search needs
@@ -44,7 +48,7 @@ unfolding with-figures
 returns-2 c =
     let d = c .before .before in
     let l = d .before .before in
-    ap₂ (with-figures (account (d .before))) (l .before .power .ensures .0) (l .larger .ensures) ∙ sym (simp (has-room d))
+    ap₂ (with-figures (account (d .before))) (l .before .power .ensures .0) (largest-is l) ∙ sym (simp (has-room d))
 
 pub grow-spec : {M : Type 1} → statement M
 grow-spec = tie.close (tie.spec power-requires larger-requires is-full-requires returns add-t8 returns-2)

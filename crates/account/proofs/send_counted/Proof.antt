@@ -1,7 +1,5 @@
 -- `send_counted` meets its contract: what is left, by the number that is answered. Assumes nothing.
-use Prim.Native.Nat.{ℕ}
-use mathlib.Core.Path.{_≡_, sym, ap, ap₂, _∙_}
-use mathlib.Core.Bool.{Bool, cond}
+use mathlib.Core.Path.{_≡_, sym, _∙_}
 use native.Mathlib.Omega.{arith}
 use lib.ListN.{length}
 use Rattle.frames.specs.Frame.{sentFrame}
@@ -9,7 +7,7 @@ use Rattle.frames.specs.Sending.{sendRefusal}
 use Rattle.frames.proofs.Accepted.{Passed, all-passed, sent-leaves, refused-leaves}
 use Rattle.frames.proofs.Rows.{grade-low, grade-high}
 use Rattle.frames.proofs.Demands.{sent-length, least-energy}
-use Rattle.account.specs.Power.{grown, grownWith}
+use Rattle.account.specs.Power.{grown}
 use Rattle.account.proofs.Answers.{passed, room, account-refused, account-sent, measured}
 use borrow.Author.Needs.{needs}
 use Rattle.account.proofs.send_counted.Statement.{statement}
@@ -32,7 +30,10 @@ returns c =
     let a = account-refused (c .refused .result .number) (s .kind) (s .grade) (s .message .now) (s .account) no in
     (e .0 ∙ t .before .refusal .ensures, (sym (n .0), (e .1 ∙ sym (n .1), (e .2 ∙ sym a, (λ z. absurd (no z))))))
 
--- past the test, sending's own tests are passed
+-- past the test the number is 0, and sending's own tests are passed
+accepted : (d : tie.Else1) → d .before .refusal .result ≡ 0
+accepted d = omega (arith, d .if1 .left)
+
 sends : (d : tie.Else1) → let s = d .before .before .before .args in sendRefusal (s .kind) (s .grade) (s .message .now) (length (s .frame .now)) ≡ 0
 sends d =
     let s = d .before .before .before .args in
@@ -68,12 +69,9 @@ has-grown c =
     let n = length (s .frame .now) in
     let p = tests d in
     let e = w .write-sent .ensures in
-    let r = room (s .kind) (s .grade) (s .message .now) n (s .account) (sym (d .before .refusal .ensures) ∙ d .if1 .left) in
+    let r = room (s .kind) (s .grade) (s .message .now) n (s .account) (sym (d .before .refusal .ensures) ∙ accepted d) in
     let long = p .coordinates ∙ sym (sent-length (s .kind) (s .grade) (p .kind) (grade-low (s .grade) (p .grade)) (s .message .now)) in
-    c .grow .ensures
-    ∙ ap (λ (v : Bool). cond v (s .account) (grownWith (s .account) (w .write-sent .result .energy) n (w .write-sent .result .largest))) r
-    ∙ ap (λ (m : ℕ). grownWith (s .account) (w .write-sent .result .energy) m (w .write-sent .result .largest)) long
-    ∙ ap₂ (λ (x y : ℕ). grownWith (s .account) x (length (sentFrame (s .kind) (s .grade) (s .message .now))) y) (e .1 .0) (e .1 .1)
+    simp (r, long, e .1 .0, e .1 .1) at (c .grow .ensures)
 
 returns-2 : tie.Need-returns-2
 returns-2 c =
@@ -81,10 +79,9 @@ returns-2 c =
     let d = w .before .before in
     let s = d .before .before .before .args in
     let number = d .before .refusal .result in
-    let zero : number ≡ 0 = omega (arith, d .if1 .left) in
     let p = tests d in
-    let t = sent-leaves number (s .kind) (s .grade) (s .message .now) (s .frame .now) zero in
-    let q = account-sent number (s .kind) (s .grade) (s .message .now) (s .account) zero in
+    let t = sent-leaves number (s .kind) (s .grade) (s .message .now) (s .frame .now) (accepted d) in
+    let q = account-sent number (s .kind) (s .grade) (s .message .now) (s .account) (accepted d) in
     let e = w .write-sent .ensures in (
       d .before .refusal .ensures,
       (

@@ -1,0 +1,31 @@
+-- The accounts worked by hand are met by the definitions, by computing. Assumes nothing.
+use mathlib.Core.Path.{_≡_, refl}
+use mathlib.Core.List.{map}
+use lib.Count.{ones}
+use lib.Ieee.{add, sum, div, ofInt}
+use Rattle.bits.specs.Number.{sumTo, table}
+use Rattle.bits.specs.Message.{messageBit}
+use Rattle.reed_muller.specs.Level.{ofWeight, masks, order, dimension, codeword}
+use Rattle.e8.specs.Energy.{sq, energy}
+use Rattle.e8.specs.Order.{before}
+use Rattle.e8.specs.Largest.{largestTo}
+use Rattle.e8.specs.Least.{cent, better, best, leastBlock, leastFrame}
+use Rattle.frames.specs.Kind.{kinds, isKind, isGrade, degrees, levels, levelBits, messageBits, messageBytes}
+use Rattle.frames.specs.Message.{numbers, blockNumbers, stacked, coordinate, leader}
+use Rattle.frames.specs.Frame.{half, sentFrame}
+use Rattle.frames.specs.Sending.{anySet, spareSet, sendRefusal}
+use Rattle.account.specs.Power.{powerOf, begun}
+use Rattle.account.specs.Counted.{countedRefusal, countedAccount}
+use Rattle.account.specs.Worked.{Case, steps, lefts, Elsewhere, elsewhere, leftBy}
+
+pub steps-are : lefts begun steps ≡ map (λ (c : Case). c .left) steps
+unfolding countedRefusal countedAccount sendRefusal isGrade isKind kinds spareSet anySet messageBytes messageBits levelBits sentFrame half
+    leastFrame leastBlock best better cent before energy sq leader coordinate stacked blockNumbers numbers degrees levels sumTo codeword
+    order dimension masks ofWeight table messageBit ones largestTo powerOf add sum div ofInt
+steps-are = refl
+
+pub elsewhere-are : map leftBy elsewhere ≡ map (λ (e : Elsewhere). e .left) elsewhere
+unfolding countedRefusal countedAccount sendRefusal isGrade isKind kinds spareSet anySet messageBytes messageBits levelBits sentFrame half
+    leastFrame leastBlock best better cent before energy sq leader coordinate stacked blockNumbers numbers degrees levels sumTo codeword
+    order dimension masks ofWeight table messageBit ones largestTo
+elsewhere-are = refl
