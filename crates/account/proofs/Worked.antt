@@ -1,6 +1,5 @@
 -- The accounts worked by hand are met by the definitions, by computing. Assumes nothing.
-use mathlib.Core.Path.{_≡_, refl}
-use mathlib.Core.List.{map}
+use mathlib.Core.Path.{refl}
 use lib.Count.{ones}
 use lib.Ieee.{add, sum, div, ofInt}
 use Rattle.bits.specs.Number.{sumTo, table}
@@ -14,18 +13,12 @@ use Rattle.frames.specs.Kind.{kinds, isKind, isGrade, degrees, levels, levelBit
 use Rattle.frames.specs.Message.{numbers, blockNumbers, stacked, coordinate, leader}
 use Rattle.frames.specs.Frame.{half, sentFrame}
 use Rattle.frames.specs.Sending.{anySet, spareSet, sendRefusal}
-use Rattle.account.specs.Power.{powerOf, begun}
+use Rattle.account.specs.Power.{powerOf}
 use Rattle.account.specs.Counted.{countedRefusal, countedAccount}
-use Rattle.account.specs.Worked.{Case, steps, lefts, Elsewhere, elsewhere, leftBy}
+use Rattle.account.specs.Worked.{AsWorked}
 
-pub steps-are : lefts begun steps ≡ map (λ (c : Case). c .left) steps
+pub as-worked : AsWorked
 unfolding countedRefusal countedAccount sendRefusal isGrade isKind kinds spareSet anySet messageBytes messageBits levelBits sentFrame half
     leastFrame leastBlock best better cent before energy sq leader coordinate stacked blockNumbers numbers degrees levels sumTo codeword
     order dimension masks ofWeight table messageBit ones largestTo powerOf add sum div ofInt
-steps-are = refl
-
-pub elsewhere-are : map leftBy elsewhere ≡ map (λ (e : Elsewhere). e .left) elsewhere
-unfolding countedRefusal countedAccount sendRefusal isGrade isKind kinds spareSet anySet messageBytes messageBits levelBits sentFrame half
-    leastFrame leastBlock best better cent before energy sq leader coordinate stacked blockNumbers numbers degrees levels sumTo codeword
-    order dimension masks ofWeight table messageBit ones largestTo
-elsewhere-are = refl
+as-worked = record { grown = refl; taken = refl }
