@@ -63,6 +63,7 @@ int main(void)
         if (coder_account_send(&account, kind, grade, message, bytes, frame, coordinates) < 0)
             return 1;
     print_message("kind 259", coder_account_send(&account, 259, 1, message, bytes, frame, coordinates), NULL, 0);
-    printf("account: %" PRIu32 " frames, mean power %g\n", account.count, account.sum / account.count);
+    printf("account: %" PRIu32 " frames, mean power %g, largest block %" PRIu64 "\n", account.count, account.sum / account.count,
+           account.largest);
     return 0;
 }

@@ -18,7 +18,8 @@
  *
  * ENERGY AND POWER. The energy of a frame is the sum of the squares of its coordinates; its power is the energy divided by the
  *     number of coordinates. A sent frame has an energy of 1,048,576 at most, and coordinates from -128 to 128. A frame that is
- *     read can have an energy of 2^46: an answer is printed with PRId64.
+ *     read can have an energy of 2^46: an answer is printed with PRId64. A block is 8 coordinates that begin at a position which
+ *     8 divides; its energy is the sum of their squares.
  *
  * TIES. The sent frame is the one of least energy in the class of the message. Among frames of least energy it is the first in
  *     reading order: at the first coordinate where two differ, the smaller comes first.
@@ -26,7 +27,7 @@
  * WHAT A CALLER HAS TO SEE TO, since nothing here can test it:
  *   - a pointer is valid for as many elements as its length says, and aligned for its type. Where the length is 0 it may be
  *     anything, null too: no message and no frame has length 0, and the call is refused before anything is read or written;
- *   - `count` and `sum`, or `account`, are valid in every call, and never null, also where the call is refused;
+ *   - `count`, `sum` and `largest`, or `account`, are valid in every call, and never null, also where the call is refused;
  *   - what is lent to one call does not overlap, and nobody else writes to it during the call;
  *   - the message that is lent to a reading holds values, any values (`= {0}`): the reading loads its bytes before it overwrites
  *     them. What stood there makes no difference to the outcome, but valgrind tells of memory that was never set.
@@ -64,7 +65,7 @@
 #include <stddef.h>
 #include <stdint.h>
 
-#define FRAME_CODER_VERSION "0.3.0"
+#define FRAME_CODER_VERSION "0.4.0"
 
 #ifdef __cplusplus
 extern "C" {
@@ -160,20 +161,23 @@ int64_t coder_read_open(uint8_t kind, uint8_t grade, const int32_t *frame, size_
 /* The strict reading: takes a sent frame alone, and writes every byte of its message. */
 int64_t coder_read_strict(uint8_t kind, uint8_t grade, const int32_t *frame, size_t frame_len, uint8_t *message, size_t message_len);
 
-/* Sends, and on success adds 1 to the count of frames and the frame's power to the sum of powers. An account begins at 0 and 0.0;
- * the sum of one that grew from there is exact. One from elsewhere is taken as it comes. */
+/* Sends, and on success adds 1 to the count of frames and the frame's power to the sum of powers, and leaves in `largest` the larger
+ * of what stood there and the largest energy of the frame's blocks, by which an output stage is sized. A refusal changes none of the
+ * three. An account begins at 0, 0.0 and 0; the sum of one that grew from there is exact, and its `largest` is the largest block
+ * energy among the frames counted. One from elsewhere is taken as it comes, with any count, sum and `largest`. */
 int64_t coder_send_counted(uint8_t kind, uint8_t grade, const uint8_t *message, size_t message_len, int32_t *frame, size_t frame_len,
-                           uint32_t *count, double *sum);
+                           uint32_t *count, double *sum, uint64_t *largest);
 
-/* An account: the count of the frames that were sent, and the sum of their powers. */
+/* An account: the count of the frames that were sent, the sum of their powers, and the largest energy of their blocks. */
 struct coder_account {
     uint32_t count;
     double sum;
+    uint64_t largest;
 };
 
 CODER_INLINE struct coder_account coder_account_begin(void)
 {
-    struct coder_account account = {0, 0.0};
+    struct coder_account account = {0, 0.0, 0};
     return account;
 }
 
@@ -185,7 +189,8 @@ CODER_INLINE int64_t coder_account_send(struct coder_account *account, int kind,
         return -CODER_REFUSED_KIND;
     if (coder_message_length(kind, grade) == 0)
         return -CODER_REFUSED_GRADE;
-    return coder_send_counted((uint8_t)kind, (uint8_t)grade, message, message_len, frame, frame_len, &account->count, &account->sum);
+    return coder_send_counted((uint8_t)kind, (uint8_t)grade, message, message_len, frame, frame_len, &account->count, &account->sum,
+                              &account->largest);
 }
 
 #ifdef __cplusplus

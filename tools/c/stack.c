@@ -30,7 +30,9 @@ static void call(void)
     __asm__ volatile("mov %%rsp, %0" : "=r"(top));
     switch (function) {
     case 0: answer = coder_send(kind, grade, message, bytes, frame, coordinates); break;
-    case 1: answer = coder_send_counted(kind, grade, message, bytes, frame, coordinates, &account.count, &account.sum); break;
+    case 1:
+        answer = coder_send_counted(kind, grade, message, bytes, frame, coordinates, &account.count, &account.sum, &account.largest);
+        break;
     case 2: answer = coder_read_open(kind, grade, frame, coordinates, message, bytes); break;
     default: answer = coder_read_strict(kind, grade, frame, coordinates, message, bytes); break;
     }

@@ -27,6 +27,11 @@ static void *room(size_t size)
     return room;
 }
 
+static int same_account(struct coder_account a, struct coder_account b)
+{
+    return a.count == b.count && a.sum == b.sum && a.largest == b.largest;
+}
+
 /* Nothing is lent, with a pointer to nowhere. */
 static void empty(int kind, int grade, void *nowhere)
 {
@@ -37,7 +42,8 @@ static void empty(int kind, int grade, void *nowhere)
     const int no_frame = early != 0 ? -early : -CODER_REFUSED_FRAME_LENGTH;
     uint8_t *message = (uint8_t *)room(bytes), *lost = (uint8_t *)nowhere;
     int32_t *frame = (int32_t *)room(coordinates * sizeof *frame), *gone = (int32_t *)nowhere;
-    struct coder_account account = coder_account_begin();
+    const struct coder_account before = {5, 2.5, 3};
+    struct coder_account account = before;
     expect("send, no message", kind, grade, coder_send(k, g, lost, 0, frame, coordinates), no_message);
     expect("send, no frame", kind, grade, coder_send(k, g, message, bytes, gone, 0), no_frame);
     expect("send, neither", kind, grade, coder_send(k, g, lost, 0, gone, 0), no_message);
@@ -48,15 +54,37 @@ static void empty(int kind, int grade, void *nowhere)
     expect("strict, no message", kind, grade, coder_read_strict(k, g, frame, coordinates, lost, 0), no_message);
     expect("strict, neither", kind, grade, coder_read_strict(k, g, gone, 0, lost, 0), no_frame);
     expect("counted, no message", kind, grade,
-           coder_send_counted(k, g, lost, 0, frame, coordinates, &account.count, &account.sum), no_message);
+           coder_send_counted(k, g, lost, 0, frame, coordinates, &account.count, &account.sum, &account.largest), no_message);
     expect("account, no frame", kind, grade, coder_account_send(&account, kind, grade, message, bytes, gone, 0), no_frame);
     expect("account, kind", kind, grade, coder_account_send(&account, kind + 256, grade, message, bytes, frame, coordinates),
            -CODER_REFUSED_KIND);
     if (coordinates != 0)
         expect("account, grade", kind, grade, coder_account_send(&account, kind, grade - 256, message, bytes, frame, coordinates),
                -CODER_REFUSED_GRADE);
-    expect("account kept", kind, grade, account.count != 0 || account.sum != 0.0, 0);
+    expect("account kept", kind, grade, same_account(account, before), 1);
     free(message);
+    free(frame);
+}
+
+/* A message with accounts from elsewhere, whose frame has this energy and this largest block: sent, and refused as the account is
+ * full. */
+static void elsewhere(int kind, int grade, const uint8_t *message, size_t bytes, size_t coordinates, int64_t energy, uint64_t block)
+{
+    const uint64_t figures[] = {0, 1, block - 1, block, block + 1, UINT64_C(1) << 32, UINT64_C(1) << 63, UINT64_MAX};
+    int32_t *frame = (int32_t *)room(coordinates * sizeof *frame);
+    for (size_t i = 0; i < sizeof figures / sizeof figures[0]; i++) {
+        const struct coder_account last = {CODER_MAX_COUNT - 1, 0.25, figures[i]};
+        const struct coder_account grown = {CODER_MAX_COUNT, 0.25 + (double)energy / (double)coordinates,
+                                            figures[i] < block ? block : figures[i]};
+        const struct coder_account full = {CODER_MAX_COUNT, 0.25, figures[i]};
+        struct coder_account account = last;
+        expect("last", kind, grade, coder_account_send(&account, kind, grade, message, bytes, frame, coordinates), energy);
+        expect("last account", kind, grade, same_account(account, grown), 1);
+        account = full;
+        expect("full", kind, grade, coder_account_send(&account, kind, grade, message, bytes, frame, coordinates),
+               -CODER_REFUSED_ACCOUNT_FULL);
+        expect("full account", kind, grade, same_account(account, full), 1);
+    }
     free(frame);
 }
 
@@ -69,6 +97,7 @@ static void there_and_back(int kind, int grade)
     int32_t *frame = (int32_t *)room(coordinates * sizeof *frame);
     struct coder_account account = coder_account_begin();
     int64_t energy = 0;
+    uint64_t block = 0, largest = 0;
     for (size_t i = 0; i < bytes; i++)
         message[i] = (uint8_t)(rand() >> 7);
     if (coder_message_bits(kind, grade) % 8 != 0)
@@ -76,10 +105,14 @@ static void there_and_back(int kind, int grade)
     const int64_t answer = coder_account_send(&account, kind, grade, message, bytes, frame, coordinates);
     for (size_t p = 0; p < coordinates; p++) {
         energy += (int64_t)frame[p] * frame[p];
+        block = (p % 8 == 0 ? 0 : block) + (uint64_t)((int64_t)frame[p] * frame[p]);
+        largest = block > largest ? block : largest;
         expect("range", kind, grade, frame[p] < -128 || frame[p] > 128, 0);
     }
     expect("energy", kind, grade, answer, energy);
-    expect("account", kind, grade, account.count == 1 && account.sum == (double)energy / (double)coordinates, 1);
+    const struct coder_account grown = {1, (double)energy / (double)coordinates, largest};
+    expect("account", kind, grade, same_account(account, grown), 1);
+    elsewhere(kind, grade, message, bytes, coordinates, energy, largest);
     expect("open", kind, grade, coder_read_open(k, g, frame, coordinates, back, bytes), energy);
     expect("open message", kind, grade, memcmp(back, message, bytes), 0);
     memset(back, 0xA5, bytes);

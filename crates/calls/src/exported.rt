@@ -35,8 +35,24 @@ fn send_counted(
 ) -> Counted {
     let mut count = account.count;
     let mut sum = account.sum;
-    let r = frame_coder::coder_send_counted(kind, grade, message, frame, &mut count, &mut sum);
-    answer(r, Account { count, sum })
+    let mut largest = account.largest;
+    let r = frame_coder::coder_send_counted(
+        kind,
+        grade,
+        message,
+        frame,
+        &mut count,
+        &mut sum,
+        &mut largest,
+    );
+    answer(
+        r,
+        Account {
+            count,
+            sum,
+            largest,
+        },
+    )
 }
 
 pub fn call(

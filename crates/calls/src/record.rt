@@ -26,15 +26,19 @@ fn count_of(x: u64) -> u32 {
     0
 }
 
-fn account_of(count: u64, sum: u64) -> Account {
+fn account_of(count: u64, sum: u64, largest: u64) -> Account {
     Account {
         count: count_of(count),
         sum: float::of_bits(sum),
+        largest,
     }
 }
 
 fn same_account(a: Account, b: Account) -> bool {
     if a.count != b.count {
+        return false;
+    }
+    if a.largest != b.largest {
         return false;
     }
     float::bits_of(a.sum) == float::bits_of(b.sum)
@@ -138,12 +142,16 @@ fn take_lent(fd: i32) -> Lent {
 
 // Takes the energy and the account that have to be answered.
 fn take_answer(fd: i32, refusal: u8) -> Counted {
-    let mut numbers = [0u8; 20];
-    fill(fd, 20, &mut numbers);
+    let mut numbers = [0u8; 28];
+    fill(fd, 28, &mut numbers);
     Counted {
         number: refusal,
         energy: number(&numbers[0..8]),
-        account: account_of(number(&numbers[8..12]), number(&numbers[12..20])),
+        account: account_of(
+            number(&numbers[8..12]),
+            number(&numbers[12..20]),
+            number(&numbers[20..28]),
+        ),
     }
 }
 
@@ -182,12 +190,12 @@ fn take_rest(
 
 // Takes record v, and answers whether there was one. One that is cut short is a difference, and the last one taken.
 pub fn take(fd: i32, v: u64, tally: &mut [u64; 7]) -> bool {
-    let mut head = [0u8; 20];
+    let mut head = [0u8; 28];
     let got = io::read_full(fd, &mut head);
     if got == 0 {
         return false;
     }
-    if got < 20 {
+    if got < 28 {
         tally::file_differs(tally);
         return false;
     }
@@ -199,6 +207,10 @@ pub fn take(fd: i32, v: u64, tally: &mut [u64; 7]) -> bool {
         coordinates: size(head[4]),
     };
     let refusal = head[5];
-    let account = account_of(number(&head[8..12]), number(&head[12..20]));
+    let account = account_of(
+        number(&head[8..12]),
+        number(&head[12..20]),
+        number(&head[20..28]),
+    );
     take_rest(fd, v, c, account, refusal, tally)
 }

@@ -5,8 +5,8 @@ use bench::hand;
 use frame_coder::{by_number, Account, Refusal};
 use second_coder::{account, frame};
 
-/// The count and the sum of an account.
-pub type Figures = (u32, f64);
+/// The count, the sum and the largest block energy of an account.
+pub type Figures = (u32, f64, u64);
 
 type Answer = Result<u64, u8>;
 type Sending = fn(u8, u8, &[u8], &mut [i32]) -> Answer;
@@ -27,9 +27,9 @@ pub const CODERS: [Coder; 3] = [
         name: "library",
         send: |kind, grade, message, frame| by_number::send(kind, grade, message, frame).map_err(Refusal::number),
         send_counted: |kind, grade, message, frame, figures| {
-            let mut account = Account::from_parts(figures.0, figures.1);
+            let mut account = Account::from_parts(figures.0, figures.1, figures.2);
             let answer = by_number::send_counted(kind, grade, message, frame, &mut account);
-            *figures = (account.count(), account.sum());
+            *figures = (account.count(), account.sum(), account.largest());
             answer.map_err(Refusal::number)
         },
         read_open: |kind, grade, frame, message| {
@@ -43,9 +43,9 @@ pub const CODERS: [Coder; 3] = [
         name: "by hand",
         send: hand::send,
         send_counted: |kind, grade, message, frame, figures| {
-            let mut account = hand::Account { count: figures.0, sum: figures.1 };
+            let mut account = hand::Account { count: figures.0, sum: figures.1, largest: figures.2 };
             let answer = hand::send_counted(kind, grade, message, frame, &mut account);
-            *figures = (account.count, account.sum);
+            *figures = (account.count, account.sum, account.largest);
             answer
         },
         read_open: hand::read_open,
@@ -59,10 +59,10 @@ pub const CODERS: [Coder; 3] = [
             Ok(sent.energy)
         },
         send_counted: |kind, grade, message, frame, figures| {
-            let before = account::Account { count: figures.0, sum: figures.1 };
+            let before = account::Account { count: figures.0, sum: figures.1, largest: figures.2 };
             let (sent, account) = account::send_counted(kind, grade, message, frame.len(), before)?;
             narrow(&sent.frame, frame);
-            *figures = (account.count, account.sum);
+            *figures = (account.count, account.sum, account.largest);
             Ok(sent.energy)
         },
         read_open: |kind, grade, frame, message| {

@@ -130,6 +130,23 @@ fn damaged(kind: u8, grade: u8, frame: &[i32], random: &mut Random) -> Vec<i32> 
     frame
 }
 
+/// The largest block energy of an account that a message is sent with: none, small, that of a block of the message's own
+/// frame or beside it, or any, also the largest that there is.
+fn largest(kind: u8, grade: u8, message: &[u8], length: usize, random: &mut Random) -> u64 {
+    let mut frame = vec![0; length];
+    let _ = hand::send(kind, grade, message, &mut frame);
+    let energy = |block: &[i32]| block.iter().map(|x| (x * x) as u64).sum::<u64>();
+    let own = frame.chunks(8).map(energy).max().unwrap_or(0);
+    match random.below(8) {
+        0 => 0,
+        1 => random.below(100),
+        2..=4 => (own + random.below(3)).wrapping_sub(1),
+        5 => energy(&frame[..length.min(8)]),
+        6 => random.word(),
+        _ => u64::MAX,
+    }
+}
+
 fn sendings(kind: u8, grade: u8, message: &[u8], length: usize, random: &mut Random, tally: &mut Tally) {
     tally.ask("send", &(kind, grade, message), |coder| {
         let mut frame = vec![77; length];
@@ -141,10 +158,11 @@ fn sendings(kind: u8, grade: u8, message: &[u8], length: usize, random: &mut Ran
         0 => f64::from_bits(random.word() & !(1 << 62)),
         _ => random.below(1 << 40) as f64 / 64.0,
     };
-    tally.ask("send_counted", &(kind, grade, message, count, sum), |coder| {
-        let (mut frame, mut figures) = (vec![77; length], (count, sum));
+    let largest = largest(kind, grade, message, length, random);
+    tally.ask("send_counted", &(kind, grade, message, count, sum, largest), |coder| {
+        let (mut frame, mut figures) = (vec![77; length], (count, sum, largest));
         let answer = (coder.send_counted)(kind, grade, message, &mut frame, &mut figures);
-        (answer, (frame, figures.0, figures.1.to_bits()))
+        (answer, (frame, figures.0, figures.1.to_bits(), figures.2))
     });
 }
 

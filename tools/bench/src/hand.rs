@@ -278,16 +278,24 @@ impl<const KIND: usize, const B: usize> Format<KIND, B> {
         bits | ((odd & (2 * h)) as u32) << Self::place(7)
     }
 
-    fn send(message: &[u8], frame: &mut [i32]) -> Result<u64, u8> {
+    /// The tests of sending, with so many coordinates lent.
+    #[inline(always)]
+    fn test(message: &[u8], length: usize) -> Result<(), u8> {
         if message.len() != Self::BYTES {
             return Err(refusal::MESSAGE_LENGTH);
         }
-        if frame.len() != Self::N {
+        if length != Self::N {
             return Err(refusal::FRAME_LENGTH);
         }
         if Self::OVER != 0 && message[Self::BYTES - 1] >> Self::OVER != 0 {
             return Err(refusal::SPARE_BITS);
         }
+        Ok(())
+    }
+
+    /// Fills the frame of a message that is tested, and gives its energy; `each` is shown that of every block.
+    #[inline(always)]
+    fn fill(message: &[u8], frame: &mut [i32], mut each: impl FnMut(i32)) -> u64 {
         let c0 = Self::codeword(Self::LEVEL_0, message, 0);
         let c1 = Self::codeword(Self::LEVEL_1, message, Self::LEVEL_0);
         let c2 = Self::codeword(Self::LEVEL_2, message, Self::LEVEL_0 + Self::LEVEL_1);
@@ -299,9 +307,29 @@ impl<const KIND: usize, const B: usize> Format<KIND, B> {
             let [w0, w1, w2] = [c0, c1, c2].map(|c| (c >> (8 * j)) as u8 as i32);
             let x = from_fn(|i| (s[i] << Self::A) + 4 * (w2 >> i & 1) + 2 * (w1 >> i & 1) + (w0 >> i & 1));
             *block = shape(Self::K, &x);
-            energy += block.iter().map(|z| z * z).sum::<i32>();
+            let own = block.iter().map(|z| z * z).sum::<i32>();
+            each(own);
+            energy += own;
         }
-        Ok(energy as u64)
+        energy as u64
+    }
+
+    fn send(message: &[u8], frame: &mut [i32]) -> Result<u64, u8> {
+        Self::test(message, frame.len())?;
+        Ok(Self::fill(message, frame, |_| ()))
+    }
+
+    fn send_counted(message: &[u8], frame: &mut [i32], account: &mut Account) -> Result<u64, u8> {
+        Self::test(message, frame.len())?;
+        if account.count >= FULL {
+            return Err(refusal::ACCOUNT_FULL);
+        }
+        let mut largest = 0;
+        let energy = Self::fill(message, frame, |own| largest = own.max(largest));
+        account.count += 1;
+        account.sum += energy as f64 / Self::N as f64;
+        account.largest = account.largest.max(largest as u64);
+        Ok(energy)
     }
 
     fn read<const STRICT: bool>(frame: &[i32], message: &mut [u8]) -> Result<u64, u8> {
@@ -473,29 +501,17 @@ pub fn read_strict(kind: u8, grade: u8, frame: &[i32], message: &mut [u8]) -> Re
     by_format!(kind, grade, read::<true>(frame, message))
 }
 
-/// A count of frames and the sum of their powers.
-#[derive(Clone, Copy, Debug, PartialEq)]
+/// A count of frames, the sum of their powers, and the largest energy of their blocks.
+#[derive(Clone, Copy, Debug, Default, PartialEq)]
 pub struct Account {
     pub count: u32,
     pub sum: f64,
+    pub largest: u64,
 }
 
-/// Sends with an account. Only a message that would be sent is refused for a full account.
+/// Sends with an account, which grows by the frame. Only a message that would be sent is refused for a full account.
 pub fn send_counted(kind: u8, grade: u8, message: &[u8], frame: &mut [i32], account: &mut Account) -> Result<u64, u8> {
-    if account.count >= FULL {
-        // The earlier tests come first; a frame of the right length is not to be filled.
-        let mut spare = [0; 64];
-        let length = frame.len();
-        if length > spare.len() {
-            // No kind has so many coordinates: refused, and not filled.
-            return send(kind, grade, message, frame);
-        }
-        return send(kind, grade, message, &mut spare[..length]).and(Err(refusal::ACCOUNT_FULL));
-    }
-    let energy = send(kind, grade, message, frame)?;
-    account.count += 1;
-    account.sum += energy as f64 / frame.len() as f64;
-    Ok(energy)
+    by_format!(kind, grade, send_counted(message, frame, account))
 }
 
 #[cfg(test)]

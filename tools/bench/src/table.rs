@@ -7,7 +7,7 @@ use std::time::{Duration, Instant};
 use crate::{dense, lengths};
 use bench::random::Random;
 use bench::{block, hand};
-use frame_coder::by_number;
+use frame_coder::{by_number, Account};
 
 const FRAMES: usize = 1024;
 const TURNS: usize = 200;
@@ -39,14 +39,21 @@ fn line(what: &str, library: f64, hand: f64) {
     println!("| {what} | {library:.1} | {hand:.1} | {:.2} |", library / hand);
 }
 
-/// A pass over all inputs of a function that fills a buffer from each.
+/// A pass over all inputs of a function that fills a buffer from each; with an account that begins
+/// anew, and so does not run full, where one is given.
 macro_rules! pass {
-    ($function:path, $kind:expr, $grade:expr, $inputs:expr, $buffer:expr) => {{
+    ($function:path, $kind:expr, $grade:expr, $inputs:expr, $buffer:expr $(, $account:ident = $begun:expr)?) => {{
         let (inputs, mut buffer) = ($inputs, $buffer);
         move || {
+            $(let mut $account = $begun;)?
             for input in inputs {
-                let _ =
-                    black_box($function(black_box($kind), black_box($grade), black_box(input), black_box(&mut buffer)));
+                let _ = black_box($function(
+                    black_box($kind),
+                    black_box($grade),
+                    black_box(input),
+                    black_box(&mut buffer),
+                    $(black_box(&mut $account),)?
+                ));
             }
         }
     }};
@@ -76,6 +83,11 @@ fn frames(random: &mut Random) {
                 &mut pass!(hand::send, kind, grade, &messages, vec![0; length]),
             ]);
             line(&format!("{kind} | {grade} | send"), library, hand);
+            let [library, hand] = measure([
+                &mut pass!(by_number::send_counted, kind, grade, &messages, vec![0; length], a = Account::begin()),
+                &mut pass!(hand::send_counted, kind, grade, &messages, vec![0; length], a = hand::Account::default()),
+            ]);
+            line(&format!("{kind} | {grade} | send with an account"), library, hand);
             let [library, hand] = measure([
                 &mut pass!(by_number::read_open, kind, grade, &frames, vec![0; bytes]),
                 &mut pass!(hand::read_open, kind, grade, &frames, vec![0; bytes]),

@@ -35,5 +35,6 @@ extern "C" {
         frame_len: usize,
         count: *mut u32,
         sum: *mut f64,
+        largest: *mut u64,
     ) -> i64;
 }

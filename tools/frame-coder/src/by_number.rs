@@ -73,7 +73,7 @@ pub fn send_counted(
     frame: &mut [i32],
     account: &mut Account,
 ) -> Result<u64, Refusal> {
-    // SAFETY: all is lent for the call, the frame and the account's two parts each alone; the lengths
+    // SAFETY: all is lent for the call, the frame and the account's three parts each alone; the lengths
     // are the slices'.
     answer(unsafe {
         archive::coder_send_counted(
@@ -85,6 +85,7 @@ pub fn send_counted(
             frame.len(),
             &mut account.count,
             &mut account.sum,
+            &mut account.largest,
         )
     })
 }

@@ -3,7 +3,8 @@
 //! A message of 2 to 46 bytes becomes a frame of 8, 16, 32 or 64 whole numbers, by [`send`]; a reading
 //! gives the message back: [`read_open`] of any frame of the coding set, [`read_strict`] of the one
 //! that is sent alone. Each gives the frame's energy, the sum of the squares of its coordinates. The
-//! power of a frame is its energy divided by the number of coordinates; an [`Account`] adds it up.
+//! power of a frame is its energy divided by the number of coordinates; an [`Account`] adds it up, and
+//! keeps the largest energy of a block.
 //!
 //! ```
 //! use frame_coder::{read_open_to_vec, read_strict_to_vec, send_to_vec, Grade, Kind, Refusal};

@@ -156,24 +156,49 @@ fn account() {
     };
     let sent = [0, 1, 0, 1, 0, 1, 0, 1];
     assert_eq!(send(&mut account, [0x02, 0x00]), (Ok(4), sent));
-    assert_eq!(account, Account::from_parts(1, 0.5));
+    assert_eq!(account, Account::from_parts(1, 0.5, 4));
     assert_eq!(send(&mut account, [0x00, 0x10]), (Err(Refusal::SpareBits), sent));
-    assert_eq!(account, Account::from_parts(1, 0.5));
+    assert_eq!(account, Account::from_parts(1, 0.5, 4));
     for count in [Account::MAX_COUNT, u32::MAX] {
-        let full = Account::from_parts(count, -1.5);
+        let full = Account::from_parts(count, -1.5, 3);
         account = full;
         assert!(account.is_full());
-        assert_eq!(send(&mut account, [0x00, 0x10]), (Err(Refusal::SpareBits), sent));
-        assert_eq!(send(&mut account, [0x00, 0x00]), (Err(Refusal::AccountFull), sent));
+        assert_eq!(send(&mut account, [0x00, 0x18]), (Err(Refusal::SpareBits), sent));
+        assert_eq!(send(&mut account, [0x00, 0x08]), (Err(Refusal::AccountFull), sent));
         assert_eq!(account, full);
     }
-    account = Account::from_parts(999_999, 0.25);
+    account = Account::from_parts(999_999, 0.25, 3);
     assert!(!account.is_full());
     assert_eq!(send(&mut account, [0x00, 0x00]), (Ok(0), [0; 8]));
-    assert_eq!((account.count(), account.sum(), account.is_full()), (1_000_000, 0.25, true));
+    assert_eq!((account.count(), account.sum(), account.largest()), (1_000_000, 0.25, 3));
+    assert!(account.is_full());
     let mut account = Account::begin();
     assert_eq!(account.send_to_vec(Kind::Three, Grade::One, &[0x00, 0x04]), Ok((vec![0, 0, 0, 0, 0, 0, 0, 2], 4)));
-    assert_eq!((account.count(), account.sum()), (1, 0.5));
+    assert_eq!((account.count(), account.sum(), account.largest()), (1, 0.5, 4));
+}
+
+/// Frames whose blocks differ, worked by hand: at kind 4 bits 20 and 28 begin the numbers of the two blocks, and each makes
+/// (0, 4, 0, ..), of energy 16; with the last but one of a block it makes (0, −4, 0, .., −4), of 32. At kind 6 it is 64 and 128.
+#[test]
+fn largest_block() {
+    let sent = |kind: Kind, bits: &[usize], old: u64| {
+        let mut account = Account::from_parts(7, 1.5, old);
+        let mut message = vec![0; message_length(kind, Grade::One)];
+        bits.iter().for_each(|bit| message[bit / 8] |= 1 << (bit % 8));
+        let (_, energy) = account.send_to_vec(kind, Grade::One, &message).unwrap();
+        assert_eq!((account.count(), account.sum()), (8, 1.5 + energy as f64 / kind.frame_length() as f64));
+        (energy, account.largest())
+    };
+    for bits in [[20, 26, 28], [20, 28, 34]] {
+        for (old, new) in [(0, 32), (31, 32), (32, 32), (33, 33), (1 << 32, 1 << 32), (u64::MAX, u64::MAX)] {
+            assert_eq!(sent(Kind::Four, &bits, old), (48, new));
+        }
+    }
+    for block in 0..8 {
+        let bits: Vec<usize> = (0..8).map(|j| 112 + 8 * j).chain([118 + 8 * block]).collect();
+        assert_eq!(sent(Kind::Six, &bits, 0), (576, 128));
+        assert_eq!(sent(Kind::Six, &bits[block..=block], 63), (64, 64));
+    }
 }
 
 #[test]

@@ -1,6 +1,6 @@
 //! Calls of the library, with what they must answer and leave, the same on every run.
 
-use crate::account::{send_counted, Account, BEGUN, FULL};
+use crate::account::{largest_block, send_counted, Account, BEGUN, FULL};
 use crate::frame::{read_open_into, read_strict_into, send, send_into, Format, GRADES, KINDS};
 use crate::random::Random;
 use crate::vectors::{dense, edge, moved_by_point, with_bits};
@@ -89,6 +89,7 @@ impl Lent {
         record.extend(self.account.count.to_le_bytes());
         let sum = if self.account.sum.is_nan() { NAN } else { self.account.sum };
         record.extend(sum.to_bits().to_le_bytes());
+        record.extend(self.account.largest.to_le_bytes());
         let mut message = self.message.clone();
         message.resize(BYTES, MARK_BYTE);
         record.extend(message);
@@ -101,7 +102,8 @@ impl Lent {
 /// The calls as they are collected.
 struct Calls(Vec<Call>);
 
-const NONE: Account = Account { count: 17, sum: -2.5 };
+/// An account that a call does not change.
+const NONE: Account = Account { count: 17, sum: -2.5, largest: 3 };
 
 impl Calls {
     fn send(&mut self, kind: u8, grade: u8, message: &[u8], n: usize) {
@@ -229,7 +231,7 @@ fn lengths(calls: &mut Calls, kind: u8, grade: u8) {
     for (m, n) in [(m - 1, n - 1), (m + 1, n + 1), (m, n - 1), (m, n + 1), (m - 1, n), (m + 1, n), (0, n), (m, 0)] {
         calls.send(kind, grade, &vec![0xFF; m], n);
         calls.read(kind, grade, &vec![1_048_577; n], m);
-        calls.count(kind, grade, &vec![0xFF; m], n, Account { count: FULL, sum: 0.1 });
+        calls.count(kind, grade, &vec![0xFF; m], n, Account { count: FULL, sum: 0.1, largest: 5 });
     }
 }
 
@@ -241,13 +243,19 @@ fn wrong(calls: &mut Calls) {
     for (kind, grade) in kinds.into_iter().chain(kinds.map(|(kind, _)| (kind, 1))).chain(grades) {
         calls.send(kind, grade, &[0xFF; 7], 15);
         calls.read(kind, grade, &[1_048_577; 15], 7);
-        calls.count(kind, grade, &[0xFF; 7], 15, Account { count: u32::MAX, sum: 0.1 });
+        calls.count(kind, grade, &[0xFF; 7], 15, Account { count: u32::MAX, sum: 0.1, largest: u64::MAX });
         // The lengths of a kind and grade that there are.
         let (m, n) = if kind < 6 { (5, 16) } else { (22, 64) };
         calls.send(kind, grade, &vec![0; m], n);
         calls.read(kind, grade, &vec![0; n], m);
         calls.count(kind, grade, &vec![0; m], n, NONE);
     }
+}
+
+/// Figures for the largest block of an account from elsewhere, before a frame that has this one: none, small, beside the frame's,
+/// and past what 32 bits, an i64 and an exact f64 hold.
+fn figures(block: u64) -> [u64; 9] {
+    [0, 1, block - 1, block, block + 1, 1 << 32, (1 << 53) + 1, 1 << 63, u64::MAX]
 }
 
 /// Accounts from elsewhere: each count with each sum, accepted and refused.
@@ -259,8 +267,10 @@ fn elsewhere(calls: &mut Calls, random: &mut Random) {
         for (j, sum) in sums.into_iter().chain(ends).enumerate() {
             let (kind, grade) = (3 + ((i + j) % 4) as u8, 1 + (i % 4) as u8);
             let format = Format::new(kind, grade).unwrap();
-            let account = Account { count, sum };
-            calls.count(kind, grade, &dense(&format, random), format.length(), account);
+            let message = dense(&format, random);
+            let block = largest_block(&send(kind, grade, &message).unwrap().frame);
+            let account = Account { count, sum, largest: figures(block)[(i + j) % 9] };
+            calls.count(kind, grade, &message, format.length(), account);
             // Refused by 1 to 5, also where the account is full.
             let mut spare = with_bits(&format, &[]);
             *spare.last_mut().unwrap() |= 0x80;
@@ -288,6 +298,41 @@ fn grown(calls: &mut Calls, random: &mut Random) {
     }
 }
 
+/// Accounts from elsewhere at each kind and grade: each figure for the largest block, accepted and refused.
+fn largest(calls: &mut Calls, kind: u8, grade: u8, random: &mut Random) {
+    let format = Format::new(kind, grade).unwrap();
+    let message = dense(&format, random);
+    let block = largest_block(&send(kind, grade, &message).unwrap().frame);
+    for (i, largest) in figures(block).into_iter().enumerate() {
+        let account = Account { count: [1, 999, FULL - 1][i % 3], sum: [0.5, -7.0, 1e9][i / 3], largest };
+        calls.count(kind, grade, &message, format.length(), account);
+        match i % 3 {
+            0 => calls.count(kind, grade, &message, format.length(), Account { count: FULL, ..account }),
+            1 => calls.count(kind, grade, &message, format.length() + 1, account),
+            _ => calls.count(kind, 0, &message, format.length(), account),
+        };
+    }
+}
+
+/// Each block in turn as the largest of its frame, in an account from the beginning: all blocks of energy q, where q is
+/// (M/2)²; one of 2q among them; that one alone; all of q once more; a frame that is refused.
+fn blocks(calls: &mut Calls, kind: u8, grade: u8) {
+    let format = Format::new(kind, grade).unwrap();
+    let count = format.length() / 8;
+    // Where the highest bit of s2 and the next to highest of s8 stand: each adds M/2.
+    let first = format.message_bits() - format.length() * format.grade;
+    let second = |j: usize| first + 8 * format.grade * j + 2 * format.grade - 2;
+    let eighth = |j: usize| first + 8 * format.grade * (j + 1) - 2;
+    let level: Vec<usize> = (0..count).map(second).collect();
+    for j in 0..count {
+        let mut account = BEGUN;
+        for bits in [level.clone(), [&level[..], &[eighth(j)]].concat(), vec![second(j), eighth(j)], level.clone()] {
+            account = calls.count(kind, grade, &with_bits(&format, &bits), format.length(), account);
+        }
+        calls.count(kind, grade, &with_bits(&format, &level)[1..], format.length(), account);
+    }
+}
+
 fn calls() -> Vec<Call> {
     let mut random = Random::new(4);
     let random = &mut random;
@@ -308,6 +353,14 @@ fn calls() -> Vec<Call> {
     wrong(&mut calls);
     elsewhere(&mut calls, random);
     grown(&mut calls, random);
+    for kind in KINDS {
+        for grade in GRADES {
+            largest(&mut calls, kind, grade, random);
+        }
+        for grade in [1, 4] {
+            blocks(&mut calls, kind, grade);
+        }
+    }
     calls.0
 }
 
@@ -325,12 +378,73 @@ pub fn call_file() -> (Vec<u8>, [usize; 5], [usize; 14]) {
 #[cfg(test)]
 mod tests {
     use super::*;
+    use crate::class::energy;
 
     #[test]
     fn records_have_one_size_and_every_number_comes() {
         let (file, functions, numbers) = call_file();
-        assert_eq!(file.len(), functions.iter().sum::<usize>() * 680);
+        assert_eq!(file.len(), functions.iter().sum::<usize>() * 696);
         // 10 and 12 are refusals of a sheet.
         assert!((0..14).all(|number| (numbers[number] > 0) != [10, 12].contains(&number)));
+    }
+
+    /// For five calls each: number, energy of the frame and largest block of the account, energies by q.
+    #[test]
+    fn each_block_in_turn() {
+        for (kind, grade, q) in [(3, 1, 4), (4, 1, 16), (4, 4, 1024), (5, 1, 16), (6, 1, 64), (6, 4, 4096)] {
+            let mut calls = Calls(Vec::new());
+            blocks(&mut calls, kind, grade);
+            let count = 1 << (kind - 3);
+            assert_eq!(calls.0.len(), 5 * count as usize);
+            for (i, call) in calls.0.iter().enumerate() {
+                let (number, sent, left) = call.answer();
+                let expected = [(0, count, 1), (0, count + 1, 2), (0, 2, 2), (0, count, 2), (3, 0, 2)][i % 5];
+                assert_eq!((number, sent, left.account.largest), (expected.0, expected.1 * q, expected.2 * q));
+                let of_the_block = [q, 2 * q, 2 * q, q, 8 * energy(&[MARK_COORDINATE])][i % 5];
+                assert_eq!(energy(&left.frame[i / 5 * 8..][..8]), of_the_block);
+            }
+        }
+    }
+
+    /// The largest block of an account, from the one before and the frame that was sent.
+    type Figure = fn(u64, &[i64]) -> u64;
+
+    /// Wrong ones that someone could leave.
+    const WRONG: [(&str, Figure); 8] = [
+        ("the smaller", |old, frame| old.min(largest_block(frame))),
+        ("the first block", |old, frame| old.max(energy(&frame[..8]))),
+        ("the last block", |old, frame| old.max(energy(&frame[frame.len() - 8..]))),
+        ("the frame", |old, frame| old.max(energy(frame))),
+        ("the largest coordinate", |old, frame| old.max(frame.iter().map(|x| (x * x) as u64).max().unwrap())),
+        ("the sum", |old, frame| old.wrapping_add(largest_block(frame))),
+        ("the old one forgotten", |_, frame| largest_block(frame)),
+        ("the old one kept", |old, _| old),
+    ];
+
+    #[test]
+    fn wrong_figures_are_told_apart() {
+        let calls = calls();
+        let counted = calls.iter().filter(|call| call.function == SEND_COUNTED);
+        let counted: Vec<_> = counted.map(|call| (call, call.answer())).collect();
+        for kind in KINDS {
+            for (name, figure) in WRONG {
+                // A frame of kind 3 is one block.
+                let one = kind == 3 && ["the first block", "the last block", "the frame"].contains(&name);
+                let told = counted.iter().any(|(call, (number, _, left))| {
+                    let wrong = || figure(call.lent.account.largest, &left.frame);
+                    call.kind == kind && *number == 0 && wrong() != left.account.largest
+                });
+                assert!(told != one, "kind {kind}, {name}");
+            }
+            // A refusal that raises the figure, by a full account or by a length.
+            for refused in [4, 11] {
+                let told = counted.iter().any(|(call, (number, ..))| {
+                    let raised = |frame: &[i64]| call.lent.account.largest < largest_block(frame);
+                    let sent = || send(kind, call.grade, &call.lent.message);
+                    call.kind == kind && *number == refused && sent().is_ok_and(|sent| raised(&sent.frame))
+                });
+                assert!(told, "kind {kind}, refused {refused}");
+            }
+        }
     }
 }

@@ -3,7 +3,7 @@
 use super::refusal::{BROKEN_LEVEL_0, BROKEN_LEVEL_1, BROKEN_LEVEL_2};
 use super::*;
 use crate::random::Random;
-use second_coder::{class, frame, random, vectors};
+use second_coder::{account, class, frame, random, vectors};
 
 /// The sent block of x, by the hand-tuned coder.
 fn shaped(x: &[i64; 8], k: u32) -> [i64; 8] {
@@ -153,6 +153,18 @@ fn damaged(frame: &[i32], scale: i32, random: &mut Random) -> Vec<i32> {
     frame
 }
 
+/// Sends with an account whose largest block is about the frame's.
+fn check_account(kind: u8, grade: u8, message: &[u8], expected: &frame::Sent, random: &mut Random) {
+    let block = account::largest_block(&expected.frame);
+    let old = [0, block.saturating_sub(1), block, block + 1, random.word(), u64::MAX][random.below(6) as usize];
+    let mut account = Account { count: 7, sum: 0.25, largest: old };
+    let mut sent = vec![77; expected.frame.len()];
+    assert_eq!(send_counted(kind, grade, message, &mut sent, &mut account), Ok(expected.energy));
+    let sum = 0.25 + expected.energy as f64 / sent.len() as f64;
+    assert_eq!(account, Account { count: 8, sum, largest: old.max(block) });
+    assert_eq!(wide(&sent), expected.frame);
+}
+
 fn check_messages(rounds: usize, seed: u64) {
     let mut own = Random(seed);
     let mut random = random::Random::new(seed);
@@ -168,6 +180,7 @@ fn check_messages(rounds: usize, seed: u64) {
         let expected = frame::send(kind, grade, &message).unwrap();
         assert_eq!(send(kind, grade, &message, &mut sent), Ok(expected.energy));
         assert_eq!(wide(&sent), expected.frame);
+        check_account(kind, grade, &message, &expected, &mut own);
         check_readings(kind, grade, &sent, message.len());
         for _ in 0..4 {
             sent = damaged(&sent, format.scale() as i32, &mut own);
@@ -216,26 +229,29 @@ fn lengths_and_spare_bits() {
 
 #[test]
 fn accounts() {
-    let mut account = Account { count: 0, sum: 0.0 };
+    let mut account = Account::default();
     let mut frame = [0; 16];
     assert_eq!(send_counted(4, 1, &[0x20, 0, 0, 0, 0], &mut frame, &mut account), Ok(64));
-    assert_eq!(account, Account { count: 1, sum: 4.0 });
-    let full = Account { count: FULL, sum: 1.5 };
+    assert_eq!(account, Account { count: 1, sum: 4.0, largest: 32 });
+    // Only the second block, which is less: (0, 4, 0, ..).
+    assert_eq!(send_counted(4, 1, &[0, 0, 0, 0x10, 0], &mut frame, &mut account), Ok(16));
+    assert_eq!(account, Account { count: 2, sum: 5.0, largest: 32 });
+    let full = Account { count: FULL, sum: 1.5, largest: 3 };
     account = full;
     let before = frame;
     assert_eq!(send_counted(4, 1, &[0, 0, 0, 0, 0x10], &mut frame, &mut account), Err(refusal::SPARE_BITS));
-    assert_eq!(send_counted(4, 1, &[0; 5], &mut frame, &mut account), Err(refusal::ACCOUNT_FULL));
+    assert_eq!(send_counted(4, 1, &[0x20, 0, 0, 0, 0], &mut frame, &mut account), Err(refusal::ACCOUNT_FULL));
     assert_eq!((frame, account), (before, full));
     assert_eq!(send_counted(4, 1, &[0; 5], &mut [0; 99], &mut account), Err(refusal::FRAME_LENGTH));
     // The longest frames, and 64 ones.
     let mut frame = [77; 64];
     assert_eq!(send_counted(6, 4, &[0; 46], &mut frame, &mut account), Err(refusal::ACCOUNT_FULL));
     assert_eq!((frame, account), ([77; 64], full));
-    account = Account { count: 0, sum: 0.0 };
+    account = Account::default();
     let mut message = [0; 46];
     message[0] = 1;
     assert_eq!(send_counted(6, 4, &message, &mut frame, &mut account), Ok(64));
-    assert_eq!((frame, account), ([1; 64], Account { count: 1, sum: 1.0 }));
+    assert_eq!((frame, account), ([1; 64], Account { count: 1, sum: 1.0, largest: 8 }));
 }
 
 /// The vectors that the second coder wrote, by the format of its README.
