@@ -44,12 +44,12 @@
  *     Measured on the archive of this version, A=target/staticlib/libframe_coder.a:
  *
  *       nm -u $A        no undefined symbols: it prints the name of the member and nothing more
- *       size $A         text 10937 (code and constants), data 0, bss 0
- *       size -A $A      a section for each function, so that -Wl,--gc-sections leaves out what is not called: of 10441 bytes of
- *                       code coder_send alone needs 4674, both readings 6277
+ *       size $A         text 11012 (code and constants), data 0, bss 0
+ *       size -A $A      a section for each function, so that -Wl,--gc-sections leaves out what is not called: of 10516 bytes of
+ *                       code coder_send alone needs 4709, both readings 6277
  *       cc -I crates/frame_coder tools/c/stack.c $A -o target/stack && target/stack
  *                       the most stack that a call used, in bytes, with its return address and the arguments on the stack:
- *                       coder_send 480, coder_send_counted 528, coder_read_open 464, coder_read_strict 560
+ *                       coder_send 480, coder_send_counted 560, coder_read_open 464, coder_read_strict 560
  *       objdump -dr $A | grep -E '>:$|push|sub .*,%rsp|-0x[0-9a-f]*\(%rsp\)|PLT32'
  *                       where it goes: the frames on the way down add up to the same, nothing recurs, and 80 of the bytes of
  *                       sending and of the strict reading lie below the stack pointer, in the red zone of the calling convention:
