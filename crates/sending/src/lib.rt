@@ -85,7 +85,7 @@ fn shaped_energies(frame: &[i32]) -> Energies
     Energies { energy, largest }
 }
 
-// Writes the sent frame of a message that has passed the tests, and gives its energy and its largest block's: the leader is written, and shaped.
+// Writes the sent frame of a message of a good kind, grade and length, and gives its energy and its largest block's: the leader is written, and shaped.
 pub fn write_sent(kind: u8, grade: usize, message: &[u8], frame: &mut [i32]) -> Energies
     requires { ⌜ (isKind kind ≡ true) × (1 ≤ grade) × (grade ≤ 4)
         × (length (now message) ≡ messageBytes kind grade) × (length (now frame) ≡ 2 ^ kind) ⌝ }
