@@ -1,4 +1,4 @@
-// A block of eight coordinates, or a whole frame of them, as a part of what is lent: its energy and the larger of two, its range, loading and storing it, remainders.
+// A block of eight coordinates, or a whole frame of them, as a part of what is lent: its energy, the larger of two, its range, loading, storing, remainders.
 ghost use mathlib.Core.Path.{_≡_};
 ghost use mathlib.Core.Bool.{cond};
 ghost use Prim.Native.Nat.{max, _^_, _≤_};
