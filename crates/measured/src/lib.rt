@@ -1,10 +1,13 @@
-// The shaping of one block by itself, as other languages call it: a slice passes as a pointer and a length. `block.h` says what a caller has to see to.
+// What is measured beside the library, as other languages call it: the shaping of one block by itself, and sending by the mask test at every position.
+// A slice passes as a pointer and a length. `measured.h` says what a caller has to see to.
+mod plain;
+
 ghost use mathlib.Core.Path.{_≡_};
 ghost use mathlib.Core.Bool.{cond};
 ghost use Prim.Native.Nat.{_^_};
 ghost use lib.ListN.{length};
 ghost use Rattle.e8.specs.Least.{leastBlock};
-ghost use Rattle.block.specs.Shapeable.{shapeable};
+ghost use Rattle.measured.specs.Shapeable.{shapeable};
 
 // The least member of the class of a block of eight coordinates, for the scale 2^(k + 1): true, and the eight lent coordinates are it; or false, and they
 // are as they were, where k is over 6, a length is not 8, or a coordinate is over 2^24 in size.

@@ -1,0 +1,57 @@
+// Sending by document 01's mask test at every position: the old way, which sending by whole words is compared with. Only the leader is made
+// another way than in `sending`.
+ghost use mathlib.Core.Path.{_≡_};
+ghost use mathlib.Core.Bool.{true};
+ghost use Prim.Native.Nat.{_+_, _*_, _^_, _<_, _≤_};
+ghost use lib.ListN.{length, getD};
+ghost use lib.IntN.{pos};
+ghost use Rattle.bits.specs.Message.{messageBit};
+ghost use Rattle.frames.specs.Kind.{isKind, degrees, levelBits, messageBytes};
+ghost use Rattle.frames.specs.Message.{widths, numbers, stacked, leader};
+
+// Number o of the block whose message bits begin at `from`.
+fn number_at(message: &[u8], from: usize, grade: usize, o: usize) -> u64
+    requires { ⌜ (1 ≤ grade) × (grade ≤ 4) × (o < 8) × (from ≤ 1000) × (from + 8 * grade ≤ 8 * length (now message)) ⌝ }
+    ensures { λ s. ⌜ s ≡ getD (numbers (messageBit (now (message .entry))) from (widths grade)) o 0 ⌝ }
+{
+    let w = kind_table::width(grade, o);
+    if o == 0 {
+        return bits::bits_at(message, from, w);
+    }
+    bits::bits_at(message, from + grade * o - 1, w)
+}
+
+// s over the values of the levels at position p, each by the mask test: c0 + 2·(c1 + 2·(c2 + 2·s)) with three levels.
+fn coordinate(kind: u8, message: &[u8], p: usize, s: u64) -> i32
+    requires { ⌜ (isKind kind ≡ true) × (levelBits kind ≤ 8 * length (now message)) × (s < 2 ^ 16) ⌝ }
+    ensures { λ x. ⌜ x ≡ pos (stacked kind (degrees kind) (messageBit (now (message .entry))) 0 s p) ⌝ }
+{
+    let m = kind as usize;
+    let row = kind_table::row(kind);
+    let degrees = row.degrees;
+    let mut x = s;
+    let mut from = row.bits;
+    let mut i = row.levels;
+    while 0 < i {
+        i -= 1;
+        let r = degrees[i];
+        from -= reed_muller::dimension_of(m, r);
+        x = reed_muller::value_at(message, from, m, r, p) as u64 + 2 * x;
+    }
+    x as i32
+}
+
+// Writes the coset leader of a message over the lent frame, position by position.
+pub fn write_leader(kind: u8, grade: usize, message: &[u8], frame: &mut [i32])
+    requires { ⌜ (isKind kind ≡ true) × (1 ≤ grade) × (grade ≤ 4)
+        × (length (now message) ≡ messageBytes kind grade) × (length (now frame) ≡ 2 ^ kind) ⌝ }
+    ensures { λ _. ⌜ now (frame .exit) ≡ leader kind grade (now (message .entry)) ⌝ }
+{
+    let base = kind_table::level_bits(kind);
+    let mut p: usize = 0;
+    while p < frame.len() {
+        let s = number_at(message, base + 8 * grade * (p / 8), grade, p % 8);
+        frame[p] = coordinate(kind, message, p, s);
+        p += 1;
+    }
+}
