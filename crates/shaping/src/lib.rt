@@ -1,12 +1,13 @@
-// Shaping one block of eight coordinates: the least member of its class. Each coordinate is rounded, and where the sum is odd one is changed; the half
-// part is the same block, H across 0. Why that is least is said in proofs/Mending and proofs/Halving.
+// Shaping a block of eight coordinates, and a frame block by block: the least member of its class. Each coordinate of a block is rounded, and where the
+// sum is odd one is changed; the half part is the same block, H across 0. Why that is least is said in proofs/Mending and proofs/Halving.
 ghost use mathlib.Core.Path.{_≡_};
 ghost use mathlib.Core.Bool.{cond};
-ghost use Prim.Native.Nat.{_^_, _<_, _≤_};
+ghost use Prim.Native.Nat.{_/_, _%_, _^_, _<_, _≤_};
+ghost use lib.ListN.{length};
 ghost use lib.IntN.{pos, natAbs, _+ℤ_, _-ℤ_, _*ℤ_};
 ghost use lib.Signed.{ltZ, shrZ};
 ghost use Rattle.e8.specs.Energy.{Within};
-ghost use Rattle.e8.specs.Least.{leastBlock};
+ghost use Rattle.e8.specs.Least.{leastBlock, leastFrame};
 ghost use Rattle.shaping.specs.Rounded.{across, wholeFirst, rankOf, memberOf, members, Rounded};
 
 // The larger of two.
@@ -189,4 +190,22 @@ pub fn least(k: u32, x: [i32; 8]) -> [i32; 8]
         member(at, h, q.low, c, 0),
     );
     chosen(t, whole, half)
+}
+
+// Shapes a frame in place, block by block, for the scale M = 2^(k + 1).
+pub fn shape(k: u32, frame: &mut [i32])
+    requires { ⌜ (k ≤ 6) × (length (now frame) % 8 ≡ 0) × (length (now frame) ≤ 1024)
+        × Within (2 ^ 24) (now frame) × (8 ≤ length (now frame)) ⌝ }
+    ensures { λ _. ⌜ now (frame .exit) ≡ leastFrame (2 ^ k) (length (now (frame .entry)) / 8) (now (frame .entry)) ⌝ }
+{
+    let all = frame.len() / 8;
+    let mut j: usize = 0;
+    while j < all {
+        let s = 8 * j;
+        let e = s + 8;
+        let x = coordinates::load(&frame[s..e]);
+        let y = least(k, x);
+        coordinates::store(y, &mut frame[s..e]);
+        j += 1;
+    }
 }
