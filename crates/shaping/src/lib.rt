@@ -46,7 +46,7 @@ fn rank(c: i32, i: usize) -> i32
     ensures { λ r. ⌜ r ≡ pos (rankOf c i) ⌝ }
 {
     let j = i as i32;
-    if c < 0 { j - 16 * c } else { 16 * c + (15 - j) }
+    16 * coordinates::magnitude(c) + (if c < 0 { j } else { 15 - j })
 }
 
 // What changing a coordinate costs, where the sum leaves a remainder; nothing where it does not.
@@ -130,11 +130,7 @@ fn member(at: i32, elsewhere: i32, t: i32, c: i32, i: usize) -> i32
     requires { ⌜ (natAbs at ≤ 2 ^ 7) × (natAbs elsewhere ≤ 2 ^ 7) × (t ≡ pos (natAbs t)) × (natAbs c ≤ 2 ^ 7) × (i < 8) ⌝ }
     ensures { λ r. ⌜ r ≡ memberOf at elsewhere (natAbs t) c i ⌝ }
 {
-    if rank(c, i) == t {
-        across(at, c)
-    } else {
-        across(elsewhere, c)
-    }
+    across(choose(rank(c, i) == t, at, elsewhere), c)
 }
 
 // A candidate for the least member.
