@@ -148,21 +148,6 @@ fn candidate(at: i32, elsewhere: i32, t: i32, c: [i32; 8]) -> [i32; 8]
     r
 }
 
-// One of two blocks.
-fn chosen(t: bool, a: [i32; 8], b: [i32; 8]) -> [i32; 8]
-    ensures { λ r. ⌜ r ≡ cond t a b ⌝ }
-{
-    let mut r = a;
-    let mut i: usize = 0;
-    while i < 8 {
-        let x = a[i];
-        let y = b[i];
-        r[i] = choose(t, x, y);
-        i += 1;
-    }
-    r
-}
-
 // The member of a block's class that is sent, for the scale M = 2^(k + 1): the better of the whole part and the half part.
 pub fn least(k: u32, x: [i32; 8]) -> [i32; 8]
     requires { ⌜ (k ≤ 6) × Within (2 ^ 24) x ⌝ }
@@ -175,8 +160,6 @@ pub fn least(k: u32, x: [i32; 8]) -> [i32; 8]
     let at = h - half_odd;
     let b = q.block;
     let c = b[0];
-    let whole = candidate(odd, 0, q.top, b);
-    let half = candidate(at, h, q.low, b);
     let e = whole_cost(h, q.sizes, odd, q.top);
     let f = half_cost(h, half_odd, q.low);
     let t = whole_first(
@@ -185,7 +168,12 @@ pub fn least(k: u32, x: [i32; 8]) -> [i32; 8]
         f,
         member(at, h, q.low, c, 0),
     );
-    chosen(t, whole, half)
+    candidate(
+        choose(t, odd, at),
+        choose(t, 0, h),
+        choose(t, q.top, q.low),
+        b,
+    )
 }
 
 // Shapes a frame in place, block by block, for the scale M = 2^(k + 1).

@@ -1,7 +1,7 @@
 -- `member` meets its contract
 use mathlib.Core.Path.{_≡_, refl, sym, _∙_, ap, ap₂, subst}
-use mathlib.Core.Bool.{Bool, true, false, cond}
-use Prim.Native.Nat.{ℕ, _^_, _≤_}
+use mathlib.Core.Bool.{Bool, cond}
+use Prim.Native.Nat.{_^_, _≤_}
 use native.Mathlib.Omega.{arith}
 use lib.Dec.{eqb}
 use lib.IntN.{ℤ, pos, natAbs}
@@ -10,6 +10,7 @@ use mir.Val.{ofZ}
 use borrow.Author.Needs.{needs}
 use Rattle.integers.proofs.Zed.{tz}
 use Rattle.coordinates.proofs.Reading.{read, plain, plain-size}
+use Rattle.shaping.proofs.Figures.{either}
 use Rattle.shaping.specs.Rounded.{across, rankOf}
 use Rattle.shaping.proofs.member.Statement.{statement}
 use Rattle.shaping.proofs.member.Tie as tie
@@ -17,11 +18,6 @@ use Rattle.shaping.proofs.member.Tie as tie
 -- what the code compares is the two ranks
 rank-is : (r : tie.After-rank) → ofZ w32 (r .rank .result) ≡ rankOf (r .before .args .c) (r .before .args .i)
 rank-is r = ap (ofZ w32) (r .rank .ensures ∙ ap (λ (z : ℤ). pos (rankOf z (r .before .args .i))) (tz refl (r .before .fits .c)))
-
--- the size of one of two numbers
-either : (b : Bool) (x y : ℤ) (B : ℕ) → natAbs x ≤ B → natAbs y ≤ B → natAbs (cond b x y) ≤ B
-either true x y B h k = h
-either false x y B h k = k
 
 module _ (q : tie.After-choose) where
   abbrev s : tie.Start

@@ -10,7 +10,7 @@ use mir.Syntax.{w32}
 use mir.Val.{SFits, toZ}
 use mir.Facts.{toZ-pos}
 use borrow.Author.Needs.{needs}
-use Rattle.integers.proofs.Zed.{`_, #_, _⊖_, eq!, tz, sfits-to}
+use Rattle.integers.proofs.Zed.{#_, _⊖_, eq!, tz, sfits-to}
 use Rattle.shaping.specs.Rounded.{rankOf}
 use Rattle.coordinates.proofs.Size.{fits, sum-abs, less-abs}
 use Rattle.coordinates.proofs.Reading.{read, plain-size}
