@@ -6,7 +6,7 @@ ghost use Rattle.frame_coder.specs.Answer.{answerOf, sendAnswer, sendFra
 ghost use Rattle.frame_coder.specs.Answer.{accountOf, countedAnswer, countedFrame, countedHeld};
 
 // The energy, or minus the refusal number.
-fn answer(number: u8, energy: u64) -> i64
+pub fn answer(number: u8, energy: u64) -> i64
     requires { ⌜ energy ≤ 2 ^ 46 ⌝ }
     ensures { λ r. ⌜ r ≡ answerOf number energy ⌝ }
 {

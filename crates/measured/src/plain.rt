@@ -6,8 +6,10 @@ ghost use Prim.Native.Nat.{_+_, _*_, _^_, _<_, _≤_};
 ghost use lib.ListN.{length, getD};
 ghost use lib.IntN.{pos};
 ghost use Rattle.bits.specs.Message.{messageBit};
+ghost use Rattle.e8.specs.Energy.{energy as energyOf};
 ghost use Rattle.frames.specs.Kind.{isKind, degrees, levelBits, messageBytes};
 ghost use Rattle.frames.specs.Message.{widths, numbers, stacked, leader};
+ghost use Rattle.frames.specs.Frame.{sentFrame};
 
 // Number o of the block whose message bits begin at `from`.
 fn number_at(message: &[u8], from: usize, grade: usize, o: usize) -> u64
@@ -42,7 +44,7 @@ fn coordinate(kind: u8, message: &[u8], p: usize, s: u64) -> i32
 }
 
 // Writes the coset leader of a message over the lent frame, position by position.
-pub fn write_leader(kind: u8, grade: usize, message: &[u8], frame: &mut [i32])
+fn write_leader(kind: u8, grade: usize, message: &[u8], frame: &mut [i32])
     requires { ⌜ (isKind kind ≡ true) × (1 ≤ grade) × (grade ≤ 4)
         × (length (now message) ≡ messageBytes kind grade) × (length (now frame) ≡ 2 ^ kind) ⌝ }
     ensures { λ _. ⌜ now (frame .exit) ≡ leader kind grade (now (message .entry)) ⌝ }
@@ -54,4 +56,17 @@ pub fn write_leader(kind: u8, grade: usize, message: &[u8], frame: &mut [i32])
         frame[p] = coordinate(kind, message, p, s);
         p += 1;
     }
+}
+
+// Writes the sent frame of a message of a good kind, grade and length, and gives its energy: the leader is written, and shaped.
+pub fn write_sent(kind: u8, grade: usize, message: &[u8], frame: &mut [i32]) -> u64
+    requires { ⌜ (isKind kind ≡ true) × (1 ≤ grade) × (grade ≤ 4)
+        × (length (now message) ≡ messageBytes kind grade) × (length (now frame) ≡ 2 ^ kind) ⌝ }
+    ensures frame { λ _. ⌜ now (frame .exit) ≡ sentFrame kind grade (now (message .entry)) ⌝ }
+    ensures energy { λ r. ⌜ r ≡ energyOf (sentFrame kind grade (now (message .entry))) ⌝ }
+{
+    write_leader(kind, grade, message, frame);
+    let k = kind_table::levels(kind) + grade - 1;
+    shaping::shape(k as u32, frame);
+    coordinates::energy(frame)
 }

@@ -5,3 +5,4 @@ pub mod Block
 pub mod Blocks
 pub mod Laid
 pub mod Shaped
+pub mod Sent
