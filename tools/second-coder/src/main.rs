@@ -13,7 +13,8 @@ fn crates(name: &str) -> PathBuf {
 
 /// Writes the files for the crates, and prints what is in them.
 fn write_files() -> std::io::Result<()> {
-    let (file, counts) = vectors::vectors();
+    let all = vectors::all_messages();
+    let (file, counts) = vectors::vectors(&all);
     std::fs::write(crates("vectors/data/vectors.bin"), &file)?;
     println!("| kind | grade | vectors | with ties | most frames of least energy |");
     println!("|---|---|---|---|---|");
@@ -38,6 +39,12 @@ fn write_files() -> std::io::Result<()> {
     let printed: String = checks.iter().map(|check| format!("{check} {vectors}\n")).collect();
     let printed = format!("{printed}moved by two {two}\nmoved by four {four}\ndifferent 0\n");
     std::fs::write(crates("vectors/stdout"), printed)?;
+    let (ways, sorts) = vectors::ways(&all);
+    std::fs::write(crates("ways/data/ways.bin"), &ways)?;
+    println!("ways.bin: {sorts:?} messages of each sort, the refused last, {} bytes", ways.len());
+    let names = ["a bit alone, or none", "sparse", "dense", "with ties", "refused"];
+    let printed: String = names.iter().zip(sorts).map(|(name, count)| format!("{name} {count}\n")).collect();
+    std::fs::write(crates("ways/stdout"), format!("{printed}different 0\n"))?;
     let sheets = vectors::sheet_file();
     std::fs::write(crates("sheets/data/sheets.bin"), &sheets)?;
     let count = vectors::sheets().len();

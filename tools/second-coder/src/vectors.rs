@@ -4,7 +4,7 @@ use std::collections::HashSet;
 use std::ops::Range;
 
 use crate::class::{twice_e8, Block};
-use crate::frame::{read_open, read_strict, send, Format, GRADES, KINDS};
+use crate::frame::{read_open, read_strict, send, send_into, Format, GRADES, KINDS};
 use crate::random::Random;
 use crate::refusal;
 use crate::sheet::{listing, LONGEST, MARK};
@@ -98,8 +98,19 @@ fn energy_moved(kind: u8, grade: u8, message: &[u8], frame: &[i64], places: Rang
     energy
 }
 
-/// The messages of a kind and grade, no two the same.
-fn messages(kind: u8, grade: u8, random: &mut Random) -> Vec<Vec<u8>> {
+/// The sorts of messages: a bit alone (or none), sparse, dense, and with several frames of least energy.
+pub const SORTS: usize = 4;
+
+/// A message of a kind and grade, and its sort.
+pub struct Sorted {
+    pub kind: u8,
+    pub grade: u8,
+    pub sort: u8,
+    pub message: Vec<u8>,
+}
+
+/// The messages of a kind and grade, sort after sort, no two the same.
+fn messages(kind: u8, grade: u8, random: &mut Random) -> Vec<Sorted> {
     let format = Format::new(kind, grade).unwrap();
     let bits = format.message_bits();
     let mut all = vec![with_bits(&format, &[])];
@@ -125,7 +136,53 @@ fn messages(kind: u8, grade: u8, random: &mut Random) -> Vec<Vec<u8>> {
         let message = edge(&format, random);
         (send(kind, grade, &message).unwrap().least > 1).then_some(message)
     });
-    all
+    let sort = |i: usize| [1 + bits, PAIRS, DENSE].iter().scan(0, |end, count| { *end += count; Some(*end) }).filter(|&end| end <= i).count() as u8;
+    all.into_iter().enumerate().map(|(i, message)| Sorted { kind, grade, sort: sort(i), message }).collect()
+}
+
+/// The messages of every kind and grade, the same on every run.
+pub fn all_messages() -> Vec<Sorted> {
+    let mut random = Random::new(1);
+    let formats = KINDS.into_iter().flat_map(|kind| GRADES.into_iter().map(move |grade| (kind, grade)));
+    formats.flat_map(|(kind, grade)| messages(kind, grade, &mut random)).collect()
+}
+
+/// For sending both ways: these messages, and calls that are refused; and how many there are of each sort, the refused
+/// ones last. A record is the sort, kind, grade, message bytes and coordinates lent, one byte each, and the message.
+pub fn ways(all: &[Sorted]) -> (Vec<u8>, [usize; SORTS + 1]) {
+    let (mut file, mut counts) = (Vec::new(), [0; SORTS + 1]);
+    let mut put = |sort: usize, kind: u8, grade: u8, message: &[u8], n: usize| {
+        file.extend([sort as u8, kind, grade, message.len() as u8, n as u8]);
+        file.extend(message);
+        counts[sort] += 1;
+    };
+    for Sorted { kind, grade, sort, message } in all {
+        put(*sort as usize, *kind, *grade, message, Format::new(*kind, *grade).unwrap().length());
+    }
+    for kind in KINDS {
+        for grade in GRADES {
+            let format = Format::new(kind, grade).unwrap();
+            let (n, good) = (format.length(), with_bits(&format, &[0]));
+            let mut refused = |kind, grade, message: &[u8], n| {
+                assert!(send_into(kind, grade, message, n).is_err());
+                put(SORTS, kind, grade, message, n);
+            };
+            for k in format.message_bits()..8 * good.len() {
+                refused(kind, grade, &with_bits(&format, &[k]), n);
+            }
+            refused(kind, grade, &good[1..], n);
+            refused(kind, grade, &[&good[..], &[0]].concat(), n);
+            refused(kind, grade, &good, n - 1);
+            refused(kind, 0, &good, n);
+            refused(kind, 5, &good, n);
+        }
+    }
+    for kind in [0, 2, 7, 255] {
+        let (good, n) = ([0; 46], 64);
+        assert!(send_into(kind, 4, &good, n).is_err());
+        put(SORTS, kind, 4, &good, n);
+    }
+    (file, counts)
 }
 
 /// The vectors of one kind and grade: how many, and how many of them have several frames of
@@ -139,16 +196,15 @@ pub struct Count {
 }
 
 /// All vectors, in the format of README.md.
-pub fn vectors() -> (Vec<u8>, Vec<Count>) {
-    let mut random = Random::new(1);
+pub fn vectors(all: &[Sorted]) -> (Vec<u8>, Vec<Count>) {
     let (mut file, mut counts) = (Vec::new(), Vec::new());
     for kind in KINDS {
         for grade in GRADES {
             let mut count = Count { kind, grade, vectors: 0, tied: 0, most: 1 };
-            for message in messages(kind, grade, &mut random) {
-                let sent = send(kind, grade, &message).unwrap();
+            for Sorted { message, .. } in all.iter().filter(|sorted| (sorted.kind, sorted.grade) == (kind, grade)) {
+                let sent = send(kind, grade, message).unwrap();
                 file.extend([kind, grade, message.len() as u8]);
-                file.extend(&message);
+                file.extend(message);
                 file.push(sent.frame.len() as u8);
                 for x in &sent.frame {
                     file.extend((*x as i32).to_le_bytes());
@@ -157,7 +213,7 @@ pub fn vectors() -> (Vec<u8>, Vec<Count>) {
                 // M at two places of the first block; M/2 at each place of the last.
                 let (n, scale) = (sent.frame.len(), Format::new(kind, grade).unwrap().scale());
                 for (places, by) in [(0..2, scale), (n - 8..n, scale / 2)] {
-                    file.extend(energy_moved(kind, grade, &message, &sent.frame, places, by).to_le_bytes());
+                    file.extend(energy_moved(kind, grade, message, &sent.frame, places, by).to_le_bytes());
                 }
                 count.vectors += 1;
                 count.tied += (sent.least > 1) as usize;
@@ -390,7 +446,8 @@ mod tests {
 
     #[test]
     fn files_are_the_same_each_time() {
-        assert!(vectors().0 == vectors().0);
+        let all = all_messages();
+        assert!(vectors(&all).0 == vectors(&all_messages()).0);
         assert!(sheet_file() == sheet_file());
     }
 }

@@ -134,7 +134,7 @@ small-x a =
 small : (c : tie.After-value-at Inv-loop μ-loop) → c .value-at .result < 2
 small c =
     let s = at-start (c .before .before .before) in
-    subst (λ (v : ℕ). v < 2) (sym (c .value-at .ensures)) (codeword-small _ (s .args .kind) _ (s .args .p))
+    subst (λ (v : ℕ). v < 2) (sym (c .value-at .ensures)) (codeword-small _ (s .args .kind) _ _)
 
 cast-x : tie.Need-cast-x Inv-loop μ-loop
 cast-x c = record { fits = omega (arith, small c) }

@@ -54,9 +54,10 @@ small : (c : tie.Else1) → let s = c .before .before .before in (1 ≤ s .args 
 small c =
     let s = c .before .before .before in
     let b = s .args .grade in
-    let o = s .args .o in
-    (mul-le-mul {n₁ = 1} {m₁ = 1} {n₂ = b} {m₂ = o} (s .pre .0) (omega (arith, c .if1 .left)),
-    mul-le-mul {n₁ = b} {m₁ = o} {n₂ = 4} {m₂ = 8} (s .pre .1) (omega (arith, s .pre .2)))
+    let o = s .args .o in (
+      mul-le-mul {n₁ = 1} {m₁ = 1} {n₂ = b} {m₂ = o} (s .pre .0) (omega (arith, c .if1 .left)),
+      mul-le-mul {n₁ = b} {m₁ = o} {n₂ = 4} {m₂ = 8} (s .pre .1) (omega (arith, s .pre .2)),
+    )
 
 mul-bits-at : tie.Need-mul-bits-at
 mul-bits-at c = record { fits = omega (arith, small c .1) }
