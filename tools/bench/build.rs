@@ -1,4 +1,4 @@
-//! Points the linker to the archive of a block's shaping, libblock.a: in target/staticlib of the
+//! Points the linker to the archive of what is measured beside the library, libmeasured.a: in target/staticlib of the
 //! repository, or in the folder that FRAME_CODER_DIR names. The hand-tuned coder alone does not need it.
 
 use std::path::{Path, PathBuf};
@@ -12,10 +12,10 @@ fn main() {
         Some(folder) => PathBuf::from(folder),
         None => Path::new(env!("CARGO_MANIFEST_DIR")).join("../../target/staticlib"),
     };
-    let archive = folder.join("libblock.a");
+    let archive = folder.join("libmeasured.a");
     println!("cargo:rerun-if-changed={}", archive.display());
     println!("cargo:rustc-link-search=native={}", folder.display());
-    println!("cargo:rustc-link-lib=static=block");
+    println!("cargo:rustc-link-lib=static=measured");
     if !archive.exists() {
         println!("cargo:warning=no {}: make the static library first", archive.display());
     }

@@ -7,7 +7,7 @@ use std::sync::atomic::{AtomicU64, Ordering};
 use crate::coders::{Coder, CODERS};
 use crate::{dense, lengths, levels};
 use bench::random::Random;
-use bench::{block, hand};
+use bench::{exported, hand};
 use frame_coder::Refusal;
 
 /// What to compare: so many frames of these kinds, of all three coders or of library and hand-tuned coder alone.
@@ -18,12 +18,13 @@ pub struct Plan {
     pub all: bool,
 }
 
-/// The comparisons made, by answer (0 for success; for a block alone, refused and shaped), and
-/// those that differ.
+/// The comparisons made, by answer (0 for success; for a block alone, refused and shaped), those of
+/// sending both ways, and those that differ.
 struct Tally {
     coders: &'static [Coder],
     answers: [u64; 14],
     blocks: [u64; 2],
+    ways: u64,
     different: u64,
 }
 
@@ -56,6 +57,7 @@ impl Tally {
     fn add(&mut self, other: &Tally) {
         self.answers.iter_mut().zip(other.answers).for_each(|(sum, count)| *sum += count);
         self.blocks.iter_mut().zip(other.blocks).for_each(|(sum, count)| *sum += count);
+        self.ways += other.ways;
         self.different += other.different;
     }
 }
@@ -227,9 +229,19 @@ fn shaping(random: &mut Random, tally: &mut Tally) {
         }
         _ => (false, one.clone()),
     };
-    let answer = block::least(k, &x, &mut one);
+    let answer = exported::least(k, &x, &mut one);
     tally.blocks[by_hand.0 as usize] += 1;
     tally.compare("block_least", &(k, x), &[(answer, one), by_hand]);
+}
+
+/// A message sent by whole words of the levels, and by the mask test at every position.
+fn both_ways(kind: u8, grade: u8, message: &[u8], length: usize, tally: &mut Tally) {
+    let answers = [exported::send, exported::plain_send].map(|send| {
+        let mut frame = vec![77; length];
+        (send(kind, grade, message, &mut frame), frame)
+    });
+    tally.ways += 1;
+    tally.compare("both ways", &(kind, grade, message), &answers);
 }
 
 /// One message, its frame, and the frame damaged in three ways.
@@ -250,6 +262,7 @@ fn frame(plan: &Plan, random: &mut Random, tally: &mut Tally) {
         misfits(random, tally);
     }
     if !plan.all {
+        both_ways(kind, grade, &message, length, tally);
         shaping(random, tally);
     }
 }
@@ -277,7 +290,7 @@ fn take_parts(plan: &Plan, next: &AtomicU64, tally: &mut Tally) {
 pub fn run(plan: &Plan) -> u64 {
     let tally = || {
         let coders = if plan.all { &CODERS[..] } else { &CODERS[..2] };
-        Tally { coders, answers: [0; 14], blocks: [0; 2], different: 0 }
+        Tally { coders, answers: [0; 14], blocks: [0; 2], ways: 0, different: 0 }
     };
     let next = AtomicU64::new(0);
     let mut sum = tally();
@@ -302,9 +315,9 @@ pub fn run(plan: &Plan) -> u64 {
     }
     let [refused, shaped] = sum.blocks;
     if !plan.all {
-        println!("blocks shaped: {shaped}\nblocks refused: {refused}");
+        println!("sent both ways: {}\nblocks shaped: {shaped}\nblocks refused: {refused}", sum.ways);
     }
-    let all = sum.answers.iter().chain(&sum.blocks).sum::<u64>();
+    let all = sum.answers.iter().chain(&sum.blocks).sum::<u64>() + sum.ways;
     let names: Vec<&str> = sum.coders.iter().map(|coder| coder.name).collect();
     println!("{}: {} frames, {all} comparisons, {} different", names.join(", "), plan.frames, sum.different);
     sum.different

@@ -6,10 +6,11 @@ use std::time::{Duration, Instant};
 
 use crate::{dense, lengths};
 use bench::random::Random;
-use bench::{block, hand};
-use frame_coder::{by_number, Account};
+use bench::{exported, hand};
 
 const FRAMES: usize = 1024;
+/// The grades of the first table: the lowest and the highest.
+const GRADES: [u8; 2] = [1, 4];
 const TURNS: usize = 200;
 const TURN: Duration = Duration::from_millis(1);
 
@@ -75,29 +76,47 @@ fn frames(random: &mut Random) {
     println!("| kind | grade | function | library, ns a frame | by hand, ns a frame | ratio |");
     println!("|---|---|---|---|---|---|");
     for kind in 3..=6 {
-        for grade in [1, 4] {
+        for grade in GRADES {
             let (length, bytes) = lengths(kind, grade);
             let (messages, frames) = sent(kind, grade, random);
             let [library, hand] = measure([
-                &mut pass!(by_number::send, kind, grade, &messages, vec![0; length]),
+                &mut pass!(exported::send, kind, grade, &messages, vec![0; length]),
                 &mut pass!(hand::send, kind, grade, &messages, vec![0; length]),
             ]);
             line(&format!("{kind} | {grade} | send"), library, hand);
             let [library, hand] = measure([
-                &mut pass!(by_number::send_counted, kind, grade, &messages, vec![0; length], a = Account::begin()),
+                &mut pass!(exported::send_counted, kind, grade, &messages, vec![0; length], a = (0, 0.0, 0)),
                 &mut pass!(hand::send_counted, kind, grade, &messages, vec![0; length], a = hand::Account::default()),
             ]);
             line(&format!("{kind} | {grade} | send with an account"), library, hand);
             let [library, hand] = measure([
-                &mut pass!(by_number::read_open, kind, grade, &frames, vec![0; bytes]),
+                &mut pass!(exported::read_open, kind, grade, &frames, vec![0; bytes]),
                 &mut pass!(hand::read_open, kind, grade, &frames, vec![0; bytes]),
             ]);
             line(&format!("{kind} | {grade} | read openly"), library, hand);
             let [library, hand] = measure([
-                &mut pass!(by_number::read_strict, kind, grade, &frames, vec![0; bytes]),
+                &mut pass!(exported::read_strict, kind, grade, &frames, vec![0; bytes]),
                 &mut pass!(hand::read_strict, kind, grade, &frames, vec![0; bytes]),
             ]);
             line(&format!("{kind} | {grade} | read strictly"), library, hand);
+        }
+    }
+}
+
+/// Sending both ways: by the mask test at every position, and by whole words of the levels; and by hand.
+fn ways(random: &mut Random) {
+    println!("| kind | grade | mask test, ns a frame | whole words, ns a frame | ratio | by hand, ns a frame |");
+    println!("|---|---|---|---|---|---|");
+    for kind in 3..=6 {
+        for grade in 1..=4 {
+            let length = lengths(kind, grade).0;
+            let (messages, _) = sent(kind, grade, random);
+            let [plain, words, hand] = measure([
+                &mut pass!(exported::plain_send, kind, grade, &messages, vec![0; length]),
+                &mut pass!(exported::send, kind, grade, &messages, vec![0; length]),
+                &mut pass!(hand::send, kind, grade, &messages, vec![0; length]),
+            ]);
+            println!("| {kind} | {grade} | {plain:.0} | {words:.1} | {:.1} | {hand:.1} |", plain / words);
         }
     }
 }
@@ -113,7 +132,7 @@ fn blocks(random: &mut Random) {
         let [library, hand] = measure([
             &mut || {
                 for block in &blocks {
-                    black_box(block::least(black_box(k - 1), black_box(block), black_box(&mut least)));
+                    black_box(exported::least(black_box(k - 1), black_box(block), black_box(&mut least)));
                 }
             },
             &mut || {
@@ -129,6 +148,8 @@ fn blocks(random: &mut Random) {
 pub fn print() {
     let mut random = Random(1);
     frames(&mut random);
+    println!();
+    ways(&mut random);
     println!();
     blocks(&mut random);
 }

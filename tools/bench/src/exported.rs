@@ -1,0 +1,74 @@
+//! The exported functions of the archives themselves, as they are measured: a call is inlined here, and nothing is
+//! done but to pass a slice as a pointer and a length. Also what is measured beside the library (`crates/measured`).
+
+/// The archives' functions, as `frame_coder.h` and `measured.h` have them.
+mod archive {
+    extern "C" {
+        pub fn coder_send(k: u8, b: u8, message: *const u8, bytes: usize, frame: *mut i32, length: usize) -> i64;
+        pub fn coder_read_open(k: u8, b: u8, frame: *const i32, length: usize, message: *mut u8, bytes: usize) -> i64;
+        pub fn coder_read_strict(k: u8, b: u8, frame: *const i32, length: usize, message: *mut u8, bytes: usize) -> i64;
+        pub fn coder_send_counted(
+            k: u8,
+            b: u8,
+            message: *const u8,
+            bytes: usize,
+            frame: *mut i32,
+            length: usize,
+            count: *mut u32,
+            sum: *mut f64,
+            largest: *mut u64,
+        ) -> i64;
+        pub fn plain_send(k: u8, b: u8, message: *const u8, bytes: usize, frame: *mut i32, length: usize) -> i64;
+        pub fn block_least(k: u32, block: *const i32, block_len: usize, least: *mut i32, least_len: usize) -> bool;
+    }
+}
+
+/// Sends: the energy, or minus the number of a refusal.
+#[inline(always)]
+pub fn send(kind: u8, grade: u8, message: &[u8], frame: &mut [i32]) -> i64 {
+    // SAFETY: both slices are lent for the call, the frame alone; the lengths are theirs.
+    unsafe { archive::coder_send(kind, grade, message.as_ptr(), message.len(), frame.as_mut_ptr(), frame.len()) }
+}
+
+/// The same by the mask test at every position.
+#[inline(always)]
+pub fn plain_send(kind: u8, grade: u8, message: &[u8], frame: &mut [i32]) -> i64 {
+    // SAFETY: as in `send`.
+    unsafe { archive::plain_send(kind, grade, message.as_ptr(), message.len(), frame.as_mut_ptr(), frame.len()) }
+}
+
+/// Sends with the count, the sum and the largest block of an account.
+#[inline(always)]
+pub fn send_counted(
+    kind: u8,
+    grade: u8,
+    message: &[u8],
+    frame: &mut [i32],
+    (count, sum, largest): &mut (u32, f64, u64),
+) -> i64 {
+    let (message, bytes, frame, length) = (message.as_ptr(), message.len(), frame.as_mut_ptr(), frame.len());
+    // SAFETY: as in `send`; the three numbers are lent for the call alone.
+    unsafe { archive::coder_send_counted(kind, grade, message, bytes, frame, length, count, sum, largest) }
+}
+
+/// Reads openly: the energy, or minus the number of a refusal.
+#[inline(always)]
+pub fn read_open(kind: u8, grade: u8, frame: &[i32], message: &mut [u8]) -> i64 {
+    // SAFETY: both slices are lent for the call, the message alone; the lengths are theirs.
+    unsafe { archive::coder_read_open(kind, grade, frame.as_ptr(), frame.len(), message.as_mut_ptr(), message.len()) }
+}
+
+/// Reads strictly.
+#[inline(always)]
+pub fn read_strict(kind: u8, grade: u8, frame: &[i32], message: &mut [u8]) -> i64 {
+    // SAFETY: as in `read_open`.
+    unsafe { archive::coder_read_strict(kind, grade, frame.as_ptr(), frame.len(), message.as_mut_ptr(), message.len()) }
+}
+
+/// Fills the least member of the block's class at scale 2^(k + 1) and gives true; or gives false
+/// and fills nothing, where k is over 6, a length is not 8, or a coordinate is over 2^24 in size.
+#[inline(always)]
+pub fn least(k: u32, block: &[i32], least: &mut [i32]) -> bool {
+    // SAFETY: both slices are lent for the call, the least member alone; the lengths are theirs.
+    unsafe { archive::block_least(k, block.as_ptr(), block.len(), least.as_mut_ptr(), least.len()) }
+}
