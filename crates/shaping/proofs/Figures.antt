@@ -4,11 +4,9 @@ use mathlib.Core.Bool.{Bool, true, false, cond}
 use mathlib.Core.List.{List, [], _∷_}
 use Prim.Native.Nat.{ℕ, zero, suc, _*_, _^_, _<_, _≤_}
 use native.Mathlib.Omega.{arith}
-use lib.Dec.{ltb}
 use lib.ListN.{length, drop, getD, set}
 use lib.Seq.{drop-cons}
 use lib.IntN.{ℤ, pos, _+ℤ_, _-ℤ_, natAbs}
-use lib.Signed.{ltZ}
 use Rattle.integers.specs.Integer.{modZ}
 use Rattle.integers.proofs.Zed.{`_, #_, _⊕_, _⊖_, eq! }
 use Rattle.integers.proofs.Floor.{modZ-lt}
@@ -17,7 +15,7 @@ use Rattle.e8.specs.Least.{cent}
 use Rattle.e8.proofs.Cent.{range-abs, cent-range}
 use Rattle.coordinates.proofs.Size.{sum-abs, less-abs}
 use Rattle.coordinates.proofs.Rest.{Scale}
-use Rattle.shaping.specs.Rounded.{rankOf, rounded, off, floors, sizes, highest, lowest, Rounded}
+use Rattle.shaping.specs.Rounded.{rounded, off, floors, sizes}
 
 -- ---- one coordinate more
 
@@ -30,33 +28,33 @@ drop-set [] i c h = absurd (omega arith)
 drop-set (r ∷ rs) zero c h = refl
 drop-set (r ∷ rs) (suc i) c h = drop-set rs i c (omega arith)
 
-rounded-more : (H : ℕ) (xs rs : List ℤ) (s t n u v z c s′ t′ n′ u′ v′ : ℤ) (i : ℕ) → c ≡ cent H z
-    → s′ ≡ s +ℤ (z -ℤ c) → t′ ≡ t +ℤ (z -ℤ pos (modZ z (2 * H))) → n′ ≡ n +ℤ pos (natAbs c)
-    → u′ ≡ cond (ltZ u (pos (rankOf c i))) (pos (rankOf c i)) u → v′ ≡ cond (ltZ v (pos (rankOf c i))) v (pos (rankOf c i))
-    → Rounded H xs rs s t n u v (suc i) → Rounded H (z ∷ xs) (c ∷ rs) s′ t′ n′ u′ v′ i
-rounded-more H xs rs s t n u v z c s′ t′ n′ u′ v′ i hc hs ht hn hu hv r = record {
+-- rs is xs rounded, and the sums are its own
+pub record Summed (H : ℕ) (xs rs : List ℤ) (sum halves total : ℤ) : Type 0 where
+  pub block : rs ≡ rounded H xs
+  pub whole : sum ≡ off H xs
+  pub half : halves ≡ floors H xs
+  pub size : total ≡ pos (sizes rs)
+
+summed-more : (H : ℕ) (xs rs : List ℤ) (s t n z c s′ t′ n′ : ℤ) → c ≡ cent H z
+    → s′ ≡ s +ℤ (z -ℤ c) → t′ ≡ t +ℤ (z -ℤ pos (modZ z (2 * H))) → n′ ≡ n +ℤ pos (natAbs c) → Summed H xs rs s t n → Summed H (z ∷ xs) (c ∷ rs) s′ t′ n′
+summed-more H xs rs s t n z c s′ t′ n′ hc hs ht hn r = record {
   block = ap₂ _∷_ hc (r .block);
   whole = hs ∙ ap₂ (λ a b. a +ℤ (z -ℤ b)) (r .whole) hc;
   half = ht ∙ ap (λ (a : ℤ). a +ℤ (z -ℤ pos (modZ z (2 * H)))) (r .half);
   size = hn ∙ ap (λ (a : ℤ). a +ℤ pos (natAbs c)) (r .size);
-  top = hu ∙ ap (λ (a : ℤ). cond (ltZ a (pos (rankOf c i))) (pos (rankOf c i)) a) (r .top)
-      ∙ pos-where (ltb (highest rs (suc i)) (rankOf c i)) (rankOf c i) (highest rs (suc i));
-  low = hv ∙ ap (λ (a : ℤ). cond (ltZ a (pos (rankOf c i))) a (pos (rankOf c i))) (r .low)
-      ∙ pos-where (ltb (lowest rs (suc i)) (rankOf c i)) (lowest rs (suc i)) (rankOf c i);
 }
 
 -- as the code takes it
-pub rounded-turn : (H : ℕ) (x r : List ℤ) (s t n u v z c s′ t′ n′ u′ v′ : ℤ) (i j : ℕ)
+pub summed-turn : (H : ℕ) (x r : List ℤ) (s t n z c s′ t′ n′ : ℤ) (i j : ℕ)
     → i ≡ suc j → i ≤ 8 → length x ≡ 8 → length r ≡ 8 → z ≡ getD x j (pos 0)
     → c ≡ cent H z → s′ ≡ s +ℤ (z -ℤ c) → t′ ≡ t +ℤ (z -ℤ pos (modZ z (2 * H))) → n′ ≡ n +ℤ pos (natAbs c)
-    → u′ ≡ cond (ltZ u (pos (rankOf c j))) (pos (rankOf c j)) u → v′ ≡ cond (ltZ v (pos (rankOf c j))) v (pos (rankOf c j))
-    → Rounded H (drop i x) (drop i r) s t n u v i → Rounded H (drop j x) (drop j (set r j c)) s′ t′ n′ u′ v′ j
-rounded-turn H x r s t n u v z c s′ t′ n′ u′ v′ i j hi k lx lr hz hc hs ht hn hu hv q =
+    → Summed H (drop i x) (drop i r) s t n → Summed H (drop j x) (drop j (set r j c)) s′ t′ n′
+summed-turn H x r s t n z c s′ t′ n′ i j hi k lx lr hz hc hs ht hn q =
     let ex : z ∷ drop (suc j) x ≡ drop j x = ap (λ (y : ℤ). y ∷ drop (suc j) x) hz ∙ sym (drop-cons x j (pos 0) (omega arith)) in
     let er : c ∷ drop (suc j) r ≡ drop j (set r j c) = sym (drop-set r j c (omega arith)) in
-    transport (λ m. Rounded H (ex m) (er m) s′ t′ n′ u′ v′ j)
-    (rounded-more H (drop (suc j) x) (drop (suc j) r) s t n u v z c s′ t′ n′ u′ v′ j hc hs ht hn hu hv
-    (transport (λ m. Rounded H (drop (hi m) x) (drop (hi m) r) s t n u v (hi m)) q))
+    transport (λ m. Summed H (ex m) (er m) s′ t′ n′)
+    (summed-more H (drop (suc j) x) (drop (suc j) r) s t n z c s′ t′ n′ hc hs ht hn
+    (transport (λ m. Summed H (drop (hi m) x) (drop (hi m) r) s t n) q))
 
 -- what comes off a coordinate, by the multiple of M next below x + H
 pub off-floor : (H m : ℕ) (x : ℤ) → m ≡ 2 * H → x +ℤ pos H -ℤ pos (modZ (x +ℤ pos H) m) ≡ x -ℤ cent H x

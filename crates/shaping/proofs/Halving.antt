@@ -9,7 +9,6 @@
 -- Both energies are then that of the rounded block and a multiple of M, and the code compares the two multiples, with Σ|c| added to each:
 --   whole part  Σ|c| and, where its sum is odd, 2·(H − highest rank / 16)
 --   half part   4·H and, where its sum is odd, 2·(lowest rank / 16)
--- A rank is at most 16·H + 15, which for the largest H, 64, is 1039: the lowest rank of no coordinate at all is 1039
 use mathlib.Core.Path.{_≡_, refl, sym, _∙_, ap, ap₂, subst}
 use mathlib.Core.Logic.{inl, inr}
 use mathlib.Core.Bool.{Bool, true, false, true≢false, cond}
@@ -117,22 +116,20 @@ turn l t n m K a b = go (ltb l n) refl (ltb t m) refl
     go false e true f = b
     go false e false f = omega (arith, ltb-false l n e, ltb-false t m f)
 
-turn-one : (n m K : ℕ) → K ≤ 1039 → n + m ≡ K → cond (ltb 1039 n) 1039 n + cond (ltb 0 m) m 0 ≡ K
-turn-one n m K s b = go (ltb 1039 n) refl (ltb 0 m) refl
+turn-one : (n m K : ℕ) → n + m ≡ K → n + cond (ltb 0 m) m 0 ≡ K
+turn-one n m K b = go (ltb 0 m) refl
   where
-    go : (p : Bool) → ltb 1039 n ≡ p → (q : Bool) → ltb 0 m ≡ q → cond p 1039 n + cond q m 0 ≡ K
-    go true e q f = absurd (omega (arith, ltb-true 1039 n e))
-    go false e true f = b
-    go false e false f = omega (arith, ltb-false 0 m f)
+    go : (q : Bool) → ltb 0 m ≡ q → n + cond q m 0 ≡ K
+    go true f = b
+    go false f = omega (arith, ltb-false 0 m f)
 
-ranks-half : (H : ℕ) (cs : List ℤ) (i : ℕ) → H ≤ 64 → All (Range H) cs → 0 < length cs → i + length cs ≤ 8
+ranks-half : (H : ℕ) (cs : List ℤ) (i : ℕ) → All (Range H) cs → 0 < length cs → i + length cs ≤ 8
     → lowest cs i + highest (acrossed (pos H) cs) i ≡ 16 * H + 15
-ranks-half H [] i s r l k = absurd (omega arith)
-ranks-half H (c ∷ []) i s r l k =
-    turn-one (rankOf c i) (rankOf (across (pos H) c) i) (16 * H + 15) (omega arith) (half H c (r .0) .rank i (omega arith))
-ranks-half H (c ∷ d ∷ cs) i s r l k =
+ranks-half H [] i r l k = absurd (omega arith)
+ranks-half H (c ∷ []) i r l k = turn-one (rankOf c i) (rankOf (across (pos H) c) i) (16 * H + 15) (half H c (r .0) .rank i (omega arith))
+ranks-half H (c ∷ d ∷ cs) i r l k =
     turn (lowest (d ∷ cs) (suc i)) (highest (acrossed (pos H) (d ∷ cs)) (suc i)) (rankOf c i) (rankOf (across (pos H) c) i) (16 * H + 15)
-    (ranks-half H (d ∷ cs) (suc i) s (r .1) (omega arith) (omega arith)) (half H c (r .0) .rank i (omega arith))
+    (ranks-half H (d ∷ cs) (suc i) (r .1) (omega arith) (omega arith)) (half H c (r .0) .rank i (omega arith))
 
 -- the highest rank passes 16·H + 15 no more than the others do
 pub highest-low : (H : ℕ) (cs : List ℤ) (i : ℕ) → All (Range H) cs → i + length cs ≤ 8 → highest cs i ≤ 16 * H + 15
@@ -288,7 +285,7 @@ compare M e f a b c d m p q = (first (leb e f) refl, second (ltb e f) refl)
     second true g = lt-ltb a b (omega (arith, p, q, mul-lt-mul-of-pos-left (ltb-true e f g) m))
     second false g = le-ltb a b (omega (arith, p, q, mul-le-mul-left M (ltb-false e f g)))
 
-module _ (H : ℕ) (xs : List ℤ) (h : 0 < H) (s : H ≤ 64) (l : length xs ≡ 8) where
+module _ (H : ℕ) (xs : List ℤ) (h : 0 < H) (l : length xs ≡ 8) where
   abbrev M : ℕ
   M = 2 * H
 
@@ -322,7 +319,7 @@ module _ (H : ℕ) (xs : List ℤ) (h : 0 < H) (s : H ≤ 64) (l : length xs ≡
   r = ranged H xs h
 
   ranks : lowest rs 0 + half-top ≡ 16 * H + 15
-  ranks = ranks-half H rs 0 s r (omega (arith, eight)) (omega (arith, eight))
+  ranks = ranks-half H rs 0 r (omega (arith, eight)) (omega (arith, eight))
 
   whole : Mended H xs rs (off H xs) top
   whole = mended H xs rs (off H xs) top h (omega arith) (passed H xs 0 h (omega arith))

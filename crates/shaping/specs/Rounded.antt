@@ -7,6 +7,7 @@ use mathlib.Core.List.{List, [], _∷_}
 use Prim.Native.Nat.{ℕ, suc, _+_, _*_, _-_}
 use lib.Dec.{eqb, ltb}
 use lib.IntN.{ℤ, pos, _+ℤ_, _-ℤ_, natAbs}
+use lib.ListN.{take, drop}
 use lib.Signed.{ltZ, leZ}
 use Rattle.integers.specs.Integer.{modZ}
 use Rattle.e8.specs.Least.{cent}
@@ -22,6 +23,34 @@ wholeFirst e c f d = cond (ltZ c d) (leZ e f) (ltZ e f)
 -- the rank of coordinate c at place i: by size, then 15 − i where it is not negative, and i where it is
 abbrev pub rankOf : ℤ → ℕ → ℕ
 rankOf c i = 16 * natAbs c + cond (ltZ c (pos 0)) i (15 - i)
+
+-- the ranks of coordinates that stand from place i on
+abbrev pub ranksOf : List ℤ → ℕ → List ℤ
+ranksOf [] i = []
+ranksOf (c ∷ cs) i = pos (rankOf c i) ∷ ranksOf cs (suc i)
+
+-- the larger of two, and the smaller
+abbrev pub largerOf : ℤ → ℤ → ℤ
+largerOf a b = cond (ltZ a b) b a
+
+abbrev pub smallerOf : ℤ → ℤ → ℤ
+smallerOf a b = cond (ltZ a b) a b
+
+-- one of a whole list, by one of two: `among largerOf` is the largest, `among smallerOf` the smallest; of none 0
+abbrev pub among : (ℤ → ℤ → ℤ) → List ℤ → ℤ
+among f [] = pos 0
+among f (x ∷ []) = x
+among f (x ∷ y ∷ ys) = f x (among f (y ∷ ys))
+
+-- two lists place by place
+abbrev pub zipped : (ℤ → ℤ → ℤ) → List ℤ → List ℤ → List ℤ
+zipped f [] ys = []
+zipped f (x ∷ xs) [] = []
+zipped f (x ∷ xs) (y ∷ ys) = f x y ∷ zipped f xs ys
+
+-- the first four of eight with the last four: place i with place i + 4
+abbrev pub halved : (ℤ → ℤ → ℤ) → List ℤ → List ℤ
+halved f r = zipped f (take 4 r) (drop 4 r)
 
 -- every coordinate rounded
 abbrev pub rounded : ℕ → List ℤ → List ℤ
@@ -48,20 +77,21 @@ abbrev pub highest : List ℤ → ℕ → ℕ
 highest [] i = 0
 highest (c ∷ cs) i = cond (ltb (highest cs (suc i)) (rankOf c i)) (rankOf c i) (highest cs (suc i))
 
--- the lowest; with no coordinate 1039, which no rank passes where H is at most 64
+-- the lowest
 abbrev pub lowest : List ℤ → ℕ → ℕ
-lowest [] i = 1039
-lowest (c ∷ cs) i = cond (ltb (lowest cs (suc i)) (rankOf c i)) (lowest cs (suc i)) (rankOf c i)
+lowest [] i = 0
+lowest (c ∷ []) i = rankOf c i
+lowest (c ∷ d ∷ cs) i = cond (ltb (lowest (d ∷ cs) (suc i)) (rankOf c i)) (lowest (d ∷ cs) (suc i)) (rankOf c i)
 
--- rs is xs rounded, from place i on, and the figures are its own: the sums of what comes off in the whole part and in the half part, the sum of the
--- sizes, the highest rank and the lowest
-pub record Rounded (H : ℕ) (xs rs : List ℤ) (sum halves total most least : ℤ) (i : ℕ) : Type 0 where
+-- rs is xs rounded, and the figures are its own: the sums of what comes off in the whole part and in the half part, the sum of the sizes, the highest
+-- rank and the lowest
+pub record Rounded (H : ℕ) (xs rs : List ℤ) (sum halves total most least : ℤ) : Type 0 where
   pub block : rs ≡ rounded H xs
   pub whole : sum ≡ off H xs
   pub half : halves ≡ floors H xs
   pub size : total ≡ pos (sizes rs)
-  pub top : most ≡ pos (highest rs i)
-  pub low : least ≡ pos (lowest rs i)
+  pub top : most ≡ pos (highest rs 0)
+  pub low : least ≡ pos (lowest rs 0)
 
 -- coordinate c at place i, across 0 by `at` where its rank is t, and by `elsewhere` where it is not
 abbrev pub memberOf : ℤ → ℤ → ℕ → ℤ → ℕ → ℤ

@@ -8,18 +8,18 @@ ghost use lib.IntN.{pos, natAbs, _+ℤ_, _-ℤ_, _*ℤ_};
 ghost use lib.Signed.{ltZ, shrZ};
 ghost use Rattle.e8.specs.Energy.{Within};
 ghost use Rattle.e8.specs.Least.{leastBlock, leastFrame};
-ghost use Rattle.shaping.specs.Rounded.{across, wholeFirst, rankOf, memberOf, members, Rounded};
+ghost use Rattle.shaping.specs.Rounded.{across, wholeFirst, rankOf, ranksOf, largerOf, smallerOf, among, halved, memberOf, members, Rounded};
 
 // The larger of two.
 fn larger(a: i32, b: i32) -> i32
-    ensures { λ r. ⌜ r ≡ cond (ltZ a b) b a ⌝ }
+    ensures { λ r. ⌜ r ≡ largerOf a b ⌝ }
 {
     if a < b { b } else { a }
 }
 
 // The smaller of two.
 fn smaller(a: i32, b: i32) -> i32
-    ensures { λ r. ⌜ r ≡ cond (ltZ a b) a b ⌝ }
+    ensures { λ r. ⌜ r ≡ smallerOf a b ⌝ }
 {
     if a < b { a } else { b }
 }
@@ -79,6 +79,69 @@ fn whole_first(e: i32, c: i32, f: i32, d: i32) -> bool
     if c < d { e <= f } else { e < f }
 }
 
+// The ranks of a block's coordinates.
+fn ranks(c: [i32; 8]) -> [i32; 8]
+    requires { ⌜ Within (2 ^ 7) c ⌝ }
+    ensures { λ r. ⌜ r ≡ ranksOf c 0 ⌝ }
+{
+    let mut r = c;
+    let mut i: usize = 0;
+    while i < 8 {
+        let z = c[i];
+        r[i] = rank(z, i);
+        i += 1;
+    }
+    r
+}
+
+// The larger of each of the first four and the one four places on. The largest of eight is found by halves: four are compared at once.
+fn larger_half(r: [i32; 8]) -> [i32; 4]
+    ensures { λ t. ⌜ t ≡ halved largerOf r ⌝ }
+{
+    let mut t = [0i32; 4];
+    let mut i: usize = 0;
+    while i < 4 {
+        let j = i + 4;
+        let a = r[i];
+        let b = r[j];
+        t[i] = larger(a, b);
+        i += 1;
+    }
+    t
+}
+
+// The smaller of each of the first four and the one four places on.
+fn smaller_half(r: [i32; 8]) -> [i32; 4]
+    ensures { λ t. ⌜ t ≡ halved smallerOf r ⌝ }
+{
+    let mut t = [0i32; 4];
+    let mut i: usize = 0;
+    while i < 4 {
+        let j = i + 4;
+        let a = r[i];
+        let b = r[j];
+        t[i] = smaller(a, b);
+        i += 1;
+    }
+    t
+}
+
+// The largest of eight.
+fn largest(r: [i32; 8]) -> i32
+    ensures { λ n. ⌜ n ≡ among largerOf r ⌝ }
+{
+    let t = larger_half(r);
+    larger(larger(t[0], t[2]), larger(t[1], t[3]))
+}
+
+// The smallest of eight.
+fn smallest(r: [i32; 8]) -> i32
+    ensures { λ n. ⌜ n ≡ among smallerOf r ⌝ }
+{
+    let t = smaller_half(r);
+    smaller(smaller(t[0], t[2]), smaller(t[1], t[3]))
+}
+
 // A block with every coordinate rounded, and what is to be known of it to choose the one to change, in the whole part and in the half part.
 struct RoundedBlock {
     block: [i32; 8],
@@ -89,18 +152,15 @@ struct RoundedBlock {
     low: i32,
 }
 
-// Every coordinate rounded to the nearest to 0 of its class modulo M, for h = 2^k and M = 2h; of h and -h the latter. No rank passes 1039, 16 times the
-// largest h and 15, so the lowest begins there.
+// Every coordinate rounded to the nearest to 0 of its class modulo M, for h = 2^k and M = 2h; of h and -h the latter.
 fn round(k: u32, h: i32, x: [i32; 8]) -> RoundedBlock
     requires { ⌜ (k ≤ 6) × (h ≡ pos (2 ^ k)) × Within (2 ^ 24) x ⌝ }
-    ensures { λ r. ⌜ Rounded (2 ^ k) x (r .block) (r .sum) (r .halves) (r .sizes) (r .top) (r .low) 0 ⌝ }
+    ensures { λ r. ⌜ Rounded (2 ^ k) x (r .block) (r .sum) (r .halves) (r .sizes) (r .top) (r .low) ⌝ }
 {
     let mut r = x;
     let mut sum: i32 = 0;
     let mut halves: i32 = 0;
     let mut sizes: i32 = 0;
-    let mut top: i32 = 0;
-    let mut low: i32 = 1039;
     let mut i: usize = 8;
     while i > 0 {
         i -= 1;
@@ -111,17 +171,14 @@ fn round(k: u32, h: i32, x: [i32; 8]) -> RoundedBlock
         sum = sum + f;
         halves = halves + coordinates::floor(k + 1, v);
         sizes = sizes + coordinates::magnitude(c);
-        let t = rank(c, i);
-        top = larger(top, t);
-        low = smaller(low, t);
     }
     RoundedBlock {
         block: r,
         sum,
         halves,
         sizes,
-        top,
-        low,
+        top: largest(ranks(r)),
+        low: smallest(ranks(r)),
     }
 }
 

@@ -64,7 +64,7 @@ added false M y z m e = ap (λ (n : ℕ). cond (ltZ (pos 0) (pos n)) z (pos 0)) 
 added true M y z m e = ap (λ t. cond t z (pos 0)) (lt-ltb 0 (1 * M) (omega arith)) ∙ e ∙ ap pos {x = y} {y = 1 * y} (omega arith)
 
 module _ (k : ℕ) (x : List ℤ) (q : RoundedBlock) (low : k ≤ 6) (w : Within (2 ^ 24) x) (eight : length x ≡ 8)
-    (r : Rounded (2 ^ k) x (q .block) (q .sum) (q .halves) (q .sizes) (q .top) (q .low) 0) where
+    (r : Rounded (2 ^ k) x (q .block) (q .sum) (q .halves) (q .sizes) (q .top) (q .low)) where
   abbrev H : ℕ
   H = 2 ^ k
 
@@ -79,7 +79,7 @@ module _ (k : ℕ) (x : List ℤ) (q : RoundedBlock) (low : k ≤ 6) (w : Within
   twice = quadruple k ∙ omega arith
 
   both : Two H x (q .block)
-  both = subst (Two H x) (sym (r .block)) (two H x (H-scale .some) (H-scale .small) eight)
+  both = subst (Two H x) (sym (r .block)) (two H x (H-scale .some) eight)
 
   left-low : (odd : Bool) → natAbs (left H odd) ≤ 2 ^ 7
   left-low false = omega arith

@@ -1,14 +1,12 @@
 -- `round` meets its contract. The loop goes from the last coordinate to the first: after it came to place i, the places from i on are rounded, and the
--- figures are those of the coordinates from i on (`Rounded`), as `off`, `floors`, `sizes`, `highest` and `lowest` take one coordinate more in front.
+-- sums are those of the coordinates from i on (`Summed`), as `off`, `floors` and `sizes` take one coordinate more in front.
 -- A turn: f is the multiple of M at v + H or next below, v − f is `cent H v`. H = 2^k and M = 2·H
 use mathlib.Core.Path.{_≡_, refl, sym, _∙_, ap, ap₂, subst}
-use mathlib.Core.Bool.{cond}
 use mathlib.Core.List.{List}
-use Prim.Native.Nat.{ℕ, _+_, _*_, _-_, _^_, _≤_}
+use Prim.Native.Nat.{ℕ, _+_, _*_, _-_, _^_, _<_, _≤_}
 use native.Mathlib.Omega.{arith}
 use lib.IntN.{ℤ, pos, _+ℤ_, _-ℤ_, natAbs}
 use lib.ListN.{length, drop, getD, length-set, length-drop, drop-of-length-le}
-use lib.Signed.{ltZ}
 use mir.Syntax.{w32}
 use mir.Val.{SFits, toZ}
 use borrow.Author.Needs.{needs}
@@ -20,18 +18,18 @@ use Rattle.e8.proofs.Within.{within-at, within-drop}
 use Rattle.coordinates.proofs.Size.{fits, sum-abs}
 use Rattle.coordinates.proofs.Rest.{double, Scale, scale}
 use Rattle.coordinates.proofs.Reading.{read, power-read, plain}
-use Rattle.shaping.proofs.Figures.{rounded-turn, off-floor, back, cent-low, off-one, floor-one, off-size, floors-size, sizes-low}
-use Rattle.shaping.specs.Rounded.{rankOf, sizes, Rounded}
+use Rattle.shaping.proofs.Figures.{Summed, summed-turn, off-floor, back, cent-low, off-one, floor-one, off-size, floors-size, sizes-low, rounded-within}
+use Rattle.shaping.proofs.Ranking.{top-is, low-is}
+use Rattle.shaping.specs.Rounded.{largerOf, smallerOf, among, sizes}
 use Rattle.shaping.proofs.round.Statement.{statement}
 use Rattle.shaping.proofs.round.Tie as tie
 
 abbrev Inv-loop : tie.InvT-loop
-Inv-loop k h x r₀ sum₀ halves₀ sizes₀ top₀ low₀ i₀ r sum halves sizes top low i =
-    (i ≤ 8) × ((length r ≡ 8)
-    × Rounded (2 ^ k) (drop i x) (drop i r) (toZ w32 sum) (toZ w32 halves) (toZ w32 sizes) (toZ w32 top) (toZ w32 low) i)
+Inv-loop k h x r₀ sum₀ halves₀ sizes₀ i₀ r sum halves sizes i =
+    (i ≤ 8) × ((length r ≡ 8) × Summed (2 ^ k) (drop i x) (drop i r) (toZ w32 sum) (toZ w32 halves) (toZ w32 sizes))
 
 abbrev μ-loop : tie.MeasureT-loop
-μ-loop k h x r₀ sum₀ halves₀ sizes₀ top₀ low₀ i₀ r sum halves sizes top low i = i
+μ-loop k h x r₀ sum₀ halves₀ sizes₀ i₀ r sum halves sizes i = i
 
 -- ---- the block that came
 
@@ -92,13 +90,7 @@ module _ (l : tie.At-loop Inv-loop μ-loop) where
   abbrev total : ℤ
   total = toZ w32 (l .loop .sizes)
 
-  abbrev top : ℤ
-  top = toZ w32 (l .loop .top)
-
-  abbrev low : ℤ
-  low = toZ w32 (l .loop .low)
-
-  abbrev so-far : Rounded (H start) (drop (l .loop .i) (block start)) (drop (l .loop .i) (l .loop .r)) sum halves total top low (l .loop .i)
+  abbrev so-far : Summed (H start) (drop (l .loop .i) (block start)) (drop (l .loop .i) (l .loop .r)) sum halves total
   so-far = l .loop .inv .1 .1
 
   abbrev done : List ℤ
@@ -200,6 +192,23 @@ module _ (c : tie.After-magnitude Inv-loop μ-loop) where
   size-fits : SFits w32 (total (at-loop g) +ℤ pos (natAbs (value g)))
   size-fits = fits _ (omega (arith, sum-abs (total (at-loop g)) (pos (natAbs (value g))) (2 ^ 9) (2 ^ 7) (total-size (at-loop g)) (value-low g)))
 
+-- ---- the block that is left, and its ranks
+
+module _ (c : tie.After-loop Inv-loop μ-loop) where
+  abbrev l : tie.At-loop Inv-loop μ-loop
+  l = c .before
+
+  abbrev rs : List ℤ
+  rs = l .loop .r
+
+  all : Summed (H (start l)) (block (start l)) rs (sum l) (halves l) (total l)
+  all =
+      subst (λ (j : ℕ). Summed (H (start l)) (drop j (block (start l))) (drop j rs) (sum l) (halves l) (total l))
+      {x = l .loop .i} {y = 0} (omega (arith, c .loop-test .left)) (so-far l)
+
+  rs-within : Within (2 ^ 7) rs
+  rs-within = subst (Within (2 ^ 7)) (sym (all .block)) (rounded-within (H-scale (start l)) (block (start l)))
+
 -- ---- the needs
 
 loop-holds : tie.Need-loop-holds Inv-loop μ-loop
@@ -207,8 +216,8 @@ loop-holds c = (
   omega arith,
   (
     eight c,
-    subst (λ xs. Rounded (H c) xs xs (pos 0) (pos 0) (pos 0) (pos 0) (pos 1039) 8) (sym (drop-of-length-le (block c) {i = 8} (omega (arith, eight c))))
-        (record { block = refl; whole = refl; half = refl; size = refl; top = refl; low = refl }),
+    subst (λ xs. Summed (H c) xs xs (pos 0) (pos 0) (pos 0)) (sym (drop-of-length-le (block c) {i = 8} (omega (arith, eight c))))
+        (record { block = refl; whole = refl; half = refl; size = refl }),
   ),
 )
 
@@ -264,46 +273,51 @@ magnitude-requires c κs = omega (arith, value-low (c .before))
 add-sizes : tie.Need-add-sizes Inv-loop μ-loop
 add-sizes c = sfits-to (size-is c) (size-fits c)
 
-rank-requires : tie.Need-rank-requires Inv-loop μ-loop
-rank-requires c κs = (value-low (g c), omega (arith, at-loop (g c) .loop .inv .0))
-
-larger-requires : tie.Need-larger-requires Inv-loop μ-loop
-larger-requires c κs = search needs
-
-smaller-requires : tie.Need-smaller-requires Inv-loop μ-loop
-smaller-requires c κs = search needs
-
 loop-less : tie.Need-loop-less Inv-loop μ-loop
 loop-less c = omega arith
 
 loop-again : tie.Need-loop-again Inv-loop μ-loop
 loop-again c =
-    let t = c .before in
-    let k = t .before in
-    let a = k .before in
-    let b = a .before in
+    let b = c .before in
     let f = b .before in
-    let l = at-loop f in
-    let n : read (k .rank .result) ≡ pos (rankOf (value f) (i f)) = tz refl (record { sfits = k .rank .ok }) ∙ k .rank .ensures in (
+    let l = at-loop f in (
       omega (arith, l .loop .inv .0),
       (
         length-set (l .loop .r) (i f) _ ∙ l .loop .inv .1 .0,
-        rounded-turn (H (s f)) (block (s f)) (l .loop .r) (sum l) (halves l) (total l) (top l) (low l) (v f) (value f) _ _ _ _ _ (l .loop .i) (i f)
+        summed-turn (H (s f)) (block (s f)) (l .loop .r) (sum l) (halves l) (total l) (v f) (value f) _ _ _ (l .loop .i) (i f)
             (omega (arith, f .before .before .loop-test .taken)) (l .loop .inv .0) (eight (s f)) (l .loop .inv .1 .0) refl (value-is f)
             (tz (sum-is f) (sum-fits f) ∙ ap (λ (z : ℤ). sum l +ℤ (v f -ℤ z)) (sym (value-is f)))
             (tz (halves-is b) (halves-fits b))
-            (tz (size-is a) (size-fits a))
-            (tz refl (record { sfits = t .larger .ok }) ∙ t .larger .ensures ∙ ap (λ (z : ℤ). cond (ltZ (top l) z) z (top l)) n)
-            (tz refl (record { sfits = c .smaller .ok }) ∙ c .smaller .ensures ∙ ap (λ (z : ℤ). cond (ltZ (low l) z) (low l) z) n)
+            (tz (size-is c) (size-fits c))
             (so-far l),
       ),
     )
 
+ranks-requires : tie.Need-ranks-requires Inv-loop μ-loop
+ranks-requires c κs = rs-within c
+
+largest-requires : tie.Need-largest-requires Inv-loop μ-loop
+largest-requires c κs = search needs
+
+ranks-requires-2 : tie.Need-ranks-requires-2 Inv-loop μ-loop
+ranks-requires-2 c κs = rs-within (c .before .before)
+
+smallest-requires : tie.Need-smallest-requires Inv-loop μ-loop
+smallest-requires c κs = search needs
+
 returns : tie.Need-returns Inv-loop μ-loop
 returns c =
-    let l = c .before in
-    subst (λ (j : ℕ). Rounded (H (l .before)) (drop j (block (l .before))) (drop j (l .loop .r)) (sum l) (halves l) (total l) (top l) (low l) j)
-    {x = l .loop .i} {y = 0} (omega (arith, c .loop-test .left)) (so-far l)
+    let t = c .before .before in
+    let e = t .before .before in
+    let some : 0 < length (rs e) = omega (arith, l e .loop .inv .1 .0) in
+    record {
+      block = all e .block;
+      whole = all e .whole;
+      half = all e .half;
+      size = all e .size;
+      top = tz refl (record { sfits = t .largest .ok }) ∙ t .largest .ensures ∙ ap (among largerOf) (t .before .ranks .ensures) ∙ top-is (rs e) 0 some;
+      low = tz refl (record { sfits = c .smallest .ok }) ∙ c .smallest .ensures ∙ ap (among smallerOf) (c .before .ranks2 .ensures) ∙ low-is (rs e) 0 some;
+    }
 
 pub round-spec : {M : Type 1} → statement M
 round-spec =
@@ -327,9 +341,10 @@ round-spec =
     add-halves
     magnitude-requires
     add-sizes
-    rank-requires
-    larger-requires
-    smaller-requires
     loop-less
     loop-again
+    ranks-requires
+    largest-requires
+    ranks-requires-2
+    smallest-requires
     returns)

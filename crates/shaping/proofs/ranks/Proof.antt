@@ -1,0 +1,97 @@
+-- `ranks` meets its contract
+use mathlib.Core.Path.{_≡_, refl, sym, _∙_, ap}
+use Prim.Native.Nat.{ℕ, _+_, _-_, _^_, _<_, _≤_}
+use native.Mathlib.Omega.{arith}
+use lib.IntN.{ℤ, pos, natAbs}
+use lib.ListN.{length, getD}
+use borrow.Author.Needs.{needs}
+use Rattle.integers.proofs.Zed.{tz}
+use Rattle.e8.proofs.Within.{within-at}
+use Rattle.coordinates.proofs.Reading.{plain, plain-size}
+use Rattle.coordinates.proofs.Filled.{Filled, filled-none, filled-next, filled-all}
+use Rattle.shaping.proofs.Ranking.{ranks-length, ranks-at}
+use Rattle.shaping.specs.Rounded.{rankOf, ranksOf}
+use Rattle.shaping.proofs.ranks.Statement.{statement}
+use Rattle.shaping.proofs.ranks.Tie as tie
+
+abbrev Inv-loop : tie.InvT-loop
+Inv-loop c r₀ i₀ r i = (i ≤ 8) × Filled (ranksOf c 0) r i
+
+abbrev μ-loop : tie.MeasureT-loop
+μ-loop c r₀ i₀ r i = 8 - i
+
+module _ (s : tie.Start Inv-loop μ-loop) where
+  eight : length (s .args .t1) ≡ 8
+  eight = search needs
+
+  long : length (ranksOf (s .args .t1) 0) ≡ 8
+  long = ranks-length (s .args .t1) 0 ∙ eight
+
+  abbrev z : ℕ → ℤ
+  z i = getD (s .args .t1) i (pos 0)
+
+  small : (i : ℕ) → natAbs (z i) ≤ 2 ^ 7
+  small i = within-at (2 ^ 7) (s .args .t1) i (s .pre)
+
+  target-at : (i : ℕ) → i < 8 → getD (ranksOf (s .args .t1) 0) i (pos 0) ≡ pos (rankOf (z i) i)
+  target-at i h = ranks-at (s .args .t1) 0 i (omega (arith, eight)) ∙ ap (λ (n : ℕ). pos (rankOf (z i) n)) {x = i + 0} {y = i} (omega arith)
+
+loop-holds : tie.Need-loop-holds Inv-loop μ-loop
+loop-holds c = (omega arith, filled-none (ranksOf (c .args .t1) 0) (c .args .t1) (eight c ∙ sym (long c)))
+
+mul-z : tie.Need-mul-z Inv-loop μ-loop
+mul-z c = search needs
+
+array-copy-out-z : tie.Need-array-copy-out-z Inv-loop μ-loop
+array-copy-out-z c = search needs
+
+rank-requires : tie.Need-rank-requires Inv-loop μ-loop
+rank-requires c κs =
+    let l = c .before .before in
+    (plain-size (z (l .before) (l .loop .i)) (2 ^ 7) (small (l .before) (l .loop .i)) (omega arith), omega arith)
+
+mul-r : tie.Need-mul-r Inv-loop μ-loop
+mul-r c = search needs
+
+array-set-from-r : tie.Need-array-set-from-r Inv-loop μ-loop
+array-set-from-r c = search needs
+
+add-i : tie.Need-add-i Inv-loop μ-loop
+add-i c = search needs
+
+loop-less : tie.Need-loop-less Inv-loop μ-loop
+loop-less c = search needs
+
+loop-again : tie.Need-loop-again Inv-loop μ-loop
+loop-again c =
+    let l = c .before .before .before in
+    let s = l .before in
+    let i = l .loop .i in
+    let e = plain (z s i) (omega (arith, small s i)) in (
+      omega arith,
+      filled-next (pos 0) (ranksOf (s .args .t1) 0) (l .loop .r) i _ (l .loop .inv .1) (omega (arith, long s))
+          (tz refl (record { sfits = c .rank .ok }) ∙ c .rank .ensures ∙ ap (λ (y : ℤ). pos (rankOf y i)) e ∙ sym (target-at s i (omega arith))),
+    )
+
+returns : tie.Need-returns Inv-loop μ-loop
+returns c =
+    let l = c .before in
+    let s = l .before in
+    filled-all (ranksOf (s .args .t1) 0) (l .loop .r) (l .loop .i) (l .loop .inv .1) (omega (arith, long s))
+
+pub ranks-spec : {M : Type 1} → statement M
+ranks-spec =
+    tie.close
+    (tie.spec
+    Inv-loop
+    μ-loop
+    loop-holds
+    mul-z
+    array-copy-out-z
+    rank-requires
+    mul-r
+    array-set-from-r
+    add-i
+    loop-less
+    loop-again
+    returns)
