@@ -1,11 +1,11 @@
-/* Tests what frame_coder.h and block.h promise a C caller beyond the contracts: lengths by kind and grade, refusals and their names,
+/* Tests what frame_coder.h and measured.h promise a C caller beyond the contracts: lengths by kind and grade, refusals and their names,
  * pointers that are not looked at where the length is 0, int arguments, the account as a struct. Every buffer is on the heap with its
  * exact length, so that valgrind sees a byte too far. It ends with status 1 where something differs. */
 #include <inttypes.h>
 #include <stdio.h>
 #include <stdlib.h>
 #include <string.h>
-#include "block.h"
+#include "measured.h"
 #include "frame_coder.h"
 
 static unsigned long calls, wrong;
@@ -113,6 +113,10 @@ static void there_and_back(int kind, int grade)
     const struct coder_account grown = {1, (double)energy / (double)coordinates, largest};
     expect("account", kind, grade, same_account(account, grown), 1);
     elsewhere(kind, grade, message, bytes, coordinates, energy, largest);
+    int32_t *plain = (int32_t *)room(coordinates * sizeof *plain);
+    expect("mask test", kind, grade, plain_send(k, g, message, bytes, plain, coordinates), energy);
+    expect("mask test, frame", kind, grade, memcmp(plain, frame, coordinates * sizeof *frame), 0);
+    free(plain);
     expect("open", kind, grade, coder_read_open(k, g, frame, coordinates, back, bytes), energy);
     expect("open message", kind, grade, memcmp(back, message, bytes), 0);
     memset(back, 0xA5, bytes);
@@ -121,6 +125,7 @@ static void there_and_back(int kind, int grade)
     if (coder_message_bits(kind, grade) % 8 != 0) {
         message[bytes - 1] |= 0x80;
         expect("spare", kind, grade, coder_send(k, g, message, bytes, frame, coordinates), -CODER_REFUSED_SPARE_BITS);
+        expect("mask test, spare", kind, grade, plain_send(k, g, message, bytes, frame, coordinates), -CODER_REFUSED_SPARE_BITS);
     }
     free(message);
     free(back);
@@ -175,6 +180,7 @@ int main(void)
         expect("block", 0, 0, block_least(1, gone, 0, block, 8), 0);
         expect("block", 0, 0, block_least(1, block, 8, gone, 0), 0);
         expect("block", 0, 0, block_least(1, gone, 0, gone, 0), 0);
+        expect("mask test", 3, 1, plain_send(3, 1, (uint8_t *)nowhere[i], 0, gone, 0), -CODER_REFUSED_MESSAGE_LENGTH);
     }
     for (int turn = 0; turn < 100; turn++)
         for (int kind = 3; kind <= 6; kind++)

@@ -6,7 +6,8 @@ mod archive {
     extern "C" {
         pub fn coder_send(k: u8, b: u8, message: *const u8, bytes: usize, frame: *mut i32, length: usize) -> i64;
         pub fn coder_read_open(k: u8, b: u8, frame: *const i32, length: usize, message: *mut u8, bytes: usize) -> i64;
-        pub fn coder_read_strict(k: u8, b: u8, frame: *const i32, length: usize, message: *mut u8, bytes: usize) -> i64;
+        pub fn coder_read_strict(k: u8, b: u8, frame: *const i32, length: usize, message: *mut u8, bytes: usize)
+            -> i64;
         pub fn coder_send_counted(
             k: u8,
             b: u8,

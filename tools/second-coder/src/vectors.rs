@@ -136,7 +136,8 @@ fn messages(kind: u8, grade: u8, random: &mut Random) -> Vec<Sorted> {
         let message = edge(&format, random);
         (send(kind, grade, &message).unwrap().least > 1).then_some(message)
     });
-    let sort = |i: usize| [1 + bits, PAIRS, DENSE].iter().scan(0, |end, count| { *end += count; Some(*end) }).filter(|&end| end <= i).count() as u8;
+    let ends = [1 + bits, 1 + bits + PAIRS, 1 + bits + PAIRS + DENSE];
+    let sort = |i: usize| ends.iter().filter(|&&end| end <= i).count() as u8;
     all.into_iter().enumerate().map(|(i, message)| Sorted { kind, grade, sort: sort(i), message }).collect()
 }
 
