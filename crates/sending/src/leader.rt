@@ -15,22 +15,34 @@ pub fn codewords(kind: u8, message: &[u8]) -> [u64; 3]
     requires { ⌜ (isKind kind ≡ true) × (levelBits kind ≤ 8 * length (now message)) ⌝ }
     ensures { λ w. ⌜ w ≡ codewordsOf kind (messageBit (now (message .entry))) ⌝ }
 {
-    let m = kind as usize;
-    let row = kind_table::row(kind);
-    let levels = row.levels;
-    let degrees = row.degrees;
-    let mut words = [0u64; 3];
-    let mut from: usize = 0;
-    let mut i: usize = 0;
-    while i < levels {
-        let r = degrees[i];
-        let count = reed_muller::dimension_of(m, r);
-        let bits = bits::bits_at(message, from, count);
-        words[i] = reed_muller::codeword_held(bits, m, r);
-        from += count;
-        i += 1;
+    // The starts, counts and degrees of the levels are those of the table of kinds, and the contract holds them to it; each call has them as constants,
+    // so that the compiler lays out a code for each level.
+    if kind == 3 {
+        return [
+            reed_muller::codeword_held(bits::bits_at(message, 0, 4), 3, 1),
+            0,
+            0,
+        ];
     }
-    words
+    if kind == 4 {
+        return [
+            reed_muller::codeword_held(bits::bits_at(message, 0, 5), 4, 1),
+            reed_muller::codeword_held(bits::bits_at(message, 5, 15), 4, 3),
+            0,
+        ];
+    }
+    if kind == 5 {
+        return [
+            reed_muller::codeword_held(bits::bits_at(message, 0, 6), 5, 1),
+            reed_muller::codeword_held(bits::bits_at(message, 6, 26), 5, 3),
+            0,
+        ];
+    }
+    [
+        reed_muller::codeword_held(bits::bits_at(message, 0, 7), 6, 1),
+        reed_muller::codeword_held(bits::bits_at(message, 7, 42), 6, 3),
+        reed_muller::codeword_held(bits::bits_at(message, 49, 63), 6, 5),
+    ]
 }
 
 // A block's numbers s1 to s8, from its message bits, held in a number.
