@@ -2,8 +2,9 @@
 ghost use mathlib.Core.Path.{_≡_};
 ghost use mathlib.Core.Bool.{true};
 ghost use Prim.Native.Nat.{ℕ, _+_, _*_, _/_, _%_, _<_, _≤_, _^_};
+ghost use lib.Dec.{eqb};
 ghost use lib.ListN.{length, getD};
-ghost use Rattle.bits.specs.Number.{pick, table};
+ghost use Rattle.bits.specs.Number.{pick, given, table};
 ghost use Rattle.bits.specs.Message.{messageBit};
 ghost use Rattle.e8.specs.Rows.{ints};
 ghost use Rattle.frames.specs.Kind.{isKind, levelBits};
@@ -79,19 +80,28 @@ fn unpacked(bits: u64, grade: usize) -> [u32; 8]
     unpacked_by(bits, 4)
 }
 
+// `one` where bit p of a word is set, and 0 where it is not.
+fn set_at(w: u32, p: usize, one: u32) -> u32
+    requires { ⌜ p < 32 ⌝ }
+    ensures { λ v. ⌜ v ≡ given (eqb (w / 2 ^ p % 2) 1) one ⌝ }
+{
+    let m = 1u32 << p;
+    if w & m == m { one } else { 0 }
+}
+
 // A block's numbers over a level: c + 2·s at each position, c being the bit of the word there; the numbers as they came where there is no such level.
+// The same steps where there is none, with shift and summand 0, so that the compiler takes the eight positions at once.
 fn over_level(there: bool, word: u64, s: [u32; 8]) -> [u32; 8]
     requires { ⌜ ((o : ℕ) → o < 8 → getD s o 0 < 2 ^ 30) ⌝ }
     ensures { λ x. ⌜ x ≡ table 8 (λ o. pick there (word / 2 ^ o % 2 + 2 * getD s o 0) (getD s o 0)) ⌝ }
 {
-    if !there {
-        return s;
-    }
+    let w = (word % 256) as u32;
+    let one = there as u32;
     let mut x = s;
     let mut p: usize = 0;
     while p < 8 {
         let z = s[p];
-        x[p] = ((word >> p) % 2) as u32 + 2 * z;
+        x[p] = (z << one) + set_at(w, p, one);
         p += 1;
     }
     x
