@@ -16,13 +16,13 @@ pub fn magnitude(z: i32) -> i32
     if z < 0 { 0 - z } else { z }
 }
 
-// The square of a coordinate, which i64 has room for.
+// The square of a coordinate, which u64 has room for.
 fn wide_square(z: i32) -> u64
     requires { ⌜ natAbs z ≤ 2 ^ 24 ⌝ }
     ensures { λ r. ⌜ r ≡ sq z ⌝ }
 {
-    let y = z as i64;
-    (y * y) as u64
+    let y = magnitude(z) as u64;
+    y * y
 }
 
 // The energy of a block or of a whole frame.

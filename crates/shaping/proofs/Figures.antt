@@ -68,6 +68,11 @@ off-floor H m x e =
 pub back : (x c : ℤ) → x -ℤ (x -ℤ c) ≡ c
 back x c = eq! (` x ⊖ (` x ⊖ ` c)) (` c) (omega arith)
 
+-- one of two numbers
+pub either : (t : Bool) (x y : ℤ) (B : ℕ) → natAbs x ≤ B → natAbs y ≤ B → natAbs (cond t x y) ≤ B
+either true x y B h k = h
+either false x y B h k = k
+
 -- ---- how large they are, at a scale that the code takes
 
 module _ {H : ℕ} (s : Scale H) where

@@ -1,12 +1,13 @@
-// Shaping one block of eight coordinates: the least member of its class. Each coordinate is rounded, and where the sum is odd one is changed; the half
-// part is the same block, H across 0. Why that is least is said in proofs/Mending and proofs/Halving.
+// Shaping a block of eight coordinates, and a frame block by block: the least member of its class. Each coordinate of a block is rounded, and where the
+// sum is odd one is changed; the half part is the same block, H across 0. Why that is least is said in proofs/Mending and proofs/Halving.
 ghost use mathlib.Core.Path.{_≡_};
 ghost use mathlib.Core.Bool.{cond};
-ghost use Prim.Native.Nat.{_^_, _<_, _≤_};
+ghost use Prim.Native.Nat.{_/_, _%_, _^_, _<_, _≤_};
+ghost use lib.ListN.{length};
 ghost use lib.IntN.{pos, natAbs, _+ℤ_, _-ℤ_, _*ℤ_};
 ghost use lib.Signed.{ltZ, shrZ};
 ghost use Rattle.e8.specs.Energy.{Within};
-ghost use Rattle.e8.specs.Least.{leastBlock};
+ghost use Rattle.e8.specs.Least.{leastBlock, leastFrame};
 ghost use Rattle.shaping.specs.Rounded.{across, wholeFirst, rankOf, memberOf, members, Rounded};
 
 // The larger of two.
@@ -45,7 +46,7 @@ fn rank(c: i32, i: usize) -> i32
     ensures { λ r. ⌜ r ≡ pos (rankOf c i) ⌝ }
 {
     let j = i as i32;
-    if c < 0 { j - 16 * c } else { 16 * c + (15 - j) }
+    16 * coordinates::magnitude(c) + (if c < 0 { j } else { 15 - j })
 }
 
 // What changing a coordinate costs, where the sum leaves a remainder; nothing where it does not.
@@ -129,11 +130,7 @@ fn member(at: i32, elsewhere: i32, t: i32, c: i32, i: usize) -> i32
     requires { ⌜ (natAbs at ≤ 2 ^ 7) × (natAbs elsewhere ≤ 2 ^ 7) × (t ≡ pos (natAbs t)) × (natAbs c ≤ 2 ^ 7) × (i < 8) ⌝ }
     ensures { λ r. ⌜ r ≡ memberOf at elsewhere (natAbs t) c i ⌝ }
 {
-    if rank(c, i) == t {
-        across(at, c)
-    } else {
-        across(elsewhere, c)
-    }
+    across(choose(rank(c, i) == t, at, elsewhere), c)
 }
 
 // A candidate for the least member.
@@ -151,21 +148,6 @@ fn candidate(at: i32, elsewhere: i32, t: i32, c: [i32; 8]) -> [i32; 8]
     r
 }
 
-// One of two blocks.
-fn chosen(t: bool, a: [i32; 8], b: [i32; 8]) -> [i32; 8]
-    ensures { λ r. ⌜ r ≡ cond t a b ⌝ }
-{
-    let mut r = a;
-    let mut i: usize = 0;
-    while i < 8 {
-        let x = a[i];
-        let y = b[i];
-        r[i] = choose(t, x, y);
-        i += 1;
-    }
-    r
-}
-
 // The member of a block's class that is sent, for the scale M = 2^(k + 1): the better of the whole part and the half part.
 pub fn least(k: u32, x: [i32; 8]) -> [i32; 8]
     requires { ⌜ (k ≤ 6) × Within (2 ^ 24) x ⌝ }
@@ -178,8 +160,6 @@ pub fn least(k: u32, x: [i32; 8]) -> [i32; 8]
     let at = h - half_odd;
     let b = q.block;
     let c = b[0];
-    let whole = candidate(odd, 0, q.top, b);
-    let half = candidate(at, h, q.low, b);
     let e = whole_cost(h, q.sizes, odd, q.top);
     let f = half_cost(h, half_odd, q.low);
     let t = whole_first(
@@ -188,5 +168,28 @@ pub fn least(k: u32, x: [i32; 8]) -> [i32; 8]
         f,
         member(at, h, q.low, c, 0),
     );
-    chosen(t, whole, half)
+    candidate(
+        choose(t, odd, at),
+        choose(t, 0, h),
+        choose(t, q.top, q.low),
+        b,
+    )
+}
+
+// Shapes a frame in place, block by block, for the scale M = 2^(k + 1).
+pub fn shape(k: u32, frame: &mut [i32])
+    requires { ⌜ (k ≤ 6) × (length (now frame) % 8 ≡ 0) × (length (now frame) ≤ 1024)
+        × Within (2 ^ 24) (now frame) × (8 ≤ length (now frame)) ⌝ }
+    ensures { λ _. ⌜ now (frame .exit) ≡ leastFrame (2 ^ k) (length (now (frame .entry)) / 8) (now (frame .entry)) ⌝ }
+{
+    let all = frame.len() / 8;
+    let mut j: usize = 0;
+    while j < all {
+        let s = 8 * j;
+        let e = s + 8;
+        let x = coordinates::load(&frame[s..e]);
+        let y = least(k, x);
+        coordinates::store(y, &mut frame[s..e]);
+        j += 1;
+    }
 }

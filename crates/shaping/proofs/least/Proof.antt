@@ -1,4 +1,4 @@
--- `least` meets its contract: the block is rounded once, both candidates are made of it, and the first of them by cost and first coordinate is taken.
+-- `least` meets its contract: the block is rounded once, the first of its two candidates by cost and first coordinate is found, and that one is made.
 -- That at most one coordinate is changed, and which, is in Mending; the half part, the costs and their comparison are in Halving (`Two`).
 -- Here it is shown that the figures of the rounded block fit an i32 and what remainders and costs they make (`Known`), that each local is read as its
 -- figure (the facts after `remainder2`, where the last of them is known), and that each call then gives its part of `Two`. H = 2^k and M = 2·H
@@ -23,7 +23,7 @@ use Rattle.coordinates.proofs.Reading.{read, plain, plain-size, power-read, pow
 use Rattle.shaping.specs.Rounded.{wholeFirst, memberOf, members, sizes, highest, lowest, Rounded}
 use Rattle.shaping.specs.declared.RoundedBlock.{RoundedBlock}
 use Rattle.shaping.proofs.Halving.{left, wholeCost, halfCost, wholePart, halfPart, wholeHead, halfHead, Two, two}
-use Rattle.shaping.proofs.Figures.{off-size, floors-size, sizes-low, rounded-within}
+use Rattle.shaping.proofs.Figures.{pos-where, either, off-size, floors-size, sizes-low, rounded-within}
 use Rattle.shaping.proofs.least.Statement.{statement}
 use Rattle.shaping.proofs.least.Tie as tie
 
@@ -236,14 +236,8 @@ module _ (c : tie.After-remainder2) where
 
 -- ---- the later places, each by the one before it
 
-abbrev at-candidate : tie.After-candidate → tie.After-remainder2
-at-candidate c = c .before .before .before .before
-
-abbrev at-candidate2 : tie.After-candidate2 → tie.After-remainder2
-at-candidate2 c = at-candidate (c .before .before)
-
 abbrev at-whole-cost : tie.After-whole-cost → tie.After-remainder2
-at-whole-cost c = at-candidate2 (c .before .before .before)
+at-whole-cost c = c .before .before .before .before .before
 
 abbrev at-half-cost : tie.After-half-cost → tie.After-remainder2
 at-half-cost c = at-whole-cost (c .before .before)
@@ -255,12 +249,6 @@ abbrev at-member2 : tie.After-member2 → tie.After-remainder2
 at-member2 c = at-member (c .before .before)
 
 -- what each call gives
-
-whole-part : (c : tie.After-candidate) → let d = at-candidate c in c .candidate .result ≡ wholePart (H-here d) (is-odd d) (block d)
-whole-part c = let d = at-candidate c in c .candidate .ensures ∙ (λ j. members (odd-read d j) (pos 0) (top-rank (z d) j) 0 (block d))
-
-half-part : (c : tie.After-candidate2) → let d = at-candidate2 c in c .candidate2 .result ≡ halfPart (H-here d) (half-is-odd d) (block d)
-half-part c = let d = at-candidate2 c in c .candidate2 .ensures ∙ (λ j. members (back-read d j) (height-is (z d) j) (low-rank (z d) j) 0 (block d))
 
 whole-cost-is : (c : tie.After-whole-cost) → let d = at-whole-cost c in read (c .whole-cost .result) ≡ pos (wholeCost (H-here d) (is-odd d) (block d))
 whole-cost-is c =
@@ -286,6 +274,51 @@ half-head c =
     let d = at-member2 c in
     tz refl (record { sfits = c .member2 .ok }) ∙ c .member2 .ensures
     ∙ (λ j. memberOf (back-read d j) (height-is (z d) j) (low-rank (z d) j) (head-read (z d) j) 0)
+
+-- ---- the candidate taken: its amounts, and the rank at which it has the first of them
+
+members-of : (t : Bool) (H : ℕ) (odd half-odd : Bool) (rs : List ℤ)
+    → members (cond t (left H odd) (pos H -ℤ left H half-odd)) (cond t (pos 0) (pos H)) (cond t (highest rs 0) (lowest rs 0)) 0 rs
+    ≡ cond t (wholePart H odd rs) (halfPart H half-odd rs)
+members-of true H odd half-odd rs = refl
+members-of false H odd half-odd rs = refl
+
+module _ (c : tie.After-choose3) where
+  abbrev at-second : tie.After-choose2
+  at-second = c .before .before .before
+
+  abbrev at-first : tie.After-choose
+  at-first = at-second .before
+
+  abbrev at-test : tie.After-whole-first
+  at-test = at-first .before
+
+  abbrev d : tie.After-remainder2
+  d = at-member2 (at-test .before)
+
+  abbrev t : Bool
+  t = at-test .whole-first .result
+
+  abbrev amount : ℤ
+  amount = cond t (left (H-here d) (is-odd d)) (pos (H-here d) -ℤ left (H-here d) (half-is-odd d))
+
+  abbrev elsewhere : ℤ
+  elsewhere = cond t (pos 0) (pos (H-here d))
+
+  abbrev rank : ℕ
+  rank = cond t (highest (block d) 0) (lowest (block d) 0)
+
+  amount-read : read (at-first .choose .result) ≡ amount
+  amount-read = tz refl (record { sfits = at-first .choose .ok }) ∙ at-first .choose .ensures ∙ ap₂ (cond t) (odd-read d) (back-read d)
+
+  elsewhere-read : read (at-second .choose2 .result) ≡ elsewhere
+  elsewhere-read = tz refl (record { sfits = at-second .choose2 .ok }) ∙ at-second .choose2 .ensures ∙ ap (cond t (pos 0)) (height-is (z d))
+
+  rank-read : read (c .choose3 .result) ≡ pos rank
+  rank-read =
+      tz refl (record { sfits = c .choose3 .ok }) ∙ c .choose3 .ensures
+      ∙ ap₂ (cond t) (top-read (z d) ∙ known-here d .top-is) (low-read (z d) ∙ known-here d .low-is)
+      ∙ pos-where t (highest (block d) 0) (lowest (block d) 0)
 
 -- ---- the needs
 
@@ -317,15 +350,9 @@ sub-at c = sfits-to (back-is c) (fits _ (omega (arith, known-here c .back-size))
 array-copy-out-c : tie.Need-array-copy-out-c
 array-copy-out-c c = search needs
 
-candidate-requires : tie.Need-candidate-requires
-candidate-requires c κs = let d = c .before .before .before in (odd-low d, omega arith, top-pos (z d), known-here d .block-size)
-
-candidate-requires-2 : tie.Need-candidate-requires-2
-candidate-requires-2 c κs = let d = at-candidate (c .before) in (back-low-here d, height-size (z d), low-pos (z d), known-here d .block-size)
-
 whole-cost-requires : tie.Need-whole-cost-requires
 whole-cost-requires c κs =
-    let d = at-candidate2 (c .before .before) in
+    let d = c .before .before .before .before in
     let u = plain-size (q (z d) .sizes) (2 ^ 10) (known-here d .sizes-size) (omega arith) in
     (height-size (z d), u, plain-size (q (z d) .top) (2 ^ 12) (known-here d .top-size) (omega arith))
 
@@ -341,21 +368,35 @@ member-requires-2 c κs = let d = at-member (c .before) in (back-low-here d, hei
 whole-first-requires : tie.Need-whole-first-requires
 whole-first-requires c κs = search needs
 
-chosen-requires : tie.Need-chosen-requires
-chosen-requires c κs = search needs
+choose-requires : tie.Need-choose-requires
+choose-requires c κs = search needs
+
+choose-requires-2 : tie.Need-choose-requires-2
+choose-requires-2 c κs = search needs
+
+choose-requires-3 : tie.Need-choose-requires-3
+choose-requires-3 c κs = search needs
+
+candidate-requires : tie.Need-candidate-requires
+candidate-requires c κs = (
+  subst (λ (y : ℤ). natAbs y ≤ 2 ^ 7) (sym (amount-read c)) (either (t c) _ _ (2 ^ 7) (known-here (d c) .odd-size) (known-here (d c) .back-size)),
+  subst (λ (y : ℤ). natAbs y ≤ 2 ^ 7) (sym (elsewhere-read c)) (either (t c) (pos 0) (pos (H-here (d c))) (2 ^ 7) (omega arith)
+      (subst (λ (y : ℤ). natAbs y ≤ 2 ^ 7) (height-is (z (d c))) (height-size (z (d c))))),
+  rank-read c ∙ ap (λ (y : ℤ). pos (natAbs y)) (sym (rank-read c)),
+  known-here (d c) .block-size,
+)
 
 returns : tie.Need-returns
 returns c =
-    let first = c .before in
-    let head2 = first .before in
+    let e = c .before in
+    let head2 = at-test e .before in
     let head = head2 .before .before in
     let cost2 = head .before .before in
     let cost = cost2 .before .before in
-    let half = cost .before .before .before in
-    let whole = half .before .before in
-    c .chosen .ensures ∙ ap₂ (cond (first .whole-first .result)) (whole-part whole) (half-part half)
-    ∙ known-here (at-candidate whole) .two .least (first .whole-first .result)
-    (first .whole-first .ensures ∙ (λ j. wholeFirst (whole-cost-is cost j) (whole-head head j) (half-cost-is cost2 j) (half-head head2 j)))
+    c .candidate .ensures ∙ (λ j. members (amount-read e j) (elsewhere-read e j) (natAbs (rank-read e j)) 0 (block (d e)))
+    ∙ members-of (t e) (H-here (d e)) (is-odd (d e)) (half-is-odd (d e)) (block (d e))
+    ∙ known-here (d e) .two .least (t e)
+    (at-test e .whole-first .ensures ∙ (λ j. wholeFirst (whole-cost-is cost j) (whole-head head j) (half-cost-is cost2 j) (half-head head2 j)))
 
 pub least-spec : {M : Type 1} → statement M
 least-spec =
@@ -369,12 +410,13 @@ least-spec =
     remainder-requires-2
     sub-at
     array-copy-out-c
-    candidate-requires
-    candidate-requires-2
     whole-cost-requires
     half-cost-requires
     member-requires
     member-requires-2
     whole-first-requires
-    chosen-requires
+    choose-requires
+    choose-requires-2
+    choose-requires-3
+    candidate-requires
     returns)

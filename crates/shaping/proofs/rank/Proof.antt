@@ -1,29 +1,34 @@
 -- `rank` meets its contract
 use mathlib.Core.Path.{_≡_, refl, sym, _∙_, ap, ap₂, subst}
-use mathlib.Core.Bool.{Bool, true, false, true≢false, cond}
-use Prim.Native.Nat.{ℕ, suc, _+_, _*_, _-_, _^_, _<_, _≤_}
+use mathlib.Core.Bool.{Bool, true, false, cond}
+use mathlib.Core.Logic.{⊎-elim}
+use Prim.Native.Nat.{ℕ, _+_, _*_, _-_, _^_, _<_, _≤_}
 use native.Mathlib.Omega.{arith}
-use lib.IntN.{ℤ, pos, negsuc, _+ℤ_, _-ℤ_, _*ℤ_, natAbs}
+use lib.IntN.{ℤ, pos, _+ℤ_, _-ℤ_, _*ℤ_, natAbs}
 use lib.Signed.{ltZ}
 use mir.Syntax.{w32}
 use mir.Val.{SFits, toZ}
 use mir.Facts.{toZ-pos}
 use borrow.Author.Needs.{needs}
-use borrow.Author.Tests.{ltb-true}
-use Rattle.integers.proofs.Zed.{`_, #_, _⊕_, _⊖_, _⊗_, eq!, tz, sfits-to, abs-ud}
+use Rattle.integers.proofs.Zed.{#_, _⊖_, eq!, tz, sfits-to}
 use Rattle.shaping.specs.Rounded.{rankOf}
-use Rattle.coordinates.proofs.Size.{fits, abs!, sum-abs, less-abs}
+use Rattle.coordinates.proofs.Size.{fits, sum-abs, less-abs}
 use Rattle.coordinates.proofs.Reading.{read, plain-size}
 use Rattle.shaping.proofs.rank.Statement.{statement}
 use Rattle.shaping.proofs.rank.Tie as tie
 
-low-is : (c : ℤ) (i : ℕ) → ltZ c (pos 0) ≡ true → pos i -ℤ pos 16 *ℤ c ≡ pos (rankOf c i)
-low-is (pos a) i l = absurd (omega (arith, ltb-true a 0 l))
-low-is (negsuc a) i l = eq! (# i ⊖ # 16 ⊗ ` (negsuc a)) (# (16 * suc a + i)) (omega arith)
+-- a place and 15, either off the other
+less-size : (x y : ℤ) → natAbs x ≤ 15 → natAbs y ≤ 15 → natAbs (x -ℤ y) ≤ 30
+less-size x y a b = less-abs x y 15 15 a b
 
-high-is : (c : ℤ) (i : ℕ) → i < 8 → ltZ c (pos 0) ≡ false → pos 16 *ℤ c +ℤ (pos 15 -ℤ pos i) ≡ pos (rankOf c i)
-high-is (pos a) i h l = eq! (# 16 ⊗ # a ⊕ (# 15 ⊖ # i)) (# (16 * a + (15 - i))) (omega arith) ∙ ap (λ t. pos (16 * a + cond t i (15 - i))) (sym l)
-high-is (negsuc a) i h l = absurd (true≢false l)
+less-fits : (x y : ℤ) → natAbs x ≤ 15 → natAbs y ≤ 15 → SFits w32 (x -ℤ y)
+less-fits x y a b = fits (x -ℤ y) (omega (arith, less-size x y a b))
+
+less-read : (x y : ℤ) → natAbs x ≤ 15 → natAbs y ≤ 15 → natAbs (read (x -ℤ y)) ≤ 30
+less-read x y a b = plain-size (x -ℤ y) 30 (less-size x y a b) (omega arith)
+
+sum-fits : (x y : ℤ) → natAbs x ≤ 2 ^ 11 → natAbs y ≤ 30 → SFits w32 (x +ℤ y)
+sum-fits x y a b = fits (x +ℤ y) (omega (arith, sum-abs x y (2 ^ 11) 30 a b))
 
 rank-low : (c : ℤ) (i : ℕ) → natAbs c ≤ 2 ^ 7 → i < 8 → rankOf c i ≤ 2 ^ 12
 rank-low c i h k = go (ltZ c (pos 0))
@@ -32,91 +37,79 @@ rank-low c i h k = go (ltZ c (pos 0))
     go true = omega arith
     go false = omega arith
 
--- a place and 15, either off the other, by itself and over 16 times the size
-step-fits : (x y : ℤ) → natAbs x ≤ 15 → natAbs y ≤ 15 → SFits w32 (x -ℤ y)
-step-fits x y a b = fits (x -ℤ y) (omega (arith, less-abs x y 15 15 a b))
-
-over-fits : (u x y : ℤ) → natAbs u ≤ 2 ^ 11 → natAbs x ≤ 15 → natAbs y ≤ 15 → SFits w32 (u +ℤ read (x -ℤ y))
-over-fits u x y h a b =
-    fits (u +ℤ read (x -ℤ y)) (omega (arith, sum-abs u (read (x -ℤ y)) (2 ^ 11) 30 h (plain-size (x -ℤ y) 30 (less-abs x y 15 15 a b) (omega arith))))
-
 module _ (s : tie.Start) where
-  number : read (s .args .c) ≡ s .args .c
+  abbrev z : ℤ
+  z = s .args .c
+
+  abbrev i : ℕ
+  i = s .args .i
+
+  number : read z ≡ z
   number = tz refl (s .fits .c)
 
-  index : toZ w32 (s .args .i) ≡ pos (s .args .i)
+  index : toZ w32 i ≡ pos i
   index = toZ-pos w32 (omega (arith, s .pre .1))
 
-  index-size : natAbs (toZ w32 (s .args .i)) ≤ 15
-  index-size = subst (λ (z : ℤ). natAbs z ≤ 15) (sym index) (omega (arith, s .pre .1))
+  index-size : natAbs (toZ w32 i) ≤ 15
+  index-size = subst (λ (y : ℤ). natAbs y ≤ 15) (sym index) (omega (arith, s .pre .1))
 
-  sixteen-fits : SFits w32 (pos 16 *ℤ s .args .c)
-  sixteen-fits =
-      let e = abs-ud (s .args .c) in
-      fits (pos 16 *ℤ s .args .c) (abs! (# 16 ⊗ ` (s .args .c)) (2 ^ 30) (omega (arith, e, s .pre .0)) (omega (arith, e, s .pre .0)))
+  behind : read (pos 15 -ℤ toZ w32 i) ≡ pos (15 - i)
+  behind = tz (ap (λ (y : ℤ). pos 15 -ℤ y) index ∙ eq! (# 15 ⊖ # i) (# (15 - i)) (omega (arith, s .pre .1))) (fits (pos (15 - i)) (omega arith))
 
-  sixteen : read (pos 16 *ℤ read (s .args .c)) ≡ pos 16 *ℤ s .args .c
-  sixteen = tz (ap (λ (z : ℤ). pos 16 *ℤ z) number) sixteen-fits
-
-  sixteen-size : natAbs (read (pos 16 *ℤ read (s .args .c))) ≤ 2 ^ 11
-  sixteen-size =
-      let e = abs-ud (s .args .c) in
-      subst (λ (z : ℤ). natAbs z ≤ 2 ^ 11) (sym sixteen) (abs! (# 16 ⊗ ` (s .args .c)) (2 ^ 11) (omega (arith, e, s .pre .0)) (omega (arith, e, s .pre .0)))
-
-  behind-fits : SFits w32 (pos 15 -ℤ pos (s .args .i))
-  behind-fits = fits (pos 15 -ℤ pos (s .args .i)) (abs! (# 15 ⊖ # (s .args .i)) (2 ^ 30) (omega arith) (omega (arith, s .pre .1)))
-
-  behind : read (pos 15 -ℤ toZ w32 (s .args .i)) ≡ pos 15 -ℤ pos (s .args .i)
-  behind = tz (ap (λ (z : ℤ). pos 15 -ℤ z) index) behind-fits
-
+module _ (c : tie.After-magnitude) where
   abbrev n : ℕ
-  n = rankOf (s .args .c) (s .args .i)
+  n = natAbs (z (c .before))
 
-  n-low : n ≤ 2 ^ 12
-  n-low = rank-low (s .args .c) (s .args .i) (s .pre .0) (s .pre .1)
+  size : read (c .magnitude .result) ≡ pos n
+  size = tz (c .magnitude .ensures ∙ ap (λ (y : ℤ). pos (natAbs y)) (number (c .before))) (fits (pos n) (omega (arith, c .before .pre .0)))
 
-  n-fits : SFits w32 (pos n)
-  n-fits = fits (pos n) (omega (arith, n-low))
+  product : pos 16 *ℤ read (c .magnitude .result) ≡ pos (16 * n)
+  product = ap (λ (y : ℤ). pos 16 *ℤ y) size
 
-  low : ltZ (read (s .args .c)) (pos 0) ≡ true → toZ w32 (s .args .i) -ℤ read (pos 16 *ℤ read (s .args .c)) ≡ pos n
-  low l = ap₂ _-ℤ_ index sixteen ∙ low-is (s .args .c) (s .args .i) (rw number at l)
+  product-fits : SFits w32 (pos (16 * n))
+  product-fits = fits (pos (16 * n)) (omega (arith, c .before .pre .0))
 
-  high : ltZ (read (s .args .c)) (pos 0) ≡ false → read (pos 16 *ℤ read (s .args .c)) +ℤ read (pos 15 -ℤ toZ w32 (s .args .i)) ≡ pos n
-  high l = ap₂ _+ℤ_ sixteen behind ∙ high-is (s .args .c) (s .args .i) (s .pre .1) (rw number at l)
+  sixteen : read (pos 16 *ℤ read (c .magnitude .result)) ≡ pos (16 * n)
+  sixteen = tz product product-fits
+
+  sixteen-size : natAbs (read (pos 16 *ℤ read (c .magnitude .result))) ≤ 2 ^ 11
+  sixteen-size = subst (λ (y : ℤ). natAbs y ≤ 2 ^ 11) (sym sixteen) (omega (arith, c .before .pre .0))
+
+module _ (c : tie.Joined1) where
+  abbrev s : tie.Start
+  s = c .before .before
+
+  -- what is added for the sign and the place
+  last-size : natAbs (toZ w32 (c .if1 .result)) ≤ 30
+  last-size =
+      ⊎-elim (λ w. subst (λ (n : ℕ). natAbs (toZ w32 n) ≤ 30) (sym (w .1)) (omega (arith, index-size s)))
+      (λ w. subst (λ (n : ℕ). natAbs (toZ w32 n) ≤ 30) (sym (w .1)) (search (less-read, index-size s, needs))) (c .if1 .came)
+
+  last-is : toZ w32 (c .if1 .result) ≡ pos (cond (ltZ (z s) (pos 0)) (i s) (15 - i s))
+  last-is =
+      let by : (t : Bool) → ltZ (read (z s)) (pos 0) ≡ t → pos (cond t (i s) (15 - i s)) ≡ pos (cond (ltZ (z s) (pos 0)) (i s) (15 - i s)) =
+      λ t h. ap (λ b. pos (cond b (i s) (15 - i s))) (sym (rw (number s) at h)) in
+      ⊎-elim (λ w. ap (toZ w32) (w .1) ∙ index s ∙ by true (w .0 .taken)) (λ w. ap (toZ w32) (w .1) ∙ behind s ∙ by false (w .0 .left)) (c .if1 .came)
 
 cast-j : tie.Need-cast-j
 cast-j c = search needs
 
+magnitude-requires : tie.Need-magnitude-requires
+magnitude-requires c κs = omega (arith, plain-size (z c) (2 ^ 7) (c .pre .0) (omega arith))
+
 mul-result : tie.Need-mul-result
-mul-result c = sfits-to (ap (λ (z : ℤ). pos 16 *ℤ z) (number (c .before))) (sixteen-fits (c .before))
+mul-result c = sfits-to (product c) (product-fits c)
 
 sub-result : tie.Need-sub-result
-sub-result c = sfits-to (low (c .before) (c .if1 .taken)) (n-fits (c .before))
-
-mul-result-2 : tie.Need-mul-result-2
-mul-result-2 c = sfits-to (ap (λ (z : ℤ). pos 16 *ℤ z) (number (c .before))) (sixteen-fits (c .before))
-
-sub-result-2 : tie.Need-sub-result-2
-sub-result-2 c = sfits-to refl (search (step-fits, index-size (c .before), needs))
+sub-result c = sfits-to refl (search (less-fits, index-size (c .before .before), needs))
 
 add-result : tie.Need-add-result
-add-result c = sfits-to refl (search (over-fits, sixteen-size (c .before), index-size (c .before), needs))
+add-result c = sum-fits (read (pos 16 *ℤ read (c .before .magnitude .result))) (toZ w32 (c .if1 .result)) (sixteen-size (c .before)) (last-size c)
 
 returns : tie.Need-returns
-returns c = tz (low (c .before) (c .if1 .taken)) (n-fits (c .before))
-
-returns-2 : tie.Need-returns-2
-returns-2 c = tz (high (c .before) (c .if1 .left)) (n-fits (c .before))
+returns c =
+    tz (ap₂ _+ℤ_ (sixteen (c .before)) (last-is c))
+    (fits (pos (rankOf (z (s c)) (i (s c)))) (omega (arith, rank-low (z (s c)) (i (s c)) (s c .pre .0) (s c .pre .1))))
 
 pub rank-spec : {M : Type 1} → statement M
-rank-spec =
-    tie.close
-    (tie.spec
-    cast-j
-    mul-result
-    sub-result
-    mul-result-2
-    sub-result-2
-    add-result
-    returns
-    returns-2)
+rank-spec = tie.close (tie.spec cast-j magnitude-requires mul-result sub-result add-result returns)
