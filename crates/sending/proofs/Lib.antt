@@ -2,6 +2,4 @@ pub mod Tests
 pub mod Answers
 pub mod Stack
 pub mod Block
-pub mod Blocks
 pub mod Laid
-pub mod Shaped
