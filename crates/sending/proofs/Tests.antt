@@ -31,8 +31,8 @@ module _ (w p : ℕ) where
       go zero l e = absurd (omega (arith, e, h, pow-pos p))
       go (suc d) l e = omega arith
 
-  pub mask-clear : digit w p ≡ 1 → bitAnd w (2 ^ p) ≡ 2 ^ p
-  mask-clear e = masked ∙ ap (λ (d : ℕ). d * 2 ^ p) e ∙ one-mul (2 ^ p)
+  pub set-mask : digit w p ≡ 1 → bitAnd w (2 ^ p) ≡ 2 ^ p
+  set-mask e = masked ∙ ap (λ (d : ℕ). d * 2 ^ p) e ∙ one-mul (2 ^ p)
 
 -- ---- the spare bits
 

@@ -5,7 +5,7 @@ use lib.Bits.{bitAnd}
 use borrow.Author.Needs.{needs}
 use borrow.Author.Tests.{eq-eqb, ne-eqb}
 use Rattle.bits.proofs.Digits.{one-shifted}
-use Rattle.sending.proofs.Tests.{mask-set, mask-clear}
+use Rattle.sending.proofs.Tests.{mask-set, set-mask}
 use Rattle.sending.proofs.leader.set_at.Statement.{statement}
 use Rattle.sending.proofs.leader.set_at.Tie as tie
 
@@ -28,7 +28,7 @@ returns c =
 returns-2 : tie.Need-returns-2
 returns-2 c =
     let s = c .before in
-    rw (ne-eqb _ _ (λ d. c .if1 .left (ap (bitAnd (s .args .w)) (mask s) ∙ mask-clear (s .args .w) (s .args .p) d ∙ sym (mask s))))
+    rw (ne-eqb _ _ (λ d. c .if1 .left (ap (bitAnd (s .args .w)) (mask s) ∙ set-mask (s .args .w) (s .args .p) d ∙ sym (mask s))))
 
 pub set-at-spec : {M : Type 1} → statement M
 set-at-spec = tie.close (tie.spec cast-m shl-m returns returns-2)
