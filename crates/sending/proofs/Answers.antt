@@ -1,5 +1,5 @@
 -- The answer of sending by the tests that were passed, and what an answer of 0 says. Assumes nothing.
-use Prim.Native.Nat.{ℕ, _+_, _*_, _^_, _≤_}
+use Prim.Native.Nat.{ℕ, _^_, _≤_}
 use mathlib.Core.Path.{_≡_, _∙_}
 use mathlib.Core.Bool.{Bool, true, false, cond}
 use mathlib.Core.List.{List}
@@ -7,7 +7,7 @@ use native.Mathlib.Omega.{arith}
 use lib.Dec.{eqb}
 use lib.ListN.{length}
 use borrow.Author.Tests.{eq-eqb, ne-eqb, eqb-true}
-use Rattle.frames.specs.Kind.{isKind, isGrade, messageBits, messageBytes}
+use Rattle.frames.specs.Kind.{isKind, isGrade, messageBytes}
 use Rattle.frames.specs.Sending.{spareSet, unless, sendRefusal}
 use Rattle.frames.proofs.Refusals.{past}
 
@@ -65,9 +65,3 @@ fits k b bytes n h₁ h₂ h₃ h₄ =
     let p₃ = past (eqb (length bytes) (messageBytes k b)) 3 _ (λ e. h₃ (p₁ .1 ∙ p₂ .1 ∙ e)) in
     let p₄ = past (eqb n (2 ^ k)) 4 _ (λ e. h₄ (p₁ .1 ∙ p₂ .1 ∙ p₃ .1 ∙ e)) in
     record { kind = p₁ .0; grade = p₂ .0; long = eqb-true _ _ (p₃ .0); positions = eqb-true _ _ (p₄ .0) }
-
--- ---- sizes of an accepted message
-
-pub bytes-high : (k b : ℕ) → 8 * messageBytes k b ≤ messageBits k b + 7
-unfolding messageBytes
-bytes-high k b = omega arith

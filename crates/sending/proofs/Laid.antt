@@ -19,7 +19,7 @@ use Rattle.e8.specs.Lattice.{part}
 use Rattle.e8.specs.Rows.{ints}
 use Rattle.e8.proofs.Rows.{ints-length}
 use Rattle.frames.specs.Kind.{isKind, degrees, levels, blocks, levelBits}
-use Rattle.frames.specs.Message.{numbers, blockNumbers, stacked, coordinate, leader}
+use Rattle.frames.specs.Message.{blockNumbers, stacked, coordinate, leader}
 use Rattle.frames.proofs.Frame.{at, ints-at, part-length, part-at}
 use Rattle.frames.proofs.One.{leader-length, leader-at}
 use Rattle.frames.proofs.Limits.{few-levels, whole-blocks}

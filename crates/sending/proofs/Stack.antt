@@ -1,6 +1,6 @@
 -- The levels of a kind: the stack of their codewords, by the numbers that hold them. Assumes nothing.
-use Prim.Native.Nat.{ℕ, zero, suc, _+_, _-_, _*_, _^_, _≤_, _<_}
-use mathlib.Core.Path.{_≡_, refl, sym, ap, _∙_}
+use Prim.Native.Nat.{ℕ, zero, suc, _+_, _-_, _*_, _%_, _^_, _≤_, _<_}
+use mathlib.Core.Path.{_≡_, refl, sym, ap, _∙_, subst}
 use mathlib.Core.List.{List, [], _∷_}
 use native.Mathlib.Nat.{pow-suc}
 use native.Mathlib.Decide.{decLt}
@@ -10,13 +10,14 @@ use lib.ListN.{length, getD, take}
 use borrow.Author.Tests.{lt-ltb, le-ltb}
 use Rattle.bits.specs.Number.{pick, given, number}
 use Rattle.bits.proofs.Table.{table-at}
-use Rattle.bits.proofs.Message.{number-bit}
+use Rattle.bits.specs.Message.{messageBit}
+use Rattle.bits.proofs.Message.{number-lt, number-ext, number-bit, digit-of, message-small}
 use Rattle.bits.proofs.Digits.{digit}
 use Rattle.reed_muller.specs.Level.{dimension, codeword}
-use Rattle.reed_muller.proofs.Codeword.{codeword-small}
+use Rattle.reed_muller.proofs.Codeword.{codeword-cong, codeword-small}
 use Rattle.frames.specs.Kind.{degrees, levels, dimensions}
 use Rattle.frames.specs.Message.{stacked}
-use Rattle.sending.specs.Words.{levelValue, codewordsOf, overLevels}
+use Rattle.sending.specs.Words.{levelStart, levelValue, codewordsOf, overLevels}
 
 -- ---- a number over levels
 
@@ -51,6 +52,19 @@ over-more n i c s = go (decLt i n)
         let e : n - i ≡ 0 = omega arith in
         let f : n - suc i ≡ 0 = omega arith in
         rw (le-ltb i n (omega arith), e, f) refl
+
+-- ---- a level, by the number x that holds its message bits
+
+pub held-below : {x n : ℕ} {f : ℕ → ℕ} → x ≡ number n f → ((t : ℕ) → t < n → f t < 2) → x < 2 ^ n
+held-below {n = n} {f = f} e small = subst (λ (y : ℕ). y < 2 ^ n) (sym e) (number-lt f n small)
+
+-- the codeword of level i of kind k
+pub level-word : (k i : ℕ) (bytes : List ℕ) {x w : ℕ} → x ≡ number (dimension (getD (degrees k) i 0) k) (λ t. messageBit bytes (levelStart k i + t))
+    → w ≡ number (2 ^ k) (codeword (getD (degrees k) i 0) k (digit x)) → w ≡ number (2 ^ k) (levelValue k (messageBit bytes) i)
+level-word k i bytes e made =
+    made
+    ∙ number-ext (2 ^ k) (λ p l.
+    codeword-cong _ k _ _ (λ t u. ap (λ (y : ℕ). y % 2) (digit-of e (λ t l. message-small bytes (levelStart k i + t)) t u)) p)
 
 -- ---- the levels of a kind
 

@@ -2,8 +2,9 @@
 ghost use mathlib.Core.Path.{_≡_};
 ghost use mathlib.Core.Bool.{true};
 ghost use Prim.Native.Nat.{ℕ, _+_, _*_, _/_, _%_, _<_, _≤_, _^_};
+ghost use lib.Dec.{eqb};
 ghost use lib.ListN.{length, getD};
-ghost use Rattle.bits.specs.Number.{pick, table};
+ghost use Rattle.bits.specs.Number.{pick, given, table};
 ghost use Rattle.bits.specs.Message.{messageBit};
 ghost use Rattle.e8.specs.Rows.{ints};
 ghost use Rattle.frames.specs.Kind.{isKind, levelBits};
@@ -15,22 +16,34 @@ pub fn codewords(kind: u8, message: &[u8]) -> [u64; 3]
     requires { ⌜ (isKind kind ≡ true) × (levelBits kind ≤ 8 * length (now message)) ⌝ }
     ensures { λ w. ⌜ w ≡ codewordsOf kind (messageBit (now (message .entry))) ⌝ }
 {
-    let m = kind as usize;
-    let row = kind_table::row(kind);
-    let levels = row.levels;
-    let degrees = row.degrees;
-    let mut words = [0u64; 3];
-    let mut from: usize = 0;
-    let mut i: usize = 0;
-    while i < levels {
-        let r = degrees[i];
-        let count = reed_muller::dimension_of(m, r);
-        let bits = bits::bits_at(message, from, count);
-        words[i] = reed_muller::codeword_held(bits, m, r);
-        from += count;
-        i += 1;
+    // The starts, counts and degrees of the levels are those of the table of kinds, and the contract holds them to it; each call has them as constants,
+    // so that the compiler lays out a code for each level.
+    if kind == 3 {
+        return [
+            reed_muller::codeword_held(bits::bits_at(message, 0, 4), 3, 1),
+            0,
+            0,
+        ];
     }
-    words
+    if kind == 4 {
+        return [
+            reed_muller::codeword_held(bits::bits_at(message, 0, 5), 4, 1),
+            reed_muller::codeword_held(bits::bits_at(message, 5, 15), 4, 3),
+            0,
+        ];
+    }
+    if kind == 5 {
+        return [
+            reed_muller::codeword_held(bits::bits_at(message, 0, 6), 5, 1),
+            reed_muller::codeword_held(bits::bits_at(message, 6, 26), 5, 3),
+            0,
+        ];
+    }
+    [
+        reed_muller::codeword_held(bits::bits_at(message, 0, 7), 6, 1),
+        reed_muller::codeword_held(bits::bits_at(message, 7, 42), 6, 3),
+        reed_muller::codeword_held(bits::bits_at(message, 49, 63), 6, 5),
+    ]
 }
 
 // A block's numbers s1 to s8, from its message bits, held in a number.
@@ -67,19 +80,28 @@ fn unpacked(bits: u64, grade: usize) -> [u32; 8]
     unpacked_by(bits, 4)
 }
 
+// `one` where bit p of a word is set, and 0 where it is not.
+fn set_at(w: u32, p: usize, one: u32) -> u32
+    requires { ⌜ p < 32 ⌝ }
+    ensures { λ v. ⌜ v ≡ given (eqb (w / 2 ^ p % 2) 1) one ⌝ }
+{
+    let m = 1u32 << p;
+    if w & m == m { one } else { 0 }
+}
+
 // A block's numbers over a level: c + 2·s at each position, c being the bit of the word there; the numbers as they came where there is no such level.
+// The same steps where there is none, with shift and summand 0, so that the compiler takes the eight positions at once.
 fn over_level(there: bool, word: u64, s: [u32; 8]) -> [u32; 8]
     requires { ⌜ ((o : ℕ) → o < 8 → getD s o 0 < 2 ^ 30) ⌝ }
     ensures { λ x. ⌜ x ≡ table 8 (λ o. pick there (word / 2 ^ o % 2 + 2 * getD s o 0) (getD s o 0)) ⌝ }
 {
-    if !there {
-        return s;
-    }
+    let w = (word % 256) as u32;
+    let one = there as u32;
     let mut x = s;
     let mut p: usize = 0;
     while p < 8 {
         let z = s[p];
-        x[p] = ((word >> p) % 2) as u32 + 2 * z;
+        x[p] = (z << one) + set_at(w, p, one);
         p += 1;
     }
     x

@@ -1,11 +1,10 @@
 // Sending: a message becomes the sent frame, with its energy.
 ghost use mathlib.Core.Path.{_≡_};
 ghost use mathlib.Core.Bool.{true};
-ghost use Prim.Native.Nat.{_*_, _/_, _%_, _≤_, _^_};
+ghost use Prim.Native.Nat.{_%_, _≤_, _^_};
 ghost use lib.ListN.{length};
 ghost use Rattle.e8.specs.Energy.{energy as energyOf, Within};
 ghost use Rattle.e8.specs.Largest.{largestBlock};
-ghost use Rattle.e8.specs.Least.{leastFrame};
 ghost use Rattle.frames.specs.Kind.{isKind, messageBytes};
 ghost use Rattle.frames.specs.Message.{leader};
 ghost use Rattle.frames.specs.Frame.{sentFrame};
@@ -47,24 +46,6 @@ fn write_leader(kind: u8, grade: usize, message: &[u8], frame: &mut [i32])
     }
 }
 
-// Shapes a frame in place, block by block, for the scale M = 2^(k + 1).
-fn shape(k: u32, frame: &mut [i32])
-    requires { ⌜ (k ≤ 6) × (length (now frame) % 8 ≡ 0) × (length (now frame) ≤ 1024)
-        × Within (2 ^ 24) (now frame) × (8 ≤ length (now frame)) ⌝ }
-    ensures { λ _. ⌜ now (frame .exit) ≡ leastFrame (2 ^ k) (length (now (frame .entry)) / 8) (now (frame .entry)) ⌝ }
-{
-    let all = frame.len() / 8;
-    let mut j: usize = 0;
-    while j < all {
-        let s = 8 * j;
-        let e = s + 8;
-        let x = coordinates::load(&frame[s..e]);
-        let y = shaping::least(k, x);
-        coordinates::store(y, &mut frame[s..e]);
-        j += 1;
-    }
-}
-
 // The energy of a shaped frame, and the largest of its blocks', block by block.
 fn shaped_energies(frame: &[i32]) -> Energies
     requires { ⌜ (length (now frame) % 8 ≡ 0) × (length (now frame) ≤ 1024) × Within (2 ^ 10) (now frame) ⌝ }
@@ -95,7 +76,7 @@ pub fn write_sent(kind: u8, grade: usize, message: &[u8], frame: &mut [i32]) -> 
 {
     write_leader(kind, grade, message, frame);
     let k = kind_table::levels(kind) + grade - 1;
-    shape(k as u32, frame);
+    shaping::shape(k as u32, frame);
     shaped_energies(frame)
 }
 

@@ -1,35 +1,23 @@
 // The tests that sending makes, in their order.
 ghost use mathlib.Core.Path.{_≡_};
 ghost use mathlib.Core.Bool.{true};
-ghost use Prim.Native.Nat.{_+_, _*_, _≤_, _<_};
+ghost use Prim.Native.Nat.{_≤_};
 ghost use lib.ListN.{length};
-ghost use Rattle.bits.specs.Message.{messageBit};
-ghost use Rattle.frames.specs.Sending.{anySet, spareSet, sendRefusal};
+ghost use Rattle.frames.specs.Sending.{spareSet, sendRefusal};
 ghost use Rattle.frames.specs.Kind.{isKind, messageBytes};
 
-// Whether one of the `count` bits from bit `from` on is set.
-fn any_set(message: &[u8], from: usize, count: usize) -> bool
-    requires { ⌜ (from + count ≤ 8 * length (now message)) × (from + count ≤ 1000) ⌝ }
-    ensures { λ r. ⌜ r ≡ anySet (messageBit (now (message .entry))) from count ⌝ }
-{
-    let mut i: usize = 0;
-    while i < count {
-        if bits::bit(message, from + i) == 1 {
-            return true;
-        }
-        i += 1;
-    }
-    false
-}
-
-// Whether a spare bit is set.
+// Whether a spare bit is set: one of the last byte from bit `over` on. There is none where the message bits fill whole bytes.
 fn spare_set(kind: u8, grade: usize, message: &[u8]) -> bool
     requires { ⌜ (isKind kind ≡ true) × (grade ≤ 4) × (length (now message) ≡ messageBytes kind grade) ⌝ }
     ensures { λ r. ⌜ r ≡ spareSet kind grade (now (message .entry)) ⌝ }
 {
-    let from = kind_table::message_bits(kind, grade);
-    let count = 8 * message.len() - from;
-    any_set(message, from, count)
+    let over = kind_table::message_bits(kind, grade) % 8;
+    if over == 0 {
+        return false;
+    }
+    let last = message.len() - 1;
+    let b = message[last];
+    (b >> over) != 0
 }
 
 // The number of the first test that is not passed, 0 where all are; n coordinates are lent.

@@ -15,7 +15,7 @@ use Rattle.e8.specs.Rows.{ints}
 use Rattle.frames.specs.Kind.{blocks as blocks-of, levelBits, messageBits}
 use Rattle.frames.specs.Message.{widths, numbers, blockNumbers, leader}
 use Rattle.frames.proofs.Limits.{few-levels, few-positions, few-message-bits, whole-blocks, bytes-hold, levels-hold, Piece, block-piece}
-use Rattle.sending.proofs.Blocks.{Made, Over, over-start, over-same, over-end, over-step, taken-made}
+use Rattle.shaping.proofs.Blocks.{Made, Over, over-start, over-same, over-end, over-step, taken-made}
 use Rattle.sending.proofs.Laid.{long, laid, block-is}
 use Rattle.sending.proofs.write_leader.Statement.{statement}
 use Rattle.sending.proofs.write_leader.Tie as tie

@@ -1,13 +1,15 @@
 -- `leader::over_level` meets its contract: the positions passed so far have the level. Assumes nothing.
-use Prim.Native.Nat.{ℕ, _+_, _-_, _*_, _/_, _%_, _^_, _<_}
-use mathlib.Core.Path.{_≡_, refl, sym, ap, _∙_}
-use mathlib.Core.Bool.{Bool, true, false, not, true≢false}
+use Prim.Native.Nat.{ℕ, zero, suc, _+_, _-_, _*_, _%_, _^_, _<_}
+use mathlib.Core.Path.{_≡_, sym, ap, _∙_}
+use mathlib.Core.Bool.{Bool, true, false}
 use mathlib.Core.List.{List}
 use native.Mathlib.Omega.{arith}
+use lib.Dec.{eqb}
 use lib.ListN.{length, getD}
+use mir.Val.{boolByte}
 use borrow.Author.Needs.{needs}
-use Rattle.bits.specs.Number.{pick, table}
-use Rattle.bits.proofs.Message.{bytes-are}
+use Rattle.bits.specs.Number.{pick, given, table}
+use Rattle.bits.proofs.Digits.{digit, digit-small, digit-mod}
 use Rattle.bits.proofs.Table.{length-table, table-at}
 use Rattle.coordinates.proofs.Filled.{Filled, filled-none, filled-next, filled-all}
 use Rattle.sending.proofs.leader.over_level.Statement.{statement}
@@ -15,13 +17,20 @@ use Rattle.sending.proofs.leader.over_level.Tie as tie
 
 -- the number at o, with its level
 abbrev made : Bool → ℕ → List ℕ → ℕ → ℕ
-made there word s o = pick there (word / 2 ^ o % 2 + 2 * getD s o 0) (getD s o 0)
+made there word s o = pick there (digit word o + 2 * getD s o 0) (getD s o 0)
 
 abbrev Inv-loop : tie.InvT-loop
-Inv-loop there word s x₀ p₀ x p = Filled (table 8 (made there word s)) x p
+Inv-loop there word s w one x₀ p₀ x p = Filled (table 8 (made there word s)) x p
 
 abbrev μ-loop : tie.MeasureT-loop
-μ-loop there word s x₀ p₀ x p = 8 - p
+μ-loop there word s w one x₀ p₀ x p = 8 - p
+
+-- the start, and the position, from a turn of the loop
+abbrev at-start : tie.After-set-at Inv-loop μ-loop → tie.Start Inv-loop μ-loop
+at-start c = c .before .before .before
+
+abbrev at-p : tie.After-set-at Inv-loop μ-loop → ℕ
+at-p c = c .before .before .loop .p
 
 eight : (c : tie.Start Inv-loop μ-loop) → length (c .args .t3) ≡ 8
 eight c = search needs
@@ -29,20 +38,31 @@ eight c = search needs
 long : (there : Bool) (word : ℕ) (s : List ℕ) → length (table 8 (made there word s)) ≡ 8
 long there word s = length-table (made there word s) 8
 
--- where there is no such level the numbers stay, and where there is one they have it
-absent : (word : ℕ) (s : List ℕ) (there : Bool) → not there ≡ true → length s ≡ 8 → s ≡ table 8 (made there word s)
-absent word s false n l = sym (bytes-are s (made false word s) (λ o h. refl)) ∙ ap (λ (m : ℕ). table m (made false word s)) l
-absent word s true n l = absurd (true≢false (sym n))
+-- z over the bit d, by a shift and a summand that are 0 where there is no level
+shift-small : (there : Bool) → boolByte there < 32
+shift-small true = omega arith
+shift-small false = omega arith
 
-present : (word : ℕ) (s : List ℕ) (o : ℕ) (there : Bool) → not there ≡ false → word / 2 ^ o % 2 + 2 * getD s o 0 ≡ made there word s o
-present word s o true n = refl
-present word s o false n = absurd (true≢false n)
+module _ {z : ℕ} (low : z < 2 ^ 30) where
+  over : (there : Bool) (d : ℕ) → d < 2 → z * 2 ^ boolByte there % 2 ^ 32 + given (eqb d 1) (boolByte there) ≡ pick there (d + 2 * z) z
+  over true zero l = omega arith
+  over true (suc zero) l = omega arith
+  over false zero l = omega arith
+  over false (suc zero) l = omega arith
+  over there (suc (suc d)) l = absurd (omega arith)
 
-returns : tie.Need-returns Inv-loop μ-loop
-returns c = absent (c .before .args .word) (c .before .args .t3) (c .before .args .there) (c .if1 .taken) (eight (c .before))
+  over-small : (there : Bool) (d : ℕ) → d < 2 → pick there (d + 2 * z) z < 2 ^ 32
+  over-small true d l = omega arith
+  over-small false d l = omega arith
+
+cast-w : tie.Need-cast-w Inv-loop μ-loop
+cast-w c = search needs
+
+cast-one : tie.Need-cast-one Inv-loop μ-loop
+cast-one c = search needs
 
 loop-holds : tie.Need-loop-holds Inv-loop μ-loop
-loop-holds c = let g = c .before .args in filled-none _ _ (eight (c .before) ∙ sym (long (g .there) (g .word) (g .t3)))
+loop-holds c = let g = c .args in filled-none _ _ (eight c ∙ sym (long (g .there) (g .word) (g .t3)))
 
 mul-z : tie.Need-mul-z Inv-loop μ-loop
 mul-z c = search needs
@@ -50,20 +70,32 @@ mul-z c = search needs
 array-read-z : tie.Need-array-read-z Inv-loop μ-loop
 array-read-z c = search needs
 
-shr-x : tie.Need-shr-x Inv-loop μ-loop
-shr-x c = search needs
+shl-x : tie.Need-shl-x Inv-loop μ-loop
+shl-x c = shift-small (c .before .before .args .there)
 
-cast-x : tie.Need-cast-x Inv-loop μ-loop
-cast-x c = search needs
+set-at-requires : tie.Need-set-at-requires Inv-loop μ-loop
+set-at-requires c κs = omega arith
 
-mul-x : tie.Need-mul-x Inv-loop μ-loop
-mul-x c = record { fits = omega (arith, c .before .before .before .pre (c .before .loop .p) (omega arith)) }
+-- the number at p
+made-is : (c : tie.After-set-at Inv-loop μ-loop) → let g = at-start c .args in
+    getD (g .t3) (at-p c) 0 * 2 ^ boolByte (g .there) % 2 ^ 32 + c .set-at .result ≡ made (g .there) (g .word) (g .t3) (at-p c)
+made-is c =
+    let s = at-start c in
+    let g = s .args in
+    let p = at-p c in
+    let h : p < 8 = omega arith in
+    ap (λ (v : ℕ). getD (g .t3) p 0 * 2 ^ boolByte (g .there) % 2 ^ 32 + v) (c .set-at .ensures)
+    ∙ ap (λ (d : ℕ). getD (g .t3) p 0 * 2 ^ boolByte (g .there) % 2 ^ 32 + given (eqb d 1) (boolByte (g .there))) (digit-mod (g .word) 8 p h)
+    ∙ over (s .pre p h) (g .there) (digit (g .word) p) (digit-small (g .word) p)
 
 add-x : tie.Need-add-x Inv-loop μ-loop
-add-x c = record { fits = omega (arith, c .before .before .before .pre (c .before .loop .p) (omega arith)) }
+add-x c =
+    let s = at-start c in
+    let w = s .args .word in
+    record { fits = omega (arith, made-is c, over-small (s .pre (at-p c) (omega arith)) (s .args .there) (digit w (at-p c)) (digit-small w (at-p c))) }
 
-mul-x-2 : tie.Need-mul-x-2 Inv-loop μ-loop
-mul-x-2 c = search needs
+mul-x : tie.Need-mul-x Inv-loop μ-loop
+mul-x c = search needs
 
 array-write-x : tie.Need-array-write-x Inv-loop μ-loop
 array-write-x c = omega arith
@@ -76,15 +108,14 @@ loop-less c = search needs
 
 loop-again : tie.Need-loop-again Inv-loop μ-loop
 loop-again c =
-    let l = c .before .loop in
-    let g = c .before .before .before .args in
-    let h : l .p < 8 = omega arith in
-    filled-next 0 _ _ (l .p) _ (l .inv) (omega (arith, long (g .there) (g .word) (g .t3)))
-    (present (g .word) (g .t3) (l .p) (g .there) (c .before .before .if1 .left) ∙ sym (table-at (made (g .there) (g .word) (g .t3)) 8 (l .p) h))
+    let g = at-start c .args in
+    let F = made (g .there) (g .word) (g .t3) in
+    filled-next 0 _ _ (at-p c) _ (c .before .before .loop .inv) (omega (arith, long (g .there) (g .word) (g .t3)))
+    (made-is c ∙ sym (table-at F 8 (at-p c) (omega arith)))
 
-returns-2 : tie.Need-returns-2 Inv-loop μ-loop
-returns-2 c =
-    let g = c .before .before .before .args in filled-all _ _ (c .before .loop .p) (c .before .loop .inv) (omega (arith, long (g .there) (g .word) (g .t3)))
+returns : tie.Need-returns Inv-loop μ-loop
+returns c =
+    let g = c .before .before .args in filled-all _ _ (c .before .loop .p) (c .before .loop .inv) (omega (arith, long (g .there) (g .word) (g .t3)))
 
 pub over-level-spec : {M : Type 1} → statement M
 over-level-spec =
@@ -92,17 +123,17 @@ over-level-spec =
     (tie.spec
     Inv-loop
     μ-loop
-    returns
+    cast-w
+    cast-one
     loop-holds
     mul-z
     array-read-z
-    shr-x
-    cast-x
-    mul-x
+    shl-x
+    set-at-requires
     add-x
-    mul-x-2
+    mul-x
     array-write-x
     add-p
     loop-less
     loop-again
-    returns-2)
+    returns)
