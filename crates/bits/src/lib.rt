@@ -58,3 +58,28 @@ pub fn put_bits(bits: u64, count: usize, out: &mut [u8], from: usize)
         j += 1;
     }
 }
+
+// The lowest byte of a number.
+fn low_byte(w: u64) -> u8
+    ensures { λ b. ⌜ b ≡ w % 256 ⌝ }
+{
+    (w % 256) as u8
+}
+
+// Puts the lowest n bytes of a number over the lent ones from byte `at` on, and hands back what is above them.
+pub fn put_bytes(bits: u64, n: usize, out: &mut [u8], at: usize) -> u64
+    requires { ⌜ (n ≤ 8) × (at + n ≤ length (now out)) ⌝ }
+    ensures out { λ _. ⌜ now (out .exit) ≡ bytesOf (length (now (out .entry)))
+        (withBits (8 * at) (8 * n) (λ k. bits / 2 ^ k % 2) (messageBit (now (out .entry)))) ⌝ }
+    ensures rest { λ r. ⌜ r ≡ bits / 2 ^ (8 * n) ⌝ }
+{
+    let mut w = bits;
+    let mut i: usize = 0;
+    while i < n {
+        let p = at + i;
+        out[p] = low_byte(w);
+        w = w >> 8;
+        i += 1;
+    }
+    w
+}
