@@ -1,5 +1,5 @@
 -- `differs`: by whether the coordinates are the same. Assumes nothing.
-use mathlib.Core.Path.{_≡_, refl, sym, ap, _∙_}
+use mathlib.Core.Path.{refl, sym, ap, _∙_}
 use mathlib.Core.Bool.{Bool}
 use mir.Syntax.{w32}
 use mir.Val.{toZ, ofZ}

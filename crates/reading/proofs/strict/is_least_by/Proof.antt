@@ -1,6 +1,6 @@
 -- `is_least_by`: the copy is the frame, then its least member. Assumes nothing.
 use Prim.Native.Nat.{_/_, _^_}
-use mathlib.Core.Path.{_≡_, sym, ap, ap₂, subst, _∙_}
+use mathlib.Core.Path.{sym, ap, subst, _∙_}
 use mathlib.Core.List.{List}
 use native.Mathlib.Omega.{arith}
 use lib.IntN.{ℤ}

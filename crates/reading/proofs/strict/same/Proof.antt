@@ -1,9 +1,8 @@
 -- `same`: the coordinates below i are compared. Assumes nothing.
 use Prim.Native.Nat.{_-_, _≤_}
-use mathlib.Core.Path.{_≡_, refl, sym, ap, ap₂, _∙_}
+use mathlib.Core.Path.{_≡_, refl, sym, ap₂, _∙_}
 use native.Mathlib.Omega.{arith}
 use lib.IntN.{ℤ}
-use lib.ListN.{length}
 use mir.Syntax.{w32}
 use mir.Val.{toZ, ofZ}
 use borrow.Author.Needs.{needs}
@@ -54,14 +53,14 @@ loop-again c =
     let y : toZ w32 (ofZ w32 (at (a .b .now) (l .i))) ≡ at (a .b .now) (l .i) = tz refl (record { sfits = c .before .y .given }) in
     let e = c .differs .ensures ∙ ap₂ (λ (x y : ℤ). pick (sameNumber x y) 0 1) x y in (
       omega arith,
-      same-more (a .a .now) (a .b .now) (l .d) (c .differs .result) (l .i) (t .loop-test .taken) (omega (arith, t .before .before .pre)) e ∙ l .inv .1,
+      same-more (a .a .now) (a .b .now) (l .d) (c .differs .result) (l .i) (omega arith) (omega (arith, t .before .before .pre)) e ∙ l .inv .1,
     )
 
 returns : tie.Need-returns Inv-loop μ-loop
 returns c =
     let l = c .before .loop in
     let s = c .before .before in
-    sym (same-all (s .args .a .now) (s .args .b .now) (l .d) (l .i) (c .loop-test .left) (omega (arith, s .pre, c .loop-test .left))) ∙ l .inv .1
+    sym (same-all (s .args .a .now) (s .args .b .now) (l .d) (l .i) (omega arith) (omega (arith, s .pre))) ∙ l .inv .1
 
 pub same-spec : {M : Type 1} → statement M
 same-spec =
