@@ -87,16 +87,18 @@ module _ {k : ℕ} {ds : List ℕ} (counted : Counted k ds) where
       carried-more c (held-bits k 0 (degrees k) words) (getD ds i 0) x n over₂
       (level-number words i x e ∙ ap (λ (from : ℕ). number (getD ds i 0) (λ t. entry (levelRow k words) (from + t))) here) split room
 
--- what the levels of a kind leave
+-- what the levels of a kind leave: their whole bytes, and the bits above them
+abbrev LevelsLeft : ℕ → List ℕ → List ℕ → ℕ → List ℕ → Type 0
+LevelsLeft k words before rest out =
+    (out ≡ written (levelBits k / 8) (levelRow k words) before)
+    × (rest ≡ number (levelBits k % 8) (λ t. entry (levelRow k words) (8 * (levelBits k / 8) + t)))
+
 pub levels-left : (words : List ℕ) {k at over : ℕ} {before out : List ℕ} {rest : ℕ} → levelBits k ≡ 8 * at + over → over < 8
-    → Carried (levelRow k words) before at over rest out → (kind : ℕ) → kind ≡ k
-    → (out ≡ written (levelBits kind / 8) (levelRow kind words) before)
-    × (rest ≡ number (levelBits kind % 8) (λ t. getD (levelRow kind words) (8 * (levelBits kind / 8) + t) 0))
+    → Carried (levelRow k words) before at over rest out → (kind : ℕ) → kind ≡ k → LevelsLeft kind words before rest out
 levels-left words {k} {at} {over} {before} {out} {rest} long low c kind e =
-    subst (λ (k : ℕ). (out ≡ written (levelBits k / 8) (levelRow k words) before)
-    × (rest ≡ number (levelBits k % 8) (λ t. getD (levelRow k words) (8 * (levelBits k / 8) + t) 0))) (sym e) (
+    subst (λ (k : ℕ). LevelsLeft k words before rest out) (sym e) (
       c .bytes ∙ ap (λ (n : ℕ). written n (levelRow k words) before) bytes,
-      c .held ∙ ap₂ (λ (n m : ℕ). number m (λ t. getD (levelRow k words) (8 * n + t) 0)) bytes bits,
+      c .held ∙ ap₂ (λ (n m : ℕ). number m (λ t. entry (levelRow k words) (8 * n + t))) bytes bits,
     )
   where
     bytes : at ≡ levelBits k / 8

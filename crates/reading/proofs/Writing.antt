@@ -136,7 +136,8 @@ module _ {row before out : List ℕ} {at over rest : ℕ} (c : Carried row befor
   pub carried-more : (out₂ : List ℕ) (rest₂ : ℕ) → out₂ ≡ bytesOf (length out) (withBits (8 * at) (8 * n) (digit v) (messageBit out)) → rest₂ ≡ v / 2 ^ (8 * n)
       → Carried row before (at + n) over₂ rest₂ out₂
   carried-more out₂ rest₂ put left = record {
-    bytes = put ∙ written-more row before out small at n v (c .bytes) (λ t l. digit-of {n = 8 * n + over₂} {f = f} both (λ t u. small (8 * at + t)) t (omega arith));
+    bytes = put ∙ written-more row before out small at n v (c .bytes)
+        (λ t l. digit-of {n = 8 * n + over₂} {f = f} both (λ t u. small (8 * at + t)) t (omega arith));
     held = left ∙ ap (λ (y : ℕ). y / 2 ^ (8 * n)) both ∙ above f (8 * n) over₂ (λ t. small (8 * at + t))
         ∙ number-ext over₂ (λ t l. let e : 8 * at + (8 * n + t) ≡ 8 * (at + n) + t = omega arith in ap (entry row) e);
   }

@@ -1,8 +1,8 @@
 -- `write_levels`: in each arm the kind is known, and with it how many bits each level has. Assumes nothing.
-use Prim.Native.Nat.{_≤_}
+use Prim.Native.Nat.{ℕ, _≤_, _<_}
 use mathlib.Core.Path.{_≡_, refl, ap}
 use native.Mathlib.Omega.{arith}
-use lib.ListN.{length}
+use lib.ListN.{length, getD}
 use borrow.Author.Needs.{needs}
 use Rattle.frames.specs.Kind.{levelBits}
 use Rattle.frames.proofs.Limits.{kind-low, kind-high}
@@ -104,6 +104,9 @@ module _ (c : tie.Else3) where
       let k = s .args .kind in
       omega (arith, kind-low k (s .pre .0), kind-high k (s .pre .0), c .before .before .if1 .left, c .before .if2 .left, c .if3 .left)
 
+  bytes : (j : ℕ) → getD (s .args .out .now) j 0 < 256
+  bytes j = known .slice-known .given j .fits
+
   room : 14 ≤ length (s .args .out .now)
   room = omega (arith, ap levelBits six, level-total counts-6, s .pre .1)
 
@@ -114,7 +117,7 @@ two c =
     let h = c .before .before in
     let g = h .before in
     let a = s (g .before) .args in
-    let first = first-level counts-6 (a .t2) (a .out .now) (λ j. known (g .before) .slice-known .given j .fits) (g .message-held6 .result) (g .message-held6 .ensures) in
+    let first = first-level counts-6 (a .t2) (a .out .now) (bytes (g .before)) (g .message-held6 .result) (g .message-held6 .ensures) in
     next-level counts-6 (a .t2) first 1 refl (h .message-held7 .result) (h .message-held7 .ensures) 6 1 refl (omega arith) _ (c .put-bytes3 .result)
     (c .put-bytes3 .ensures .0) (c .put-bytes3 .ensures .1)
 

@@ -80,8 +80,9 @@ module _ (c : tie.At-loop Inv-loop μ-loop) where
   of-levels : Carried (levelRow k (s .args .words)) (s .args .out .now) (counted .level-bits .result / 8) over
       (wrote .write-levels .result) (wrote .write-levels .last .1 .1 .0)
   of-levels =
-      subst (λ (n : ℕ). Carried (levelRow k (s .args .words)) (s .args .out .now) (n / 8) (n % 8) (wrote .write-levels .result) (wrote .write-levels .last .1 .1 .0))
-      (sym (counted .level-bits .ensures)) (record { bytes = wrote .write-levels .ensures .0; held = wrote .write-levels .ensures .1 })
+      let w = wrote .write-levels in
+      subst (λ (n : ℕ). Carried (levelRow k (s .args .words)) (s .args .out .now) (n / 8) (n % 8) (w .result) (w .last .1 .1 .0))
+      (sym (counted .level-bits .ensures)) (record { bytes = w .ensures .0; held = w .ensures .1 })
 
   so-far : Carried (heldBits k b f (s .args .words)) (s .args .out .now) (c .loop .at) over (c .loop .rest) (c .loop .out)
   so-far = c .loop .inv .2 (s .args .words) (s .args .out .now) of-levels
@@ -219,7 +220,8 @@ loop-again c =
       λ words before h.
           carried-more (e .loop .inv .2 words before h) (row-bits (k e) (b e) (s e .pre .0) (low e) (f e) (s e .pre .2) words)
           (8 * b e) (p .packed .result) (b e) (over e)
-          (block-number (k e) (b e) (s e .pre .0) (low e) (f e) (s e .pre .2) words (j e) (8 * e .loop .at + over e) (p .packed .result) (inside d) (place e) (bits p))
+          (block-number (k e) (b e) (s e .pre .0) (low e) (f e) (s e .pre .2) words (j e) (8 * e .loop .at + over e) (p .packed .result)
+          (inside d) (place e) (bits p))
           (omega arith) (omega (arith, high e)) _ (w .put-bytes .result) (w .put-bytes .ensures .0) (w .put-bytes .ensures .1),
     )
 
