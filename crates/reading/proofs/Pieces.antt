@@ -1,115 +1,154 @@
--- The message of a frame, piece by piece: what a level and what a block write, the room that they take, and the whole. Assumes nothing.
-use Prim.Native.Nat.{ℕ, _+_, _*_, _-_, _^_, _≤_, _<_}
-use mathlib.Core.Path.{_≡_, sym, ap, _∙_}
+-- The pieces of a frame's message, each as the number that the code holds it in, and where it stands in the message. Assumes nothing.
+use Prim.Native.Nat.{ℕ, _+_, _*_, _/_, _%_, _^_, _≤_, _<_}
+use mathlib.Core.Path.{_≡_, refl, sym, ap, ap₂, subst, _∙_}
 use mathlib.Core.Bool.{true}
-use mathlib.Core.List.{List}
-use native.Mathlib.Nat.{mul-le-mul-left}
+use mathlib.Core.List.{List, [], _∷_}
 use native.Mathlib.Omega.{arith}
+use lib.Bits.{bitXor}
+use lib.Count.{ones}
 use lib.IntN.{ℤ}
-use lib.Pow.{pow-pos}
-use lib.ListN.{length, take, getD, set, length-set, length-append}
-use lib.Seq.{ext-getD, take-all}
+use lib.ListN.{length, take, getD, length-append, List·getD-append}
+use lib.Seq.{getD-append-add}
 use Rattle.bits.specs.Number.{table, number}
 use Rattle.bits.specs.Message.{messageBit, bytesOf, withBits}
-use Rattle.bits.proofs.Table.{length-table, table-at}
-use Rattle.bits.proofs.Message.{digit-of}
+use Rattle.bits.proofs.Message.{number-ext}
 use Rattle.bits.proofs.Digits.{digit}
-use Rattle.reed_muller.specs.Level.{dimension}
-use Rattle.e8.specs.Lattice.{part}
-use Rattle.e8.specs.Rows.{reduced}
-use Rattle.frames.specs.Kind.{isKind, degrees, levels, blocks, dimensions, levelBits, messageBits, messageBytes}
-use Rattle.frames.specs.Message.{widths}
-use Rattle.frames.specs.Reading.{quotients, allDigits, blockMessages}
+use Rattle.reed_muller.specs.Level.{order, dimension, masks, ofWeight}
+use Rattle.frames.specs.Kind.{kinds, isKind, degrees, levels, blocks, levelBits, messageBits, messageBytes}
+use Rattle.frames.specs.Reading.{quotients, blockMessages}
 use Rattle.frames.proofs.Frame.{quotients-length}
-use Rattle.frames.proofs.Lengths.{dimensions-more, block-bits, blocks-length}
+use Rattle.frames.proofs.Numbers.{total}
+use Rattle.frames.proofs.Lengths.{blocks-length}
 use Rattle.frames.proofs.Limits.{whole-blocks}
 use Rattle.reading.specs.Words.{heldMessages, heldBits, heldMessage}
 use Rattle.reading.specs.Written.{written}
-use Rattle.reading.proofs.Writing.{Bits, put-is, written-more, cleared, written-whole}
-use Rattle.reading.proofs.Rows.{heldLevel, held-more, held-length, held-bits, blocks-more, all-bits, blocks-bits}
+use Rattle.reading.proofs.Writing.{Bits, entry, Carried, carried-first, carried-more, written-all}
+use Rattle.reading.proofs.Rows.{counts, counts-total, held-at, held-length, held-bits, blockRow, blocks-at, blocks-bits, bits-append}
 
 -- ---- levels
 
-module _ (k i : ℕ) (h : i < levels k) where
-  -- where the next level begins
-  pub level-end : dimensions k (take (i + 1) (degrees k)) ≡ dimensions k (take i (degrees k)) + dimension (getD (degrees k) i 0) k
-  unfolding levels
-  level-end = dimensions-more k (degrees k) i h
+-- the levels of kind k have as many message bits as ds says
+pub record Counted (k : ℕ) (ds : List ℕ) : Type 0 where
+  pub are : counts k (degrees k) ≡ ds
 
-  -- one level more
-  pub level-more : (words : List ℕ) (at : ℕ) (out : List ℕ) → at ≡ dimensions k (take i (degrees k))
-      → written at (heldLevel k i (getD (degrees k) i 0) words) (written 0 (heldMessages k 0 (take i (degrees k)) words) out)
-      ≡ written 0 (heldMessages k 0 (take (i + 1) (degrees k)) words) out
-  unfolding levels
-  level-more words at out e =
-      written-more 0 at (heldMessages k 0 (take i (degrees k)) words) (heldLevel k i (getD (degrees k) i 0) words) out
-      (e ∙ sym (held-length k 0 (take i (degrees k)) words) ∙ omega arith) (held-bits k 0 (take i (degrees k)) words)
-      ∙ ap (λ (row : List ℕ). written 0 row out) (sym (held-more k (degrees k) words i h))
+pub counts-3 : Counted 3 (4 ∷ [])
+unfolding degrees kinds dimension masks ofWeight table ones
+counts-3 = record { are = refl }
 
-pub levels-all : (k i : ℕ) (words : List ℕ) → levels k ≤ i → heldMessages k 0 (take i (degrees k)) words ≡ heldMessages k 0 (degrees k) words
-unfolding levels
-levels-all k i words h = ap (λ (rs : List ℕ). heldMessages k 0 rs words) (take-all i (degrees k) h)
+pub counts-4 : Counted 4 (5 ∷ 15 ∷ [])
+unfolding degrees kinds dimension masks ofWeight table ones
+counts-4 = record { are = refl }
 
--- ---- blocks
+pub counts-5 : Counted 5 (6 ∷ 26 ∷ [])
+unfolding degrees kinds dimension masks ofWeight table ones
+counts-5 = record { are = refl }
 
--- the digits of a number as a row
-row-of-digits : (n x : ℕ) (row : List ℕ) → length row ≡ n → Bits row → x ≡ number n (λ t. getD row t 0) → table n (digit x) ≡ row
-row-of-digits n x row long small e =
-    ext-getD 0 (table n (digit x)) row (length-table (digit x) n ∙ sym long) (λ t l.
-    let k : t < n = omega (arith, length-table (digit x) n, l) in
-    table-at (digit x) n t k ∙ digit-of {f = λ t. getD row t 0} e (λ t u. small t) t k)
+pub counts-6 : Counted 6 (7 ∷ 42 ∷ 63 ∷ [])
+unfolding degrees kinds dimension masks ofWeight table ones
+counts-6 = record { are = refl }
 
-module _ (b j : ℕ) (v : List ℤ) (grade : 1 ≤ b) (room : 8 * j + 8 ≤ length v) where
-  -- the bits of block j
-  abbrev pub blockRow : List ℕ
-  blockRow = allDigits (widths b) (reduced (2 ^ (b - 1)) (part j v))
+-- the message bits of all levels
+abbrev pub levelRow : ℕ → List ℕ → List ℕ
+levelRow k words = heldMessages k 0 (degrees k) words
 
-  -- put as one packed number
-  pub block-written : (bits from : ℕ) (out : List ℕ) → bits ≡ number (8 * b) (λ t. getD blockRow t 0)
-      → bytesOf (length out) (withBits from (8 * b) (digit bits) (messageBit out)) ≡ written from blockRow out
-  block-written bits from out is =
-      put-is from (8 * b) (digit bits) out
-      ∙ ap (λ (row : List ℕ). written from row out)
-      (row-of-digits (8 * b) bits blockRow (block-bits b j v grade room) (all-bits (widths b) (reduced (2 ^ (b - 1)) (part j v))) is)
+pub level-row-length : (k : ℕ) (words : List ℕ) → length (levelRow k words) ≡ levelBits k
+unfolding levelBits
+level-row-length k words = held-length k 0 (degrees k) words
 
-  -- one block more
-  pub block-more : (start at : ℕ) (out : List ℕ) → at ≡ start + 8 * b * j
-      → written at blockRow (written start (blockMessages b j v) out) ≡ written start (blockMessages b (j + 1) v) out
-  block-more start at out e =
-      written-more start at (blockMessages b j v) blockRow out
-      (e ∙ ap (λ (n : ℕ). start + n) (sym (blocks-length b j v grade (omega arith)))) (blocks-bits b j v)
-      ∙ ap (λ (row : List ℕ). written start row out) (sym (blocks-more b j v))
+module _ {k : ℕ} {ds : List ℕ} (counted : Counted k ds) where
+  pub level-total : levelBits k ≡ total ds
+  unfolding levelBits
+  level-total = counts-total k (degrees k) ∙ ap total (counted .are)
 
--- ---- the whole message
+  -- level i
+  pub level-number : (words : List ℕ) (i x : ℕ) → x ≡ number (getD ds i 0) (λ t. digit (getD words i 0) (getD (order k) t 0))
+      → x ≡ number (getD ds i 0) (λ t. entry (levelRow k words) (total (take i ds) + t))
+  level-number words i x e = e ∙ number-ext (getD ds i 0) (λ t l. sym (
+      ap (λ (xs : List ℕ). entry (levelRow k words) (total (take i xs) + t)) (sym (counted .are))
+      ∙ held-at k 0 (degrees k) words i t (subst (λ (xs : List ℕ). t < getD xs i 0) (sym (counted .are)) l)
+      ∙ (let z : 0 + i ≡ i = omega arith in ap (λ (n : ℕ). digit (getD words n 0) (getD (order k) t 0)) z)))
 
-module _ (k b : ℕ) (kind : isKind k ≡ true) (grade : 1 ≤ b) where
-  -- one byte at least
-  pub some-byte : 1 ≤ messageBytes k b
-  unfolding messageBytes messageBits
-  some-byte = omega (arith, mul-le-mul-left (2 ^ k) grade, pow-pos k)
+  -- level 0, carried before a byte is written
+  pub first-level : (words before : List ℕ) → ((j : ℕ) → getD before j 0 < 256)
+      → (x : ℕ) → x ≡ number (getD ds 0 0) (λ t. digit (getD words 0 0) (getD (order k) t 0))
+      → Carried (levelRow k words) before 0 (getD ds 0 0) x before
+  first-level words before each x e = carried-first (levelRow k words) before (getD ds 0 0) x each (level-number words 0 x e)
 
-  module _ (f : List ℤ) (l : length f ≡ 2 ^ k) (words : List ℕ) where
-    -- the bits are as many as a message has
-    all-length : length (heldBits k b f words) ≡ messageBits k b
-    unfolding heldBits messageBits levelBits
-    all-length =
-        length-append (heldMessages k 0 (degrees k) words) (blockMessages b (blocks k) (quotients (levels k) f))
-        ∙ omega (
-          arith,
-          held-length k 0 (degrees k) words,
-          blocks-length b (blocks k) (quotients (levels k) f) grade (omega (arith, quotients-length (levels k) f, l, whole-blocks k kind)),
-          ap (λ (n : ℕ). n * b) (whole-blocks k kind),
-        )
+  -- level i, above the bits of those before it
+  pub next-level : (words : List ℕ) {before out : List ℕ} {at over rest : ℕ} → Carried (levelRow k words) before at over rest out
+      → (i : ℕ) → total (take i ds) ≡ 8 * at + over
+      → (x : ℕ) → x ≡ number (getD ds i 0) (λ t. digit (getD words i 0) (getD (order k) t 0))
+      → (n over₂ : ℕ) → over + getD ds i 0 ≡ 8 * n + over₂ → over + getD ds i 0 ≤ 64
+      → (out₂ : List ℕ) (rest₂ : ℕ)
+      → let v = bitXor rest (x * 2 ^ over % 2 ^ 64) in
+      out₂ ≡ bytesOf (length out) (withBits (8 * at) (8 * n) (digit v) (messageBit out)) → rest₂ ≡ v / 2 ^ (8 * n)
+      → Carried (levelRow k words) before (at + n) over₂ rest₂ out₂
+  next-level words c i here x e n over₂ split room =
+      carried-more c (held-bits k 0 (degrees k) words) (getD ds i 0) x n over₂
+      (level-number words i x e ∙ ap (λ (from : ℕ). number (getD ds i 0) (λ t. entry (levelRow k words) (from + t))) here) split room
 
-    -- the levels, then the blocks, into bytes of which the last is 0
-    pub message-written : (out : List ℕ) → length out ≡ messageBytes k b
-        → written (levelBits k) (blockMessages b (blocks k) (quotients (levels k) f))
-        (written 0 (heldMessages k 0 (degrees k) words) (set out (length out - 1) 0)) ≡ heldMessage k b f words
-    unfolding heldMessage heldBits messageBytes levelBits
-    message-written out e =
-        written-more 0 (levelBits k) (heldMessages k 0 (degrees k) words) (blockMessages b (blocks k) (quotients (levels k) f))
-        (set out (length out - 1) 0) (sym (held-length k 0 (degrees k) words) ∙ omega arith) (held-bits k 0 (degrees k) words)
-        ∙ written-whole (heldBits k b f words) (set out (length out - 1) 0)
-        (λ i h u. cleared out (length out - 1) i (omega (arith, e, some-byte))
-        (omega (arith, e, some-byte, all-length, length-set out (length out - 1) 0)))
-        ∙ ap (λ (m : ℕ). bytesOf m (λ i. getD (heldBits k b f words) i 0)) (length-set out (length out - 1) 0 ∙ e)
+-- what the levels of a kind leave: their whole bytes, and the bits above them
+abbrev LevelsLeft : ℕ → List ℕ → List ℕ → ℕ → List ℕ → Type 0
+LevelsLeft k words before rest out =
+    (out ≡ written (levelBits k / 8) (levelRow k words) before)
+    × (rest ≡ number (levelBits k % 8) (λ t. entry (levelRow k words) (8 * (levelBits k / 8) + t)))
+
+pub levels-left : (words : List ℕ) {k at over : ℕ} {before out : List ℕ} {rest : ℕ} → levelBits k ≡ 8 * at + over → over < 8
+    → Carried (levelRow k words) before at over rest out → (kind : ℕ) → kind ≡ k → LevelsLeft kind words before rest out
+levels-left words {k} {at} {over} {before} {out} {rest} long low c kind e =
+    subst (λ (k : ℕ). LevelsLeft k words before rest out) (sym e) (
+      c .bytes ∙ ap (λ (n : ℕ). written n (levelRow k words) before) bytes,
+      c .held ∙ ap₂ (λ (n m : ℕ). number m (λ t. entry (levelRow k words) (8 * n + t))) bytes bits,
+    )
+  where
+    bytes : at ≡ levelBits k / 8
+    bytes = omega (arith, long)
+
+    bits : over ≡ levelBits k % 8
+    bits = omega (arith, long)
+
+-- ---- levels and blocks
+
+module _ (k b : ℕ) (kind : isKind k ≡ true) (grade : 1 ≤ b) (f : List ℤ) (l : length f ≡ 2 ^ k) (words : List ℕ) where
+  abbrev v : List ℤ
+  v = quotients (levels k) f
+
+  v-long : 8 * blocks k ≤ length v
+  v-long = omega (arith, quotients-length (levels k) f, l, whole-blocks k kind)
+
+  abbrev row : List ℕ
+  row = heldBits k b f words
+
+  pub row-bits : Bits row
+  unfolding heldBits
+  row-bits = bits-append (levelRow k words) (blockMessages b (blocks k) v) (held-bits k 0 (degrees k) words) (blocks-bits b (blocks k) v)
+
+  -- where the last block ends
+  pub blocks-end : levelBits k + 8 * b * blocks k ≡ messageBits k b
+  unfolding messageBits
+  blocks-end = omega (arith, ap (λ (n : ℕ). n * b) (whole-blocks k kind))
+
+  pub row-long : length row ≡ messageBits k b
+  unfolding heldBits
+  row-long =
+      length-append (levelRow k words) (blockMessages b (blocks k) v)
+      ∙ omega (arith, level-row-length k words, blocks-length b (blocks k) v grade v-long, blocks-end)
+
+  -- first the bits of the levels
+  pub levels-in : (i : ℕ) → i < levelBits k → entry (levelRow k words) i ≡ entry row i
+  unfolding heldBits
+  levels-in i h = sym (List·getD-append (levelRow k words) (blockMessages b (blocks k) v) 0 i (omega (arith, level-row-length k words)))
+
+  -- then block j, behind those before it
+  pub block-number : (j from x : ℕ) → j < blocks k → from ≡ levelBits k + 8 * b * j → x ≡ number (8 * b) (λ t. entry (blockRow b j v) t)
+      → x ≡ number (8 * b) (λ t. entry row (from + t))
+  unfolding heldBits
+  block-number j from x h e is = is ∙ number-ext (8 * b) (λ t u. sym (
+      (let q : from + t ≡ length (levelRow k words) + (8 * b * j + t) = omega (arith, e, level-row-length k words) in ap (entry row) q)
+      ∙ getD-append-add (levelRow k words) (blockMessages b (blocks k) v) (8 * b * j + t) 0
+      ∙ blocks-at b (blocks k) j t v grade v-long h u))
+
+  -- as many bytes as hold the bits are the message
+  pub all-bytes : (n : ℕ) (before : List ℕ) → length before ≡ messageBytes k b → messageBits k b ≤ 8 * n → written n row before ≡ heldMessage k b f words
+  unfolding heldMessage messageBytes
+  all-bytes n before e h = written-all n row before (omega (arith, e)) ∙ ap (λ (m : ℕ). bytesOf m (entry row)) e

@@ -1,91 +1,59 @@
--- Frames compared coordinate by coordinate and block by block. Assumes nothing.
-use Prim.Native.Nat.{ℕ, suc, _+_, _*_, _-_, _≤_, _<_}
+-- Frames compared coordinate by coordinate, without an early end. Assumes nothing.
+use Prim.Native.Nat.{ℕ, zero, suc, _+_, _≤_, _<_}
 use mathlib.Core.Path.{_≡_, refl, sym, ap, ap₂, _∙_}
-use mathlib.Core.Bool.{Bool, true, false, _&&_, and-assoc}
-use mathlib.Core.List.{List, [], _∷_, _++_}
+use mathlib.Core.Bool.{Bool, true, false, _&&_, and-assoc, and-true}
+use mathlib.Core.List.{List}
 use native.Mathlib.Numerals.{add-one}
 use native.Mathlib.Omega.{arith}
-use lib.ListN.{length, take, drop, drop-of-length-le, take-append-drop}
-use lib.Seq.{drop-cons, drop-drop}
+use lib.Bits.{bitOr, or-zero-l, or-add-and, and-le-r}
+use lib.Dec.{eqb}
+use lib.ListN.{length, drop, drop-of-length-le}
+use lib.Seq.{drop-cons}
 use lib.IntN.{ℤ, pos, negsuc}
 use borrow.Author.Tests.{ne-eqb}
-use Rattle.e8.specs.Lattice.{part}
-use Rattle.e8.specs.Least.{leastBlock, leastFrame}
-use Rattle.e8.proofs.Frame.{block-size}
+use Rattle.bits.specs.Number.{pick}
 use Rattle.frames.specs.Reading.{sameNumber, sameFrame}
-use Rattle.frames.proofs.Frame.{at, part-length}
+use Rattle.frames.proofs.Frame.{at}
 use Rattle.frames.proofs.Refusals.{number-same}
 
--- ---- coordinates
+-- ---- two coordinates
 
-same-yes : (x y : ℤ) → x ≡ y → sameNumber x y ≡ true
+pub same-yes : (x y : ℤ) → x ≡ y → sameNumber x y ≡ true
 same-yes x y e = ap (sameNumber x) (sym e) ∙ number-same x
 
-same-no : (x y : ℤ) → (x ≡ y → ⊥) → sameNumber x y ≡ false
+pub same-no : (x y : ℤ) → (x ≡ y → ⊥) → sameNumber x y ≡ false
 same-no (pos a) (pos b) n = ne-eqb a b (λ e. n (ap pos e))
 same-no (pos a) (negsuc b) n = refl
 same-no (negsuc a) (pos b) n = refl
 same-no (negsuc a) (negsuc b) n = ne-eqb a b (λ e. n (ap negsuc e))
 
-module _ (x y : List ℤ) (i : ℕ) (hx : i < length x) (hy : i < length y) where
-  next : sameFrame (drop i x) (drop i y) ≡ (sameNumber (at x i) (at y i) && sameFrame (drop (i + 1) x) (drop (i + 1) y))
-  unfolding sameFrame
-  next = rw (add-one, drop-cons x i (pos 0) hx, drop-cons y i (pos 0) hy)
+-- ---- the differences gathered in one number, which stays 0 while there is none
 
-  pub differ-here : (at x i ≡ at y i → ⊥) → sameFrame (drop i x) (drop i y) ≡ false
-  differ-here n = next ∙ rw (same-no (at x i) (at y i) n)
+none-in-either : (d e : ℕ) → eqb (bitOr d e) 0 ≡ (eqb d 0 && eqb e 0)
+none-in-either zero e = ap (λ (x : ℕ). eqb x 0) (or-zero-l e)
+none-in-either (suc d) e =
+    ne-eqb (bitOr (suc d) e) 0 (λ z. omega (arith, or-add-and (suc d) e, and-le-r (suc d) e, z))
+    ∙ sym (ap (λ (t : Bool). t && eqb e 0) (ne-eqb (suc d) 0 (λ z. omega (arith, z))))
 
-  pub agree-here : at x i ≡ at y i → sameFrame (drop i x) (drop i y) ≡ sameFrame (drop (i + 1) x) (drop (i + 1) y)
-  agree-here e = next ∙ rw (same-yes (at x i) (at y i) e)
+none-is-same : (t : Bool) → eqb (pick t 0 1) 0 ≡ t
+none-is-same true = refl
+none-is-same false = refl
 
-pub agree-all : (x y : List ℤ) (i : ℕ) → length x ≤ i → length y ≤ i → sameFrame (drop i x) (drop i y) ≡ true
+-- no difference among the coordinates passed, and the frames are the same from i on
+abbrev pub sameFrom : ℕ → ℕ → List ℤ → List ℤ → Bool
+sameFrom d i x y = eqb d 0 && sameFrame (drop i x) (drop i y)
+
+-- one coordinate more
+pub same-more : (x y : List ℤ) (d e i : ℕ) → i < length x → i < length y → e ≡ pick (sameNumber (at x i) (at y i)) 0 1
+    → sameFrom (bitOr d e) (i + 1) x y ≡ sameFrom d i x y
 unfolding sameFrame
-agree-all x y i hx hy = ap₂ sameFrame (drop-of-length-le x hx) (drop-of-length-le y hy)
+same-more x y d e i hx hy is =
+    ap (λ (t : Bool). t && sameFrame (drop (i + 1) x) (drop (i + 1) y))
+    (none-in-either d e ∙ ap (λ (t : Bool). eqb d 0 && t) (ap (λ (n : ℕ). eqb n 0) is ∙ none-is-same (sameNumber (at x i) (at y i))))
+    ∙ and-assoc (eqb d 0) (sameNumber (at x i) (at y i)) (sameFrame (drop (i + 1) x) (drop (i + 1) y))
+    ∙ rw (add-one, drop-cons x i (pos 0) hx, drop-cons y i (pos 0) hy)
 
--- ---- blocks
-
-same-append : (x y u v : List ℤ) → length x ≡ length y → sameFrame (x ++ u) (y ++ v) ≡ (sameFrame x y && sameFrame u v)
+-- all of them
+pub same-all : (x y : List ℤ) (d i : ℕ) → length x ≤ i → length y ≤ i → sameFrom d i x y ≡ eqb d 0
 unfolding sameFrame
-same-append [] [] u v l = refl
-same-append [] (b ∷ y) u v l = absurd (omega arith)
-same-append (a ∷ x) [] u v l = absurd (omega arith)
-same-append (a ∷ x) (b ∷ y) u v l = rw (same-append x y u v (omega arith)) (sym (and-assoc (sameNumber a b) (sameFrame x y) (sameFrame u v)))
-
--- whether the blocks from block j on are least in their classes
-abbrev pub leastFrom : ℕ → ℕ → ℕ → List ℤ → Bool
-leastFrom H n j f = sameFrame (drop (8 * j) f) (leastFrame H (n - j) (drop (8 * j) f))
-
-module _ (H : ℕ) (pos-H : 0 < H) (n j : ℕ) (f : List ℤ) (long : length f ≡ 8 * n) (h : j < n) where
-  g : List ℤ
-  g = drop (8 * j) f
-
-  part-8 : length (part j f) ≡ 8
-  part-8 = part-length f n j long h
-
-  -- one block, and those after it
-  step : leastFrom H n j f ≡ (sameFrame (part j f) (leastBlock H (part j f)) && leastFrom H n (j + 1) f)
-  unfolding leastFrame g
-  step =
-      let e : n - j ≡ suc (n - (j + 1)) = omega arith in
-      let d : 8 * j + 8 ≡ 8 * (j + 1) = omega arith in
-      let after : drop 8 g ≡ drop (8 * (j + 1)) f = drop-drop 8 (8 * j) f ∙ ap (λ (m : ℕ). drop m f) d in
-      ap (λ (m : ℕ). sameFrame g (leastFrame H m g)) e
-      ∙ ap (λ (w : List ℤ). sameFrame w (leastBlock H (take 8 g) ++ leastFrame H (n - (j + 1)) (drop 8 g))) (sym (take-append-drop 8 g))
-      ∙ same-append (take 8 g) (leastBlock H (take 8 g)) (drop 8 g) (leastFrame H (n - (j + 1)) (drop 8 g))
-      (part-8 ∙ sym (block-size H pos-H (part j f) part-8))
-      ∙ ap (λ (w : List ℤ). (sameFrame (part j f) (leastBlock H (part j f)) && sameFrame w (leastFrame H (n - (j + 1)) w))) after
-
-  pub not-least : sameFrame (part j f) (leastBlock H (part j f)) ≡ false → leastFrom H n j f ≡ false
-  not-least e = step ∙ rw e
-
-  pub least-here : sameFrame (part j f) (leastBlock H (part j f)) ≡ true → leastFrom H n j f ≡ leastFrom H n (j + 1) f
-  least-here e = step ∙ rw e
-
-pub least-first : (H n : ℕ) (f : List ℤ) → sameFrame f (leastFrame H n f) ≡ leastFrom H n 0 f
-least-first H n f = let e : n ≡ n - 0 = omega arith in ap (λ (m : ℕ). sameFrame f (leastFrame H m f)) e
-
-pub least-all : (H n j : ℕ) (f : List ℤ) → length f ≡ 8 * n → n ≤ j → leastFrom H n j f ≡ true
-unfolding leastFrame sameFrame
-least-all H n j f l h =
-    let e : n - j ≡ 0 = omega arith in
-    rw (e, drop-of-length-le f {i = 8 * j} (omega arith))
+same-all x y d i hx hy = ap (λ (t : Bool). eqb d 0 && t) (ap₂ sameFrame (drop-of-length-le x hx) (drop-of-length-le y hy)) ∙ and-true (eqb d 0)

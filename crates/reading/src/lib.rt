@@ -7,9 +7,7 @@ mod strict;
 use message::write_message;
 use refusal::tests;
 ghost use mathlib.Core.Path.{_≡_};
-ghost use Prim.Native.Nat.{_%_, _^_, _≤_};
 ghost use lib.ListN.{length};
-ghost use Rattle.e8.specs.Energy.{energy as energyOf, Within};
 ghost use Rattle.frames.specs.Reading.{openRefusal, strictRefusal, messageAfter, energyRead};
 ghost use Rattle.reading.specs.Numbers.{refusalOf};
 
@@ -17,23 +15,6 @@ ghost use Rattle.reading.specs.Numbers.{refusalOf};
 pub struct Reading {
     pub number: u8,
     pub energy: u64,
-}
-
-// The energy of a frame, block by block.
-fn frame_energy(frame: &[i32]) -> u64
-    requires { ⌜ (length (now frame) % 8 ≡ 0) × (length (now frame) ≤ 1024) × Within (2 ^ 24) (now frame) ⌝ }
-    ensures { λ r. ⌜ r ≡ energyOf (now (frame .entry)) ⌝ }
-{
-    let n = frame.len() / 8;
-    let mut energy: u64 = 0;
-    let mut j: usize = 0;
-    while j < n {
-        let s = 8 * j;
-        let e = s + 8;
-        energy += coordinates::energy(&frame[s..e]);
-        j += 1;
-    }
-    energy
 }
 
 // A reading; a strict one, where `strict` is set, takes the sent frame alone. A refusal writes nothing.
@@ -47,7 +28,7 @@ fn read(strict: bool, kind: u8, grade: u8, frame: &[i32], message: &mut [u8]) ->
     if number != 0 {
         return Reading { number, energy: 0 };
     }
-    let energy = frame_energy(frame);
+    let energy = coordinates::energy(frame);
     let words = t.words;
     write_message(kind, grade, frame, words, message);
     Reading { number, energy }

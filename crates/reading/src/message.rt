@@ -2,7 +2,7 @@
 ghost use mathlib.Core.Path.{_≡_};
 ghost use mathlib.Core.Bool.{true};
 ghost use mathlib.Core.List.{map};
-ghost use Prim.Native.Nat.{ℕ, _-_, _*_, _^_, _<_, _≤_};
+ghost use Prim.Native.Nat.{ℕ, _+_, _-_, _*_, _/_, _%_, _^_, _<_, _≤_};
 ghost use lib.Dec.{T};
 ghost use lib.IntN.{pos, natAbs};
 ghost use lib.ListN.{length, getD};
@@ -10,32 +10,53 @@ ghost use lib.Signed.{nonNeg};
 ghost use Rattle.bits.specs.Number.{number};
 ghost use Rattle.e8.specs.Energy.{Within};
 ghost use Rattle.e8.specs.Rows.{ints, reduced};
-ghost use Rattle.frames.specs.Kind.{isKind, isGrade, degrees, levels, blocks, levelBits, messageBits, messageBytes};
+ghost use Rattle.frames.specs.Kind.{isKind, isGrade, degrees, levelBits, messageBytes};
 ghost use Rattle.frames.specs.Message.{widths};
-ghost use Rattle.frames.specs.Reading.{quotients, allDigits, blockMessages, inRange};
+ghost use Rattle.frames.specs.Reading.{quotients, allDigits, inRange};
 ghost use Rattle.reading.specs.Words.{heldMessages, heldMessage};
 ghost use Rattle.reading.specs.Written.{written};
 
-// The bits of the levels, from bit 0 on; the words hold the levels, taken backwards.
-// Three turns at most, as in `level_words`.
-pub fn write_levels(kind: u8, words: [u64; 3], out: &mut [u8])
+// The bits of the levels, from bit 0 on: the whole bytes of them are written, and the bits of a byte that is begun handed back.
+// The words hold the levels, taken backwards. An arm for each kind: its counts and shifts are constants to the compiler.
+pub fn write_levels(kind: u8, words: [u64; 3], out: &mut [u8]) -> u64
     requires { ⌜ (isKind kind ≡ true) × (levelBits kind ≤ 8 * length (now out)) ⌝ }
-    ensures { λ _. ⌜ now (out .exit) ≡ written 0 (heldMessages kind 0 (degrees kind) words) (now (out .entry)) ⌝ }
+    ensures out { λ _. ⌜ now (out .exit) ≡ written (levelBits kind / 8) (heldMessages kind 0 (degrees kind) words) (now (out .entry)) ⌝ }
+    ensures rest { λ r. ⌜ r ≡ number (levelBits kind % 8) (λ t. getD (heldMessages kind 0 (degrees kind) words) (8 * (levelBits kind / 8) + t) 0) ⌝ }
 {
-    let m = kind as usize;
-    let count = kind_table::levels(kind);
-    let mut from: usize = 0;
-    let mut i: usize = 0;
-    while i < 3 {
-        if count <= i {
-            return;
-        }
-        let degree = kind_table::degree(kind, i);
-        let bits = words[i];
-        reed_muller::put_message(bits, m, degree, out, from);
-        from += reed_muller::dimension_of(m, degree);
-        i += 1;
+    if kind == 3 {
+        return reed_muller::message_held(words[0], 3, 4);
     }
+    if kind == 4 {
+        let low = reed_muller::message_held(words[0], 4, 5);
+        return bits::put_bytes(
+            low ^ (reed_muller::message_held(words[1], 4, 15) << 5),
+            2,
+            out,
+            0,
+        );
+    }
+    if kind == 5 {
+        let low = reed_muller::message_held(words[0], 5, 6);
+        return bits::put_bytes(
+            low ^ (reed_muller::message_held(words[1], 5, 26) << 6),
+            4,
+            out,
+            0,
+        );
+    }
+    let low = reed_muller::message_held(words[0], 6, 7);
+    let rest = bits::put_bytes(
+        low ^ (reed_muller::message_held(words[1], 6, 42) << 7),
+        6,
+        out,
+        0,
+    );
+    bits::put_bytes(
+        rest ^ (reed_muller::message_held(words[2], 6, 63) << 1),
+        8,
+        out,
+        6,
+    )
 }
 
 // A block's numbers s1 to s8 as one number of 8b bits, those of s1 lowest.
@@ -95,36 +116,30 @@ pub fn block_numbers(a: usize, grade: usize, part: &[i32]) -> [i32; 8]
     reduction::reduce((grade - 1) as u32, v)
 }
 
-// The bits of the blocks, behind those of the levels.
-pub fn write_blocks(kind: u8, grade: usize, frame: &[i32], out: &mut [u8])
-    requires { ⌜ (isKind kind ≡ true) × (1 ≤ grade) × (grade ≤ 4) × (length (now frame) ≡ 2 ^ kind)
-        × Within (2 ^ 24) (now frame) × (messageBits kind grade ≤ 8 * length (now out)) ⌝ }
-    ensures { λ _. ⌜ now (out .exit) ≡ written (levelBits kind)
-        (blockMessages grade (blocks kind) (quotients (levels kind) (now (frame .entry)))) (now (out .entry)) ⌝ }
-{
-    let a = kind_table::levels(kind);
-    let count = 8 * grade;
-    let n = frame.len() / 8;
-    let mut from = kind_table::level_bits(kind);
-    let mut j: usize = 0;
-    while j < n {
-        let s = 8 * j;
-        let e = s + 8;
-        let numbers = block_numbers(a, grade, &frame[s..e]);
-        bits::put_bits(packed(numbers, grade), count, out, from);
-        from += count;
-        j += 1;
-    }
-}
-
-// The whole message: every lent byte, spare bits 0. They lie in the last byte; every other bit is one of a level or of a block.
+// The whole message: every lent byte, spare bits 0. The bits of a byte that is begun are carried in `rest` from piece to piece,
+// so that each byte is written once and none is read.
 pub fn write_message(kind: u8, grade: u8, frame: &[i32], words: [u64; 3], out: &mut [u8])
     requires { ⌜ (isKind kind ≡ true) × (isGrade grade ≡ true) × (length (now frame) ≡ 2 ^ kind)
         × (inRange (now frame) ≡ true) × (length (now out) ≡ messageBytes kind grade) ⌝ }
     ensures { λ _. ⌜ now (out .exit) ≡ heldMessage kind grade (now (frame .entry)) words ⌝ }
 {
-    let last = out.len() - 1;
-    out[last] = 0;
-    write_levels(kind, words, out);
-    write_blocks(kind, grade as usize, frame, out);
+    let a = kind_table::levels(kind);
+    let b = grade as usize;
+    let n = frame.len() / 8;
+    let count = kind_table::level_bits(kind);
+    let over = count % 8;
+    let mut at = count / 8;
+    let mut rest = write_levels(kind, words, out);
+    let mut j: usize = 0;
+    while j < n {
+        let s = 8 * j;
+        let e = s + 8;
+        let numbers = block_numbers(a, b, &frame[s..e]);
+        rest = bits::put_bytes(rest ^ (packed(numbers, b) << over), b, out, at);
+        at += b;
+        j += 1;
+    }
+    if over != 0 {
+        bits::put_bytes(rest, 1, out, at);
+    }
 }

@@ -15,7 +15,7 @@ use Rattle.frames.specs.Frame.{half}
 use Rattle.frames.specs.Sending.{unless}
 use Rattle.frames.specs.Reading.{sameFrame, openRefusal}
 use Rattle.frames.proofs.Rows.{grade-low, grade-high}
-use Rattle.frames.proofs.Limits.{few-levels, whole-blocks}
+use Rattle.frames.proofs.Limits.{few-levels, few-positions, whole-blocks, some-block}
 use Rattle.frames.proofs.Refusals.{range-within, Accepted, accepted}
 use Rattle.frames.proofs.Reading.{strict-by-least}
 use Rattle.reading.specs.Numbers.{refusalOf}
@@ -102,8 +102,14 @@ cast-is-least c = record { fits = omega (arith, c .levels .ensures, small (c .be
 is-least-requires : tie.Need-is-least-requires
 is-least-requires c κs =
     let d = c .before .before in
-    let f = start d .args .frame .now in
-    (omega (arith, c .levels .ensures, small d), whole d, within-to 1048576 (2 ^ 24) f (omega arith) (range-within f (a d .range)))
+    let k = start d .args .kind in
+    let f = start d .args .frame .now in (
+      omega (arith, c .levels .ensures, small d),
+      whole d,
+      within-to 1048576 (2 ^ 24) f (omega arith) (range-within f (a d .range)),
+      omega (arith, a d .coordinates, whole-blocks k (a d .kind), some-block k (a d .kind)),
+      omega (arith, a d .coordinates, few-positions k (a d .kind)),
+    )
 
 returns-3 : tie.Need-returns-3
 returns-3 c =
