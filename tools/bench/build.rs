@@ -1,5 +1,6 @@
-//! Points the linker to the archive of what is measured beside the library, libmeasured.a: in target/staticlib of the
-//! repository, or in the folder that FRAME_CODER_DIR names. The hand-tuned coder alone does not need it.
+//! Points the linker to the archives of what is measured beside the library, libblock.a and libplain.a: in
+//! target/staticlib of the repository, or in the folder that FRAME_CODER_DIR names. The hand-tuned coder alone does not
+//! need them.
 
 use std::path::{Path, PathBuf};
 
@@ -12,11 +13,13 @@ fn main() {
         Some(folder) => PathBuf::from(folder),
         None => Path::new(env!("CARGO_MANIFEST_DIR")).join("../../target/staticlib"),
     };
-    let archive = folder.join("libmeasured.a");
-    println!("cargo:rerun-if-changed={}", archive.display());
     println!("cargo:rustc-link-search=native={}", folder.display());
-    println!("cargo:rustc-link-lib=static=measured");
-    if !archive.exists() {
-        println!("cargo:warning=no {}: make the static library first", archive.display());
+    for name in ["block", "plain"] {
+        let archive = folder.join(format!("lib{name}.a"));
+        println!("cargo:rerun-if-changed={}", archive.display());
+        println!("cargo:rustc-link-lib=static={name}");
+        if !archive.exists() {
+            println!("cargo:warning=no {}: make the static library first", archive.display());
+        }
     }
 }

@@ -1,11 +1,12 @@
-/* Tests what frame_coder.h and measured.h promise a C caller beyond the contracts: lengths by kind and grade, refusals and their names,
+/* Tests what frame_coder.h, block.h and plain.h promise a C caller beyond the contracts: lengths by kind and grade, refusals and their names,
  * pointers that are not looked at where the length is 0, int arguments, the account as a struct. Every buffer is on the heap with its
  * exact length, so that valgrind sees a byte too far. It ends with status 1 where something differs. */
 #include <inttypes.h>
 #include <stdio.h>
 #include <stdlib.h>
 #include <string.h>
-#include "measured.h"
+#include "block.h"
+#include "plain.h"
 #include "frame_coder.h"
 
 static unsigned long calls, wrong;

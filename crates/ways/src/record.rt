@@ -18,7 +18,7 @@ fn equal(
     before: &[i32],
 ) -> bool {
     let new = frame_coder::coder_send(kind, grade, message, words);
-    let old = measured::plain_send(kind, grade, message, masks);
+    let old = plain::plain_send(kind, grade, message, masks);
     if new != old {
         return false;
     }

@@ -1,7 +1,7 @@
 //! The exported functions of the archives themselves, as they are measured: a call is inlined here, and nothing is
-//! done but to pass a slice as a pointer and a length. Also what is measured beside the library (`crates/measured`).
+//! done but to pass a slice as a pointer and a length. Also what is measured beside the library (`crates/block`, `crates/plain`).
 
-/// The archives' functions, as `frame_coder.h` and `measured.h` have them.
+/// The archives' functions, as `frame_coder.h`, `block.h` and `plain.h` have them.
 mod archive {
     extern "C" {
         pub fn coder_send(k: u8, b: u8, message: *const u8, bytes: usize, frame: *mut i32, length: usize) -> i64;

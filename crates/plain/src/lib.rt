@@ -1,5 +1,6 @@
-// Sending by document 01's mask test at every position: the old way, which sending by whole words is compared with. Only the leader is made
-// another way than in `sending`.
+// Sending by document 01's mask test at every position, as other languages call it: the old way, which request E3 compares sending by whole words of
+// the levels with. Only the leader is made another way than in `sending`. A slice passes as a pointer and a length; `plain.h` says what a caller has to
+// see to.
 ghost use mathlib.Core.Path.{_≡_};
 ghost use mathlib.Core.Bool.{true};
 ghost use Prim.Native.Nat.{_+_, _*_, _^_, _<_, _≤_};
@@ -10,6 +11,7 @@ ghost use Rattle.e8.specs.Energy.{energy as energyOf};
 ghost use Rattle.frames.specs.Kind.{isKind, degrees, levelBits, messageBytes};
 ghost use Rattle.frames.specs.Message.{widths, numbers, stacked, leader};
 ghost use Rattle.frames.specs.Frame.{sentFrame};
+ghost use Rattle.frame_coder.specs.Answer.{sendAnswer, sendFrame};
 
 // Number o of the block whose message bits begin at `from`.
 fn number_at(message: &[u8], from: usize, grade: usize, o: usize) -> u64
@@ -59,7 +61,7 @@ fn write_leader(kind: u8, grade: usize, message: &[u8], frame: &mut [i32])
 }
 
 // Writes the sent frame of a message of a good kind, grade and length, and gives its energy: the leader is written, and shaped.
-pub fn write_sent(kind: u8, grade: usize, message: &[u8], frame: &mut [i32]) -> u64
+fn write_sent(kind: u8, grade: usize, message: &[u8], frame: &mut [i32]) -> u64
     requires { ⌜ (isKind kind ≡ true) × (1 ≤ grade) × (grade ≤ 4)
         × (length (now message) ≡ messageBytes kind grade) × (length (now frame) ≡ 2 ^ kind) ⌝ }
     ensures frame { λ _. ⌜ now (frame .exit) ≡ sentFrame kind grade (now (message .entry)) ⌝ }
@@ -69,4 +71,18 @@ pub fn write_sent(kind: u8, grade: usize, message: &[u8], frame: &mut [i32]) -> 
     let k = kind_table::levels(kind) + grade - 1;
     shaping::shape(k as u32, frame);
     coordinates::energy(frame)
+}
+
+// Sending by the mask test at every position: as `coder_send`, by the same contract.
+#[no_mangle]
+pub extern "C" fn plain_send(kind: u8, grade: u8, message: &[u8], frame: &mut [i32]) -> i64
+    ensures answer { λ r. ⌜ r ≡ sendAnswer kind grade (now (message .entry)) (length (now (frame .entry))) ⌝ }
+    ensures frame { λ r. ⌜ now (frame .exit) ≡ sendFrame kind grade (now (message .entry)) (now (frame .entry)) ⌝ }
+{
+    let number = sending::test(kind, grade, message, frame.len());
+    if number != 0 {
+        return frame_coder::answer(number, 0);
+    }
+    let energy = write_sent(kind, grade as usize, message, frame);
+    frame_coder::answer(number, energy)
 }

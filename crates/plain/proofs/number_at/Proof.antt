@@ -1,4 +1,4 @@
--- `plain::number_at` meets its contract: the number's own bits, from where it begins. Assumes nothing.
+-- `number_at` meets its contract: the number's own bits, from where it begins. Assumes nothing.
 use Prim.Native.Nat.{ℕ, suc, _+_, _-_, _*_, _≤_}
 use mathlib.Core.Path.{_≡_, _∙_}
 use native.Mathlib.Nat.{mul-le-mul}
@@ -9,9 +9,9 @@ use Rattle.frames.specs.Message.{widths}
 use Rattle.frames.proofs.Numbers.{total, total-widths}
 use Rattle.sending.proofs.Block.{width-small, total-suc, total-le}
 use borrow.Author.Needs.{needs}
-use Rattle.measured.proofs.Place.{begins, number-is}
-use Rattle.measured.proofs.plain.number_at.Statement.{statement}
-use Rattle.measured.proofs.plain.number_at.Tie as tie
+use Rattle.plain.proofs.Place.{begins, number-is}
+use Rattle.plain.proofs.number_at.Statement.{statement}
+use Rattle.plain.proofs.number_at.Tie as tie
 
 -- the width is small, and the number lies among the block's bits
 record Fit (c : tie.After-width) : Type 0 where

@@ -1,4 +1,4 @@
--- `plain::write_leader` meets its contract: the positions passed so far are those of the leader. Assumes nothing.
+-- `write_leader` meets its contract: the positions passed so far are those of the leader. Assumes nothing.
 use Prim.Native.Nat.{ℕ, _+_, _-_, _*_, _/_, _%_, _^_, _≤_, _<_}
 use mathlib.Core.Path.{_≡_, sym, ap, _∙_}
 use native.Mathlib.Omega.{arith}
@@ -14,8 +14,8 @@ use Rattle.frames.specs.Message.{widths, numbers, blockNumbers, stacked, coordi
 use Rattle.frames.proofs.One.{leader-length, leader-at}
 use Rattle.frames.proofs.Limits.{few-positions, few-message-bits, whole-blocks, bytes-hold, levels-hold, Piece, block-piece}
 use Rattle.sending.proofs.Block.{numbers-below}
-use Rattle.measured.proofs.plain.write_leader.Statement.{statement}
-use Rattle.measured.proofs.plain.write_leader.Tie as tie
+use Rattle.plain.proofs.write_leader.Statement.{statement}
+use Rattle.plain.proofs.write_leader.Tie as tie
 
 abbrev Inv-loop : tie.InvT-loop
 Inv-loop kind grade message frame₀ base p₀ frame p = Filled (leader kind grade message) frame p

@@ -1,4 +1,4 @@
--- `plain::coordinate` meets its contract: from the last level to the first, what stands over the levels passed so far. Assumes nothing.
+-- `coordinate` meets its contract: from the last level to the first, what stands over the levels passed so far. Assumes nothing.
 use Prim.Native.Nat.{ℕ, suc, _+_, _-_, _*_, _^_, _≤_, _<_}
 use mathlib.Core.Path.{_≡_, refl, sym, ap, ap₂, _∙_, subst}
 use mathlib.Core.List.{List, [], _∷_}
@@ -20,8 +20,8 @@ use Rattle.frames.proofs.Lengths.{level-end}
 use Rattle.frames.proofs.Limits.{tabled, few-levels, few-level-bits, degree-fits, Piece, level-piece}
 use Rattle.kind_table.proofs.Entry.{entry-levels, entry-bits, entry-degree}
 use Rattle.sending.proofs.Stack.{stacked-below}
-use Rattle.measured.proofs.plain.coordinate.Statement.{statement}
-use Rattle.measured.proofs.plain.coordinate.Tie as tie
+use Rattle.plain.proofs.coordinate.Statement.{statement}
+use Rattle.plain.proofs.coordinate.Tie as tie
 
 -- s over the levels from i on
 abbrev over : ℕ → List ℕ → ℕ → ℕ → ℕ → ℕ → ℕ

@@ -1,4 +1,4 @@
--- `plain::write_sent` meets its contract: the shaped leader is the sent frame. Assumes nothing.
+-- `write_sent` meets its contract: the shaped leader is the sent frame. Assumes nothing.
 use Prim.Native.Nat.{_^_, _≤_}
 use mathlib.Core.Path.{_≡_, ap, _∙_}
 use native.Mathlib.Omega.{arith}
@@ -8,8 +8,8 @@ use Rattle.frames.specs.Frame.{sentFrame}
 use Rattle.frames.proofs.Limits.{few-levels}
 use Rattle.sending.proofs.Sent.{sent-is, shape-takes, energy-takes}
 use borrow.Author.Needs.{needs}
-use Rattle.measured.proofs.plain.write_sent.Statement.{statement}
-use Rattle.measured.proofs.plain.write_sent.Tie as tie
+use Rattle.plain.proofs.write_sent.Statement.{statement}
+use Rattle.plain.proofs.write_sent.Tie as tie
 
 few : (c : tie.After-levels) → c .levels .result ≤ 3
 few c =

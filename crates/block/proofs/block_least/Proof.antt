@@ -11,9 +11,9 @@ use borrow.Author.Tests.{not-true, not-false, eq-eqb, ne-eqb, le-leb, lt-leb}
 use Rattle.e8.specs.Energy.{Within, isWithin}
 use Rattle.e8.specs.Least.{leastBlock}
 use Rattle.e8.proofs.Within.{test-within}
-use Rattle.measured.specs.Shapeable.{shapeable}
-use Rattle.measured.proofs.block_least.Statement.{statement}
-use Rattle.measured.proofs.block_least.Tie as tie
+use Rattle.block.specs.Shapeable.{shapeable}
+use Rattle.block.proofs.block_least.Statement.{statement}
+use Rattle.block.proofs.block_least.Tie as tie
 
 -- ---- the definition, as far as the tests go
 

@@ -13,8 +13,8 @@ use Rattle.sending.proofs.Answers.{Fits, fits}
 use Rattle.frame_coder.specs.Answer.{answerOf, sendAnswer, sendFrame}
 use Rattle.frame_coder.proofs.Bounds.{sent-fits, send-answer}
 use borrow.Author.Needs.{needs}
-use Rattle.measured.proofs.plain_send.Statement.{statement}
-use Rattle.measured.proofs.plain_send.Tie as tie
+use Rattle.plain.proofs.plain_send.Statement.{statement}
+use Rattle.plain.proofs.plain_send.Tie as tie
 
 -- what the number and the energy answer, and the frame that stands with them
 answered : (number energy k b : ℕ) (bytes : List ℕ) (f g : List ℤ) → number ≡ sendRefusal k b bytes (length f) → energy ≡ energySent number k b bytes
