@@ -65,7 +65,7 @@
 #include <stddef.h>
 #include <stdint.h>
 
-#define FRAME_CODER_VERSION "0.4.0"
+#define FRAME_CODER_VERSION "0.5.0"
 
 #ifdef __cplusplus
 extern "C" {
