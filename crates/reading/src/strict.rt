@@ -12,7 +12,7 @@ fn copied(frame: &[i32], copy: &mut [i32])
     requires { ⌜ length (now frame) ≡ length (now copy) ⌝ }
     ensures { λ _. ⌜ now (copy .exit) ≡ now (frame .entry) ⌝ }
 {
-    let n = frame.len();
+    let n = copy.len();
     let mut i: usize = 0;
     while i < n {
         let z = frame[i];

@@ -40,7 +40,7 @@ loop-again : tie.Need-loop-again Inv-loop μ-loop
 loop-again c =
     let s = c .before .before .before in
     let l = c .before .before .loop in
-    filled-next (pos 0) (s .args .frame .now) (l .copy) (l .i) _ (l .inv) (c .before .loop-test .taken) (tz refl (record { sfits = c .z .given }))
+    filled-next (pos 0) (s .args .frame .now) (l .copy) (l .i) _ (l .inv) (omega (arith, s .pre)) (tz refl (record { sfits = c .z .given }))
 
 same-length : tie.Need-same-length Inv-loop μ-loop
 same-length c = omega (arith, c .before .loop .inv .long, c .before .before .pre)
@@ -48,7 +48,7 @@ same-length c = omega (arith, c .before .loop .inv .long, c .before .before .pre
 returns : tie.Need-returns Inv-loop μ-loop
 returns c =
     let l = c .before in
-    filled-all (l .before .args .frame .now) (l .loop .copy) (l .loop .i) (l .loop .inv) (c .loop-test .left)
+    filled-all (l .before .args .frame .now) (l .loop .copy) (l .loop .i) (l .loop .inv) (omega (arith, l .before .pre))
 
 pub copied-spec : {M : Type 1} → statement M
 copied-spec =

@@ -20,7 +20,7 @@ shape-requires c κs =
     let d = c .before .before in
     let s = d .before .before in
     let e = d .copied .ensures in (
-      s .pre .0,
+      omega (arith, s .pre .0),
       omega (arith, ap length e, s .pre .1),
       omega (arith, ap length e, s .pre .4),
       subst (Within (2 ^ 24)) (sym e) (s .pre .2),
