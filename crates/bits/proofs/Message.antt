@@ -3,7 +3,7 @@ use Prim.Native.Nat.{ℕ, zero, suc, _+_, _-_, _*_, _/_, _%_, _^_, _≤_, _<_}
 use mathlib.Core.Path.{_≡_, sym, ap, ap₂, _∙_, subst}
 use mathlib.Core.Bool.{Bool, true, false, _&&_, and-false}
 use mathlib.Core.List.{List}
-use native.Mathlib.Nat.{mod-lt, pow-suc, add-comm, mul-le-mul-right, le-of-suc-le-suc, div-one, mod-one, mod-eq-of-lt, zero-div}
+use native.Mathlib.Nat.{zero-mul, mod-lt, pow-suc, add-comm, mul-le-mul-right, le-of-suc-le-suc, div-one, mod-one, mod-eq-of-lt, zero-div}
 use native.Mathlib.Decide.{decLt}
 use native.Mathlib.Omega.{arith}
 use lib.Dec.{leb, ltb, lit<}
@@ -14,7 +14,7 @@ use lib.Seq.{ext-getD}
 use borrow.Author.Tests.{le-leb, lt-leb, lt-ltb, le-ltb}
 use Rattle.bits.specs.Number.{pick, sumTo, table, number}
 use Rattle.bits.specs.Message.{messageBit, byteOf, bytesOf, withBits}
-use Rattle.bits.proofs.Sum.{sum-ext}
+use Rattle.bits.proofs.Sum.{sum-ext, sum-split, sum-zero}
 use Rattle.bits.proofs.Table.{length-table, table-at, table-ext}
 
 pub number-lt : (b : ℕ → ℕ) (n : ℕ) → ((i : ℕ) → i < n → b i < 2) → number n b < 2 ^ n
@@ -61,6 +61,17 @@ number-digits x (suc n) =
 
 pub number-ext : (n : ℕ) {f g : ℕ → ℕ} → ((i : ℕ) → i < n → f i ≡ g i) → number n f ≡ number n g
 number-ext n h = sum-ext n (λ i l. ap (λ (x : ℕ). x * 2 ^ i) (h i l))
+
+-- no bit is set past the first m
+pub number-shorter : (m n : ℕ) {f : ℕ → ℕ} → m ≤ n → ((i : ℕ) → m ≤ i → f i ≡ 0) → number n f ≡ number m f
+number-shorter m n {f} h none =
+    let e : n ≡ m + (n - m) = omega arith in
+    ap (λ (k : ℕ). number k f) e
+    ∙ omega (
+      arith,
+      sum-split m (n - m) (λ i. f i * 2 ^ i),
+      sum-zero (n - m) (λ i. f (m + i) * 2 ^ (m + i)) (λ i l. ap (λ (x : ℕ). x * 2 ^ (m + i)) (none (m + i) (omega arith)) ∙ zero-mul (2 ^ (m + i))),
+    )
 
 -- the low n digits of a number whose first n digits are given
 pub number-mod : (w n : ℕ) {f : ℕ → ℕ} → ((i : ℕ) → i < n → w / 2 ^ i % 2 ≡ f i) → w % 2 ^ n ≡ number n f
