@@ -112,28 +112,40 @@ module _ (m : ℕ) where
   laid-all n bits W room few long =
       number-shorter (2 ^ m) W long (λ S l. past-masks n bits room few S l) ∙ number-ext (2 ^ m) (λ S l. at-mask n bits room few S l)
 
--- ---- as the code lays them: eight at a time, from a table, in a word of 64 digits
+-- ---- as the code lays them: eight at a time, from a table, in a number of 64 digits
+
+-- a message of RM(r,m), and the number once the bits of the first n masks of the table are laid
+pub record Spread {m : ℕ} {os ds : List ℕ} (t : Right m os ds) (n : ℕ) : Type 0 where
+  pub bits : ℕ
+  pub r : ℕ
+  pub degree : r ≤ m
+  pub few : bits < 2 ^ dimension r m
+  pub word : ℕ
+  pub is : word ≡ number 64 (laid n (λ k. getD os k 0) (digit bits))
+
+-- eight bits from bit n on, at their masks
+abbrev pub eightFrom : List ℕ → ℕ → ℕ → ℕ
+eightFrom os bits n = number 64 (laid 8 (λ k. getD os (n + k) 0) (λ k. digit bits (n + k)))
 
 module _ {m : ℕ} {os ds : List ℕ} (t : Right m os ds) (bits : ℕ) where
-  -- w has the first n
-  abbrev pub Spread : ℕ → ℕ → Type 0
-  Spread n w = w ≡ number 64 (laid n (λ k. getD os k 0) (digit bits))
-
-  -- w has the eight from n on
-  abbrev Eight : ℕ → ℕ → Type 0
-  Eight n w = w ≡ number 64 (laid 8 (λ k. getD os (n + k) 0) (λ k. digit bits (n + k)))
-
-  pub spread-first : {w : ℕ} → Eight 0 w → Spread 8 w
-  spread-first e =
+  pub eight-first : {y : ℕ} → y ≡ eightFrom os bits 0 → y ≡ number 64 (laid 8 (λ k. getD os k 0) (digit bits))
+  eight-first e =
       e ∙ ap (λ (f : ℕ → ℕ). number 64 (laid 8 (λ k. getD os (f k) 0) (λ k. digit bits (f k)))) (fun-ext zero-add)
 
-  pub spread-next : (n : ℕ) {x y : ℕ} → Spread n x → Eight n y → Spread (n + 8) (bitXor x y)
-  spread-next n = laid-join 64 n 8 (λ k. getD os k 0) (digit bits)
+  abbrev pub spread-first : {r : ℕ} → r ≤ m → bits < 2 ^ dimension r m → {y : ℕ} → y ≡ eightFrom os bits 0 → Spread t 8
+  spread-first {r} degree few {y} e = record { bits = bits; r = r; degree = degree; few = few; word = y; is = eight-first e }
+
+module _ {m : ℕ} {os ds : List ℕ} {t : Right m os ds} {n : ℕ} (g : Spread t n) where
+  pub eight-next : {y : ℕ} → y ≡ eightFrom os (g .bits) n → bitXor (g .word) y ≡ number 64 (laid (n + 8) (λ k. getD os k 0) (digit (g .bits)))
+  eight-next = laid-join 64 n 8 (λ k. getD os k 0) (digit (g .bits)) (g .is)
+
+  abbrev pub spread-next : {y : ℕ} → y ≡ eightFrom os (g .bits) n → Spread t (n + 8)
+  spread-next {y} e =
+      record { bits = g .bits; r = g .r; degree = g .degree; few = g .few; word = bitXor (g .word) y; is = eight-next e }
 
   -- the first n masks are enough for degrees up to j
-  pub spread-all : (j n : ℕ) → j < suc m → getD ds j 0 ≤ n → n ≤ 2 ^ m → {r : ℕ} → r ≤ j → bits < 2 ^ dimension r m → {w : ℕ} → Spread n w
-      → w ≡ number (2 ^ m) (λ S. digit bits (place (order m) S))
-  spread-all j n inside enough room {r} h few e =
-      let most : dimension r m ≤ n = omega (arith, dimension-mono r j m h, dimension-entry refl t j inside) in
-      e ∙ ap (λ (xs : List ℕ). number 64 (laid n (λ k. getD xs k 0) (digit bits))) (t .orders)
-      ∙ laid-all m n bits 64 room (omega (arith, few, pow-mono most)) (short (t .tabled))
+  pub spread-all : (j : ℕ) → j < suc m → getD ds j 0 ≤ n → n ≤ 2 ^ m → g .r ≤ j → g .word ≡ number (2 ^ m) (λ S. digit (g .bits) (place (order m) S))
+  spread-all j inside enough room h =
+      let most : dimension (g .r) m ≤ n = omega (arith, dimension-mono (g .r) j m h, dimension-entry refl t j inside) in
+      g .is ∙ ap (λ (xs : List ℕ). number 64 (laid n (λ k. getD xs k 0) (digit (g .bits)))) (t .orders)
+      ∙ laid-all m n (g .bits) 64 room (omega (arith, g .few, pow-mono most)) (short (t .tabled))

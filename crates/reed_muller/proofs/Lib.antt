@@ -9,4 +9,5 @@ pub mod MaskTables
 pub mod Stages
 pub mod Held
 pub mod Laid
+pub mod Gathered
 pub mod Examples

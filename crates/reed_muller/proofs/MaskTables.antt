@@ -4,12 +4,12 @@ use mathlib.Core.Path.{_≡_, refl, sym, ap, _∙_, subst}
 use mathlib.Core.List.{List, [], _∷_}
 use native.Mathlib.Omega.{arith}
 use lib.Count.{ones}
-use lib.ListN.{getD}
+use lib.ListN.{length, getD}
 use lib.Pow.{pow-mono}
-use Rattle.bits.specs.Number.{table, number}
+use Rattle.bits.specs.Number.{table}
 use Rattle.bits.proofs.Table.{table-at}
-use Rattle.bits.proofs.Digits.{digit}
 use Rattle.reed_muller.specs.Level.{ofWeight, masks, order, dimension, Tabled}
+use Rattle.reed_muller.specs.Laid.{Below64}
 
 -- the tables of length 2 ^ m: the masks in order, the dimensions for r = 0, .., m
 pub record Right (m : ℕ) (os ds : List ℕ) : Type 0 where
@@ -63,44 +63,25 @@ last h a b d = omega arith
 pub short : {m : ℕ} → Tabled m → 2 ^ m ≤ 64
 short h = pow-mono {j = 6} (omega arith)
 
--- the first k of n places are there, and each is that of a digit of 64
-abbrev Within : ℕ → ℕ → (ℕ → ℕ) → Type 0
-Within k n at = (k ≤ 64) × (k ≤ n) × ((i : ℕ) → i < k → at i < 64)
+-- how far the masks go past the digits of 64, to be computed: 0 where each is below 64
+abbrev past : List ℕ → ℕ
+past [] = 0
+past (S ∷ Ss) = S / 64 + past Ss
 
--- how far the first n masks go past the digits of 64, to be computed: 0 where each is below 64
-abbrev past : ℕ → (ℕ → ℕ) → ℕ
-past zero mask = 0
-past (suc n) mask = mask 0 / 64 + past n (λ i. mask (suc i))
+none-past : (Ss : List ℕ) → past Ss ≡ 0 → (i : ℕ) → i < length Ss → getD Ss i 0 < 64
+none-past [] e i h = absurd (omega arith)
+none-past (S ∷ Ss) e zero h = omega arith
+none-past (S ∷ Ss) e (suc i) h = none-past Ss (omega arith) i (omega arith)
 
-none-past : (n : ℕ) (mask : ℕ → ℕ) → past n mask ≡ 0 → (i : ℕ) → i < n → mask i < 64
-none-past zero mask e i h = absurd (omega arith)
-none-past (suc n) mask e zero h = omega arith
-none-past (suc n) mask e (suc i) h = none-past n (λ i. mask (suc i)) (omega arith) i (omega arith)
-
--- the masks before e are there, and each is that of a digit of 64
-pub within : {e n : ℕ} {mask : ℕ → ℕ} → e ≤ 64 → e ≤ n → past n mask ≡ 0 → (e ≤ 64) × (e ≤ n) × ((i : ℕ) → i < n → mask i < 64)
-within {n = n} {mask = mask} l h none = (l, h, none-past n mask none)
-
--- the bits gathered at the first places of a table of length 2 ^ n, whichever it is
-module _ {m n : ℕ} (e : m ≡ n) (h : Tabled m) {at : ℕ → ℕ} (none : past (2 ^ n) at ≡ 0) where
-  pub masks-within : {k : ℕ} → k ≤ 2 ^ m → Within k (2 ^ n) at
-  masks-within l =
-      let same : 2 ^ n ≡ 2 ^ m = ap (λ (x : ℕ). 2 ^ x) (sym e) in
-      (omega (arith, short h, l), omega (arith, same, l), λ i q. none-past (2 ^ n) at none i (omega (arith, same, l, q)))
+pub below-64 : {Ss : List ℕ} → past Ss ≡ 0 → Below64 Ss
+below-64 {Ss} e = record { below = none-past Ss e }
 
 -- ---- the tables of length 2 ^ n, read where m is n
 
 module _ {m n : ℕ} (e : m ≡ n) {os ds : List ℕ} (t : Right n os ds) where
-  pub order-entry : os ≡ order m
-  order-entry = t .orders ∙ ap order (sym e)
-
   pub mask-entry : (k : ℕ) → getD os k 0 ≡ getD (order m) k 0
-  mask-entry k = ap (λ (xs : List ℕ). getD xs k 0) order-entry
+  mask-entry k = ap (λ (xs : List ℕ). getD xs k 0) (t .orders ∙ ap order (sym e))
 
   pub dimension-entry : (r : ℕ) → r < suc n → getD ds r 0 ≡ dimension r m
   dimension-entry r h =
       ap (λ (xs : List ℕ). getD xs r 0) (t .dimensions) ∙ table-at (λ r. dimension r n) (suc n) r h ∙ ap (dimension r) (sym e)
-
-  -- the bits gathered at the first masks of the order
-  pub by-masks : (k bits : ℕ) → number k (λ i. digit bits (getD os i 0)) ≡ number k (λ i. digit bits (getD (order m) i 0))
-  by-masks k bits = ap (λ (xs : List ℕ). number k (λ i. digit bits (getD xs i 0))) order-entry

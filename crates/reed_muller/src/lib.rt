@@ -2,13 +2,13 @@
 // The work is done on numbers that hold a whole word, message or transform: bit p is the value at p, bit k message bit k, bit S the bit of mask S;
 // no bit is set past the last one. `Tabled m`: length 2 ^ m has its tables of masks and dimensions.
 ghost use mathlib.Core.Path.{_≡_};
-ghost use Prim.Native.Nat.{ℕ, _+_, _*_, _/_, _%_, _^_, _<_, _≤_};
+ghost use Prim.Native.Nat.{_+_, _*_, _/_, _%_, _^_, _<_, _≤_};
 ghost use lib.Dec.{ltb};
 ghost use lib.ListN.{length, getD};
 ghost use Rattle.bits.specs.Number.{given, number};
 ghost use Rattle.bits.specs.Message.{messageBit, bytesOf, withBits};
 ghost use Rattle.reed_muller.specs.Level.{weight, order, place, dimension, codeword, backwards, clearAbove, Tabled};
-ghost use Rattle.reed_muller.specs.Laid.{laid};
+ghost use Rattle.reed_muller.specs.Laid.{laid, Below64};
 
 // The masks of each length by number of set bits, then by value.
 const ORDER_8: [u8; 8] = [0, 1, 2, 4, 3, 5, 6, 7];
@@ -215,20 +215,6 @@ pub fn value_at(message: &[u8], from: usize, m: usize, r: usize, p: usize) -> u8
     s
 }
 
-// The bits at the first `count` of the places: bit i is the bit at place i of the list.
-fn gathered(bits: u64, places: &[u8], count: usize) -> u64
-    requires { ⌜ (count ≤ 64) × (count ≤ length (now places)) × ((i : ℕ) → i < count → getD (now places) i 0 < 64) ⌝ }
-    ensures { λ b. ⌜ b ≡ number count (λ i. bits / 2 ^ getD (now (places .entry)) i 0 % 2) ⌝ }
-{
-    let mut b: u64 = 0;
-    let mut i = count;
-    while 0 < i {
-        i -= 1;
-        b = 2 * b + (bits >> places[i]) % 2;
-    }
-    b
-}
-
 // The first n bits alone.
 fn low_bits(w: u64, n: usize) -> u64
     requires { ⌜ (1 ≤ n) × (n ≤ 64) ⌝ }
@@ -262,7 +248,7 @@ pub fn transformed(w: u64, m: usize) -> u64
 
 // The eight message bits from bit `from` on, each at its mask.
 fn spread_eight(bits: u64, masks: &[u8], from: usize) -> u64
-    requires { ⌜ (from + 8 ≤ 64) × (from + 8 ≤ length (now masks)) × ((i : ℕ) → i < length (now masks) → getD (now masks) i 0 < 64) ⌝ }
+    requires { ⌜ (from + 8 ≤ 64) × (from + 8 ≤ length (now masks)) × Below64 (now masks) ⌝ }
     ensures { λ w. ⌜ w ≡ number 64 (laid 8 (λ k. getD (now (masks .entry)) (from + k) 0) (λ k. bits / 2 ^ (from + k) % 2)) ⌝ }
 {
     let mut w: u64 = 0;
@@ -365,21 +351,89 @@ pub fn clear_above(bits: u64, m: usize, r: usize) -> bool
     heavies << (64 - positions(m)) == 0
 }
 
+// The bits of eight masks from place `from` of the order on.
+fn gather_eight(bits: u64, masks: &[u8], from: usize) -> u64
+    requires { ⌜ (from + 8 ≤ length (now masks)) × Below64 (now masks) ⌝ }
+    ensures { λ b. ⌜ b ≡ number 8 (λ k. bits / 2 ^ getD (now (masks .entry)) (from + k) 0 % 2) ⌝ }
+{
+    let mut b: u64 = 0;
+    let mut k: usize = 8;
+    while 0 < k {
+        k -= 1;
+        let j = from + k;
+        b = 2 * b + (bits >> masks[j]) % 2;
+    }
+    b
+}
+
+// The first `count` message bits of length 16, given the bits of the masks.
+fn gather_16(bits: u64, count: usize) -> u64
+    requires { ⌜ (1 ≤ count) × (count ≤ 2 ^ 4) ⌝ }
+    ensures { λ b. ⌜ b ≡ number count (λ k. bits / 2 ^ getD (order 4) k 0 % 2) ⌝ }
+{
+    let a = gather_eight(bits, &ORDER_16, 0);
+    if count <= 8 {
+        return low_bits(a, count);
+    }
+    let b = a + (gather_eight(bits, &ORDER_16, 8) << 8);
+    low_bits(b, count)
+}
+
+// The first `count` message bits of length 32, given the bits of the masks.
+fn gather_32(bits: u64, count: usize) -> u64
+    requires { ⌜ (1 ≤ count) × (count ≤ 2 ^ 5) ⌝ }
+    ensures { λ b. ⌜ b ≡ number count (λ k. bits / 2 ^ getD (order 5) k 0 % 2) ⌝ }
+{
+    let a = gather_eight(bits, &ORDER_32, 0);
+    if count <= 8 {
+        return low_bits(a, count);
+    }
+    let b = a
+        + (gather_eight(bits, &ORDER_32, 8) << 8)
+        + (gather_eight(bits, &ORDER_32, 16) << 16)
+        + (gather_eight(bits, &ORDER_32, 24) << 24);
+    low_bits(b, count)
+}
+
+// The first `count` message bits of length 64, given the bits of the masks.
+fn gather_64(bits: u64, count: usize) -> u64
+    requires { ⌜ (1 ≤ count) × (count ≤ 2 ^ 6) ⌝ }
+    ensures { λ b. ⌜ b ≡ number count (λ k. bits / 2 ^ getD (order 6) k 0 % 2) ⌝ }
+{
+    let a = gather_eight(bits, &ORDER_64, 0);
+    if count <= 8 {
+        return low_bits(a, count);
+    }
+    let b = a
+        + (gather_eight(bits, &ORDER_64, 8) << 8)
+        + (gather_eight(bits, &ORDER_64, 16) << 16)
+        + (gather_eight(bits, &ORDER_64, 24) << 24)
+        + (gather_eight(bits, &ORDER_64, 32) << 32)
+        + (gather_eight(bits, &ORDER_64, 40) << 40);
+    if count <= 48 {
+        return low_bits(b, count);
+    }
+    let c = b
+        + (gather_eight(bits, &ORDER_64, 48) << 48)
+        + (gather_eight(bits, &ORDER_64, 56) << 56);
+    low_bits(c, count)
+}
+
 // The first `count` message bits, given the bits of the masks: message bit k is the bit of mask k of the order.
 pub fn message_held(bits: u64, m: usize, count: usize) -> u64
-    requires { ⌜ Tabled m × (count ≤ 2 ^ m) ⌝ }
+    requires { ⌜ Tabled m × (1 ≤ count) × (count ≤ 2 ^ m) ⌝ }
     ensures { λ b. ⌜ b ≡ number count (λ k. bits / 2 ^ getD (order m) k 0 % 2) ⌝ }
 {
     if m == 3 {
-        return gathered(bits, &ORDER_8, count);
+        return low_bits(gather_eight(bits, &ORDER_8, 0), count);
     }
     if m == 4 {
-        return gathered(bits, &ORDER_16, count);
+        return gather_16(bits, count);
     }
     if m == 5 {
-        return gathered(bits, &ORDER_32, count);
+        return gather_32(bits, count);
     }
-    gathered(bits, &ORDER_64, count)
+    gather_64(bits, count)
 }
 
 // Writes the message bits of RM(r,m) into `out` from bit `from` on, given the bits of the masks, and leaves every other bit as it was.

@@ -4,7 +4,7 @@ use mathlib.Core.Path.{_≡_, refl, subst}
 use native.Mathlib.Omega.{arith}
 use borrow.Author.Needs.{needs}
 use Rattle.reed_muller.specs.Level.{dimension}
-use Rattle.reed_muller.proofs.MaskTables.{right-8, within, last}
+use Rattle.reed_muller.proofs.MaskTables.{right-8, below-64, last}
 use Rattle.reed_muller.proofs.Laid.{spread-first, spread-all}
 use Rattle.reed_muller.proofs.coefficients.Statement.{statement}
 use Rattle.reed_muller.proofs.coefficients.Tie as tie
@@ -17,16 +17,15 @@ slice-aggregate-spread-eight : tie.Need-slice-aggregate-spread-eight
 slice-aggregate-spread-eight c = search needs
 
 spread-eight-requires : tie.Need-spread-eight-requires
-spread-eight-requires c κs = within (omega arith) (omega arith) refl
+spread-eight-requires c κs = (omega arith, omega arith, below-64 refl)
 
 returns : tie.Need-returns
 returns c =
     let at = c .before .before in
     let start = at .before in
     let few = fits (at .if1 .taken) (start .pre .1) (start .pre .2) in
-    rw (at .if1 .taken)
-    (spread-all right-8 (start .args .bits) 3 8 (omega arith) (omega arith) (omega arith) (few .0) (few .1)
-    (spread-first right-8 (start .args .bits) (c .spread-eight .ensures)))
+    let all = spread-first right-8 (start .args .bits) (few .0) (few .1) (c .spread-eight .ensures) in
+    rw (at .if1 .taken) (spread-all all 3 (omega arith) (omega arith) (omega arith) (few .0))
 
 spread-16-requires : tie.Need-spread-16-requires
 spread-16-requires c κs = let start = c .before .before in fits (c .if2 .taken) (start .pre .1) (start .pre .2)

@@ -8,7 +8,7 @@ use Rattle.bits.specs.Message.{messageBit}
 use Rattle.bits.proofs.Digits.{digit-small}
 use Rattle.bits.proofs.Bytewise.{put-number}
 use Rattle.reed_muller.specs.Level.{order}
-use Rattle.reed_muller.proofs.Order.{dimension-small}
+use Rattle.reed_muller.proofs.Order.{dimension-small, dimension-some}
 use Rattle.reed_muller.proofs.put_message.Statement.{statement}
 use Rattle.reed_muller.proofs.put_message.Tie as tie
 
@@ -17,8 +17,11 @@ dimension-of-requires c κs = search needs
 
 message-held-requires : tie.Need-message-held-requires
 message-held-requires c κs =
-    let start = c .before .before in
-    (start .pre .0, omega (arith, c .dimension-of .ensures, dimension-small (start .args .r) (start .args .m) (start .pre .1)))
+    let start = c .before .before in (
+      start .pre .0,
+      omega (arith, c .dimension-of .ensures, dimension-some (start .args .r) (start .args .m)),
+      omega (arith, c .dimension-of .ensures, dimension-small (start .args .r) (start .args .m) (start .pre .1)),
+    )
 
 put-bits-requires : tie.Need-put-bits-requires
 put-bits-requires c κs =

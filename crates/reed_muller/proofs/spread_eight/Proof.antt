@@ -38,7 +38,7 @@ cast-w c =
 
 shl-w : tie.Need-shl-w Inv-loop μ-loop
 shl-w c =
-    let at = c .before .before in at .before .pre .2 (at .before .args .from + at .loop .k) (omega arith)
+    let at = c .before .before in at .before .pre .2 .below (at .before .args .from + at .loop .k) (omega arith)
 
 add-k : tie.Need-add-k Inv-loop μ-loop
 add-k c = omega arith
