@@ -154,7 +154,7 @@ bit-past xs k h =
 
 -- ---- bits in a row
 
-pub pick-small : (t : Bool) (x y : ℕ) → x < 2 → y < 2 → pick t x y < 2
+pick-small : (t : Bool) (x y : ℕ) → x < 2 → y < 2 → pick t x y < 2
 pick-small true x y a b = a
 pick-small false x y a b = b
 

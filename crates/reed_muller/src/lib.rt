@@ -6,7 +6,7 @@ ghost use Prim.Native.Nat.{_+_, _*_, _/_, _%_, _^_, _<_, _≤_};
 ghost use lib.Dec.{ltb};
 ghost use lib.ListN.{length, getD};
 ghost use Rattle.bits.specs.Number.{given, number};
-ghost use Rattle.bits.specs.Message.{messageBit, bytesOf, withBits};
+ghost use Rattle.bits.specs.Message.{messageBit};
 ghost use Rattle.reed_muller.specs.Level.{weight, order, place, dimension, codeword, backwards, clearAbove, Tabled};
 ghost use Rattle.reed_muller.specs.Laid.{laid, Below64};
 
@@ -434,15 +434,4 @@ pub fn message_held(bits: u64, m: usize, count: usize) -> u64
         return gather_32(bits, count);
     }
     gather_64(bits, count)
-}
-
-// Writes the message bits of RM(r,m) into `out` from bit `from` on, given the bits of the masks, and leaves every other bit as it was.
-pub fn put_message(bits: u64, m: usize, r: usize, out: &mut [u8], from: usize)
-    requires { ⌜ Tabled m × (r ≤ m) × (dimension r m ≤ 63) × (from % 8 + dimension r m ≤ 64) × (from + dimension r m ≤ 8 * length (now out)) ⌝ }
-    ensures { λ _. ⌜ now (out .exit) ≡ bytesOf (length (now (out .entry)))
-        (withBits from (dimension r m) (λ k. bits / 2 ^ getD (order m) k 0 % 2) (messageBit (now (out .entry)))) ⌝ }
-{
-    let count = dimension_of(m, r);
-    let message = message_held(bits, m, count);
-    bits::put_bits(message, count, out, from);
 }
