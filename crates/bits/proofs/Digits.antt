@@ -1,9 +1,9 @@
 -- Binary digits of numbers that are added modulo 2, masked, shifted and doubled. Assumes nothing.
 use Prim.Native.Nat.{ℕ, zero, suc, _+_, _-_, _*_, _/_, _%_, _^_, _≤_, _<_, min}
 use mathlib.Core.Path.{_≡_, refl, sym, ap, _∙_}
-use native.Mathlib.Nat.{add-zero, min-zero, min-le-left, min-eq-left, div-one, div-eq-of-lt, zero-div, mod-eq-of-lt, pow-suc, mul-comm}
+use native.Mathlib.Nat.{add-zero, min-zero, min-le-left, min-eq-left, div-one, div-eq-of-lt, zero-div, mod-eq-of-lt, pow-suc, mul-comm, mul-le-mul-right}
 use native.Mathlib.Omega.{arith}
-use lib.Pow.{high, field, split, shl-shr, shr-shr, pow-mono, pow-lt}
+use lib.Pow.{high, field, split, shl-shr, shr-shr, pow-pos, pow-mono, pow-add, pow-lt}
 use lib.Bits.{bitAnd, bitXor, and-step, and-shr, xor-step, xor-shr, differ}
 use Rattle.bits.specs.Number.{number}
 use Rattle.bits.proofs.Message.{under, number-digits}
@@ -66,6 +66,13 @@ shift-low x h W p l u =
 -- the digit p alone
 pub one-shifted : (p W : ℕ) → p < W → 1 * 2 ^ p % 2 ^ W ≡ 2 ^ p
 one-shifted p W h = let e : 1 * 2 ^ p ≡ 2 ^ p = omega arith in ap (λ (x : ℕ). x % 2 ^ W) e ∙ mod-eq-of-lt (pow-lt h)
+
+-- a number of n digits moved up by w digits, where W digits have room
+pub moved-up : (x w n W : ℕ) → x < 2 ^ n → w + n ≤ W → x * 2 ^ w % 2 ^ W ≡ 2 ^ w * x
+moved-up x w n W h room =
+    let e : x * 2 ^ w ≡ 2 ^ w * x = mul-comm x (2 ^ w) in
+    let l : x + 1 ≤ 2 ^ n = omega arith in
+    mod-eq-of-lt (omega (arith, mul-le-mul-right (2 ^ w) l, pow-pos w, pow-add 2 w n, pow-mono {i = w + n} {j = W} room)) ∙ e
 
 -- the low n digits, by a shift up and down again
 pub low-shifted : (x n h : ℕ) → x * 2 ^ h % 2 ^ (n + h) / 2 ^ h ≡ number n (digit x)

@@ -3,18 +3,18 @@ use Prim.Native.Nat.{ℕ, zero, suc, _+_, _-_, _*_, _/_, _%_, _^_, _≤_, _<_}
 use mathlib.Core.Path.{_≡_, sym, ap, ap₂, _∙_, subst}
 use mathlib.Core.Bool.{Bool, true, false, _&&_, and-false}
 use mathlib.Core.List.{List}
-use native.Mathlib.Nat.{mod-lt, pow-suc, add-comm, mul-le-mul-right, le-of-suc-le-suc, div-one, mod-one, mod-eq-of-lt, zero-div}
+use native.Mathlib.Nat.{zero-mul, mod-lt, pow-suc, add-comm, mul-le-mul-right, le-of-suc-le-suc, div-one, mod-one, mod-eq-of-lt, zero-div}
 use native.Mathlib.Decide.{decLt}
 use native.Mathlib.Omega.{arith}
 use lib.Dec.{leb, ltb, lit<}
-use lib.Pow.{high, mod-pow-add, shr-shr}
+use lib.Pow.{high, mod-pow-add, pow-add, shr-shr}
 use lib.Bits.{block-half, block-odd}
 use lib.ListN.{length, getD, List·getD-eq-default}
 use lib.Seq.{ext-getD}
 use borrow.Author.Tests.{le-leb, lt-leb, lt-ltb, le-ltb}
 use Rattle.bits.specs.Number.{pick, sumTo, table, number}
 use Rattle.bits.specs.Message.{messageBit, byteOf, bytesOf, withBits}
-use Rattle.bits.proofs.Sum.{sum-ext}
+use Rattle.bits.proofs.Sum.{sum-ext, sum-split, sum-zero, sum-times}
 use Rattle.bits.proofs.Table.{length-table, table-at, table-ext}
 
 pub number-lt : (b : ℕ → ℕ) (n : ℕ) → ((i : ℕ) → i < n → b i < 2) → number n b < 2 ^ n
@@ -61,6 +61,24 @@ number-digits x (suc n) =
 
 pub number-ext : (n : ℕ) {f g : ℕ → ℕ} → ((i : ℕ) → i < n → f i ≡ g i) → number n f ≡ number n g
 number-ext n h = sum-ext n (λ i l. ap (λ (x : ℕ). x * 2 ^ i) (h i l))
+
+-- no bit is set past the first m
+pub number-shorter : (m n : ℕ) {f : ℕ → ℕ} → m ≤ n → ((i : ℕ) → m ≤ i → f i ≡ 0) → number n f ≡ number m f
+number-shorter m n {f} h none =
+    let e : n ≡ m + (n - m) = omega arith in
+    ap (λ (k : ℕ). number k f) e
+    ∙ omega (
+      arith,
+      sum-split m (n - m) (λ i. f i * 2 ^ i),
+      sum-zero (n - m) (λ i. f (m + i) * 2 ^ (m + i)) (λ i l. ap (λ (x : ℕ). x * 2 ^ (m + i)) (none (m + i) (omega arith)) ∙ zero-mul (2 ^ (m + i))),
+    )
+
+-- w bits, and n bits above them
+pub number-join : (w n : ℕ) (f : ℕ → ℕ) → 2 ^ w * number n (λ t. f (w + t)) + number w f ≡ number (w + n) f
+number-join w n f = omega (arith, sum-split w n (λ p. f p * 2 ^ p), above)
+  where
+    above : sumTo n (λ t. f (w + t) * 2 ^ (w + t)) ≡ 2 ^ w * number n (λ t. f (w + t))
+    above = sum-ext n (λ t l. omega (arith, ap (λ (x : ℕ). f (w + t) * x) (pow-add 2 w t))) ∙ sum-times n (2 ^ w) (λ t. f (w + t) * 2 ^ t)
 
 -- the low n digits of a number whose first n digits are given
 pub number-mod : (w n : ℕ) {f : ℕ → ℕ} → ((i : ℕ) → i < n → w / 2 ^ i % 2 ≡ f i) → w % 2 ^ n ≡ number n f
@@ -136,7 +154,7 @@ bit-past xs k h =
 
 -- ---- bits in a row
 
-pub pick-small : (t : Bool) (x y : ℕ) → x < 2 → y < 2 → pick t x y < 2
+pick-small : (t : Bool) (x y : ℕ) → x < 2 → y < 2 → pick t x y < 2
 pick-small true x y a b = a
 pick-small false x y a b = b
 

@@ -2,9 +2,8 @@
 // and no bit is set past the last one.
 ghost use mathlib.Core.Path.{_≡_};
 ghost use Prim.Native.Nat.{_+_, _*_, _/_, _%_, _^_, _<_, _≤_};
-ghost use lib.Dec.{eqb};
 ghost use lib.ListN.{length};
-ghost use Rattle.bits.specs.Number.{pick, number};
+ghost use Rattle.bits.specs.Number.{number};
 ghost use Rattle.bits.specs.Message.{messageBit, bytesOf, withBits};
 
 // Message bit k.
@@ -61,33 +60,6 @@ pub fn bits_at(message: &[u8], from: usize, count: usize) -> u64
     let first = from / 8;
     let s = from % 8;
     (held_by(message, first, (s + count + 7) / 8) >> s) % (1u64 << count)
-}
-
-// The byte x with the bits of v where m has a bit set.
-fn blended(x: u8, v: u8, m: u8) -> u8
-    ensures { λ y. ⌜ y ≡ number 8 (λ p. pick (eqb (m / 2 ^ p % 2) 1) (v / 2 ^ p % 2) (x / 2 ^ p % 2)) ⌝ }
-{
-    x ^ ((x ^ v) & m)
-}
-
-// Puts the first `count` bits of a number into `out` from bit `from` on, byte by byte, and leaves every other bit as it was.
-pub fn put_bits(bits: u64, count: usize, out: &mut [u8], from: usize)
-    requires { ⌜ (count ≤ 63) × (from % 8 + count ≤ 64) × (from + count ≤ 8 * length (now out)) ⌝ }
-    ensures { λ _. ⌜ now (out .exit) ≡ bytesOf (length (now (out .entry)))
-        (withBits from count (λ k. bits / 2 ^ k % 2) (messageBit (now (out .entry)))) ⌝ }
-{
-    let first = from / 8;
-    let s = from % 8;
-    let mut v = bits << s;
-    let mut m = ((1u64 << count) - 1) << s;
-    let mut j = first;
-    while 0 < m {
-        let x = out[j];
-        out[j] = blended(x, (v % 256) as u8, (m % 256) as u8);
-        v = v >> 8;
-        m = m >> 8;
-        j += 1;
-    }
 }
 
 // The lowest byte of a number.

@@ -8,4 +8,6 @@ pub mod Belongs
 pub mod MaskTables
 pub mod Stages
 pub mod Held
+pub mod Laid
+pub mod Gathered
 pub mod Examples

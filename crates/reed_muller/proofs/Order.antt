@@ -7,12 +7,13 @@ use native.Mathlib.Decide.{decLt, decLe, ℕ-discrete, le-ind}
 use native.Mathlib.Omega.{arith}
 use lib.Dec.{eqb, leb, eqb·suc-zero, leb·suc-zero}
 use lib.ListN.{length, getD, take, length-append}
+use lib.Pow.{pow-pos}
 use lib.Seq.{take-length, take-append-le, getD-take}
 use lib.Count.{ones-le}
 use borrow.Author.Tests.{eq-eqb, ne-eqb, le-leb, lt-leb}
 use Rattle.bits.specs.Number.{sumTo, pick, given, table}
 use Rattle.reed_muller.specs.Level.{weight, keep, ofWeight, masks, order, place, dimension}
-use Rattle.bits.proofs.Sum.{sum-ext, sum-add, sum-zero, sum-term}
+use Rattle.bits.proofs.Sum.{sum-ext, sum-add, sum-zero, sum-term, sum-at-most}
 
 -- the sum of h over a list
 abbrev pub sumL : (ℕ → ℕ) → List ℕ → ℕ
@@ -79,15 +80,6 @@ is-other x y h = rw (ne-eqb y x h)
 abbrev count : ℕ → List ℕ → ℕ
 count x xs = sumL (is x) xs
 
-sum-at-most : (n : ℕ) (g : ℕ → ℕ) (x : ℕ) → ((y : ℕ) → (y ≡ x → ⊥) → g y ≡ 0) → sumTo n g ≤ g x
-unfolding sumTo
-sum-at-most zero g x h = omega arith
-sum-at-most (suc n) g x h = go (sum-at-most n g x h) (ℕ-discrete n x)
-  where
-    go : sumTo n g ≤ g x → Dec (n ≡ x) → sumTo n g + g n ≤ g x
-    go ih (yes e) = omega (arith, ap g e, sum-zero n g (λ y l. h y (λ k. omega arith)))
-    go ih (no k) = omega (arith, h n k)
-
 -- what stands at an index is counted
 count-at : (xs : List ℕ) (k : ℕ) → k < length xs → 1 ≤ count (getD xs k 0) xs
 count-at [] k h = absurd (omega arith)
@@ -137,7 +129,7 @@ module _ (r m : ℕ) where
 
   counted-most : (x : ℕ) → count x (masks r m) ≤ term x x
   unfolding term
-  counted-most x = omega (arith, counted x, sum-at-most (2 ^ m) (term x) x (λ y n. given-zero (leb (weight y) r) (is x y) (is-other x y n)))
+  counted-most x = omega (arith, counted x, sum-at-most (2 ^ m) (term x) x (λ y l n. given-zero (leb (weight y) r) (is x y) (is-other x y n)))
 
   once : (x : ℕ) → count x (masks r m) ≤ 1
   unfolding term
@@ -178,6 +170,15 @@ module _ (r m : ℕ) where
       (omega arith, take-length (masks r m))
       (λ i (hi : r ≤ i) e. (rw length-append (omega (arith, e .0)), take-append-le (length (masks r m)) (masks i m) _ (e .0) ∙ e .1))
       j h
+
+-- there is a message bit: that of mask 0
+pub dimension-some : (r m : ℕ) → 1 ≤ dimension r m
+dimension-some r m = omega (arith, place-mask r m 0 (pow-pos m) (omega (arith, ones-le 0 0 (omega arith))) .0)
+
+-- a higher degree has all message bits of a lower one
+pub dimension-mono : (r j m : ℕ) → r ≤ j → dimension r m ≤ dimension j m
+unfolding dimension
+dimension-mono r j m h = beginning r m j h .0
 
 module _ (r m : ℕ) (h : r ≤ m) where
   -- the first of the order are the masks of at most r bits

@@ -1,13 +1,14 @@
 // Level codes RM(r,m): the order of the masks, the codeword of a message, and from a word the message and whether the word belongs.
 // The work is done on numbers that hold a whole word, message or transform: bit p is the value at p, bit k message bit k, bit S the bit of mask S;
-// no bit is set past the last one. `Tabled m`: length 2 ^ m has its tables of masks, places and dimensions.
+// no bit is set past the last one. `Tabled m`: length 2 ^ m has its tables of masks and dimensions.
 ghost use mathlib.Core.Path.{_≡_};
-ghost use Prim.Native.Nat.{ℕ, _+_, _*_, _/_, _%_, _^_, _<_, _≤_};
+ghost use Prim.Native.Nat.{_+_, _*_, _/_, _%_, _^_, _<_, _≤_};
 ghost use lib.Dec.{ltb};
 ghost use lib.ListN.{length, getD};
 ghost use Rattle.bits.specs.Number.{given, number};
-ghost use Rattle.bits.specs.Message.{messageBit, bytesOf, withBits};
+ghost use Rattle.bits.specs.Message.{messageBit};
 ghost use Rattle.reed_muller.specs.Level.{weight, order, place, dimension, codeword, backwards, clearAbove, Tabled};
+ghost use Rattle.reed_muller.specs.Laid.{laid, Below64};
 
 // The masks of each length by number of set bits, then by value.
 const ORDER_8: [u8; 8] = [0, 1, 2, 4, 3, 5, 6, 7];
@@ -116,113 +117,6 @@ const ORDER_64: [u8; 64] = [
     63,
 ];
 
-// The place of each mask in the order.
-const PLACE_8: [u8; 8] = [0, 1, 2, 4, 3, 5, 6, 7];
-
-const PLACE_16: [u8; 16] = [0, 1, 2, 5, 3, 6, 7, 11, 4, 8, 9, 12, 10, 13, 14, 15];
-
-const PLACE_32: [u8; 32] = [
-    0,
-    1,
-    2,
-    6,
-    3,
-    7,
-    8,
-    16,
-    4,
-    9,
-    10,
-    17,
-    11,
-    18,
-    19,
-    26,
-    5,
-    12,
-    13,
-    20,
-    14,
-    21,
-    22,
-    27,
-    15,
-    23,
-    24,
-    28,
-    25,
-    29,
-    30,
-    31,
-];
-
-const PLACE_64: [u8; 64] = [
-    0,
-    1,
-    2,
-    7,
-    3,
-    8,
-    9,
-    22,
-    4,
-    10,
-    11,
-    23,
-    12,
-    24,
-    25,
-    42,
-    5,
-    13,
-    14,
-    26,
-    15,
-    27,
-    28,
-    43,
-    16,
-    29,
-    30,
-    44,
-    31,
-    45,
-    46,
-    57,
-    6,
-    17,
-    18,
-    32,
-    19,
-    33,
-    34,
-    47,
-    20,
-    35,
-    36,
-    48,
-    37,
-    49,
-    50,
-    58,
-    21,
-    38,
-    39,
-    51,
-    40,
-    52,
-    53,
-    59,
-    41,
-    54,
-    55,
-    60,
-    56,
-    61,
-    62,
-    63,
-];
-
 // The number of masks with at most r bits set.
 const DIMENSION_8: [usize; 4] = [1, 4, 7, 8];
 
@@ -321,20 +215,6 @@ pub fn value_at(message: &[u8], from: usize, m: usize, r: usize, p: usize) -> u8
     s
 }
 
-// The bits at the first `count` of the places: bit i is the bit at place i of the list.
-fn gathered(bits: u64, places: &[u8], count: usize) -> u64
-    requires { ⌜ (count ≤ 64) × (count ≤ length (now places)) × ((i : ℕ) → i < count → getD (now places) i 0 < 64) ⌝ }
-    ensures { λ b. ⌜ b ≡ number count (λ i. bits / 2 ^ getD (now (places .entry)) i 0 % 2) ⌝ }
-{
-    let mut b: u64 = 0;
-    let mut i = count;
-    while 0 < i {
-        i -= 1;
-        b = 2 * b + (bits >> places[i]) % 2;
-    }
-    b
-}
-
 // The first n bits alone.
 fn low_bits(w: u64, n: usize) -> u64
     requires { ⌜ (1 ≤ n) × (n ≤ 64) ⌝ }
@@ -366,21 +246,84 @@ pub fn transformed(w: u64, m: usize) -> u64
     low_bits(t, 1usize << m)
 }
 
-// Message bits, each at its mask.
-fn coefficients(bits: u64, m: usize) -> u64
-    requires { ⌜ Tabled m ⌝ }
+// The eight message bits from bit `from` on, each at its mask.
+fn spread_eight(bits: u64, masks: &[u8], from: usize) -> u64
+    requires { ⌜ (from + 8 ≤ 64) × (from + 8 ≤ length (now masks)) × Below64 (now masks) ⌝ }
+    ensures { λ w. ⌜ w ≡ number 64 (laid 8 (λ k. getD (now (masks .entry)) (from + k) 0) (λ k. bits / 2 ^ (from + k) % 2)) ⌝ }
+{
+    let mut w: u64 = 0;
+    let mut k: usize = 0;
+    while k < 8 {
+        let j = from + k;
+        w = w ^ (((bits >> j) % 2) << masks[j]);
+        k += 1;
+    }
+    w
+}
+
+// The message bits of RM(r,4), each at its mask: the first eight masks are enough for r of at most 1.
+fn spread_16(bits: u64, r: usize) -> u64
+    requires { ⌜ (r ≤ 4) × (bits < 2 ^ dimension r 4) ⌝ }
+    ensures { λ w. ⌜ w ≡ number (2 ^ 4) (λ S. bits / 2 ^ place (order 4) S % 2) ⌝ }
+{
+    let a = spread_eight(bits, &ORDER_16, 0);
+    if r <= 1 {
+        return a;
+    }
+    a ^ spread_eight(bits, &ORDER_16, 8)
+}
+
+// The message bits of RM(r,5), each at its mask: the first eight masks are enough for r of at most 1.
+fn spread_32(bits: u64, r: usize) -> u64
+    requires { ⌜ (r ≤ 5) × (bits < 2 ^ dimension r 5) ⌝ }
+    ensures { λ w. ⌜ w ≡ number (2 ^ 5) (λ S. bits / 2 ^ place (order 5) S % 2) ⌝ }
+{
+    let a = spread_eight(bits, &ORDER_32, 0);
+    if r <= 1 {
+        return a;
+    }
+    a
+        ^ spread_eight(bits, &ORDER_32, 8)
+        ^ spread_eight(bits, &ORDER_32, 16)
+        ^ spread_eight(bits, &ORDER_32, 24)
+}
+
+// The message bits of RM(r,6), each at its mask: the first eight masks are enough for r of at most 1, the first 48 for r of at most 3.
+fn spread_64(bits: u64, r: usize) -> u64
+    requires { ⌜ (r ≤ 6) × (bits < 2 ^ dimension r 6) ⌝ }
+    ensures { λ w. ⌜ w ≡ number (2 ^ 6) (λ S. bits / 2 ^ place (order 6) S % 2) ⌝ }
+{
+    let a = spread_eight(bits, &ORDER_64, 0);
+    if r <= 1 {
+        return a;
+    }
+    let b = a
+        ^ spread_eight(bits, &ORDER_64, 8)
+        ^ spread_eight(bits, &ORDER_64, 16)
+        ^ spread_eight(bits, &ORDER_64, 24)
+        ^ spread_eight(bits, &ORDER_64, 32)
+        ^ spread_eight(bits, &ORDER_64, 40);
+    if r <= 3 {
+        return b;
+    }
+    b ^ spread_eight(bits, &ORDER_64, 48) ^ spread_eight(bits, &ORDER_64, 56)
+}
+
+// The message bits of RM(r,m), each at its mask.
+fn coefficients(bits: u64, m: usize, r: usize) -> u64
+    requires { ⌜ Tabled m × (r ≤ m) × (bits < 2 ^ dimension r m) ⌝ }
     ensures { λ w. ⌜ w ≡ number (2 ^ m) (λ S. bits / 2 ^ place (order m) S % 2) ⌝ }
 {
     if m == 3 {
-        return gathered(bits, &PLACE_8, 8);
+        return spread_eight(bits, &ORDER_8, 0);
     }
     if m == 4 {
-        return gathered(bits, &PLACE_16, 16);
+        return spread_16(bits, r);
     }
     if m == 5 {
-        return gathered(bits, &PLACE_32, 32);
+        return spread_32(bits, r);
     }
-    gathered(bits, &PLACE_64, 64)
+    spread_64(bits, r)
 }
 
 // The codeword of RM(r,m) of message bits.
@@ -388,7 +331,7 @@ pub fn codeword_held(bits: u64, m: usize, r: usize) -> u64
     requires { ⌜ Tabled m × (r ≤ m) × (bits < 2 ^ dimension r m) ⌝ }
     ensures { λ w. ⌜ w ≡ number (2 ^ m) (codeword r m (λ k. bits / 2 ^ k % 2)) ⌝ }
 {
-    transformed(coefficients(bits, m), m)
+    transformed(coefficients(bits, m, r), m)
 }
 
 // The masks with more than r bits set.
@@ -408,30 +351,87 @@ pub fn clear_above(bits: u64, m: usize, r: usize) -> bool
     heavies << (64 - positions(m)) == 0
 }
 
+// The bits of eight masks from place `from` of the order on.
+fn gather_eight(bits: u64, masks: &[u8], from: usize) -> u64
+    requires { ⌜ (from + 8 ≤ length (now masks)) × Below64 (now masks) ⌝ }
+    ensures { λ b. ⌜ b ≡ number 8 (λ k. bits / 2 ^ getD (now (masks .entry)) (from + k) 0 % 2) ⌝ }
+{
+    let mut b: u64 = 0;
+    let mut k: usize = 8;
+    while 0 < k {
+        k -= 1;
+        let j = from + k;
+        b = 2 * b + (bits >> masks[j]) % 2;
+    }
+    b
+}
+
+// The first `count` message bits of length 16, given the bits of the masks.
+fn gather_16(bits: u64, count: usize) -> u64
+    requires { ⌜ (1 ≤ count) × (count ≤ 2 ^ 4) ⌝ }
+    ensures { λ b. ⌜ b ≡ number count (λ k. bits / 2 ^ getD (order 4) k 0 % 2) ⌝ }
+{
+    let a = gather_eight(bits, &ORDER_16, 0);
+    if count <= 8 {
+        return low_bits(a, count);
+    }
+    let b = a + (gather_eight(bits, &ORDER_16, 8) << 8);
+    low_bits(b, count)
+}
+
+// The first `count` message bits of length 32, given the bits of the masks.
+fn gather_32(bits: u64, count: usize) -> u64
+    requires { ⌜ (1 ≤ count) × (count ≤ 2 ^ 5) ⌝ }
+    ensures { λ b. ⌜ b ≡ number count (λ k. bits / 2 ^ getD (order 5) k 0 % 2) ⌝ }
+{
+    let a = gather_eight(bits, &ORDER_32, 0);
+    if count <= 8 {
+        return low_bits(a, count);
+    }
+    let b = a
+        + (gather_eight(bits, &ORDER_32, 8) << 8)
+        + (gather_eight(bits, &ORDER_32, 16) << 16)
+        + (gather_eight(bits, &ORDER_32, 24) << 24);
+    low_bits(b, count)
+}
+
+// The first `count` message bits of length 64, given the bits of the masks.
+fn gather_64(bits: u64, count: usize) -> u64
+    requires { ⌜ (1 ≤ count) × (count ≤ 2 ^ 6) ⌝ }
+    ensures { λ b. ⌜ b ≡ number count (λ k. bits / 2 ^ getD (order 6) k 0 % 2) ⌝ }
+{
+    let a = gather_eight(bits, &ORDER_64, 0);
+    if count <= 8 {
+        return low_bits(a, count);
+    }
+    let b = a
+        + (gather_eight(bits, &ORDER_64, 8) << 8)
+        + (gather_eight(bits, &ORDER_64, 16) << 16)
+        + (gather_eight(bits, &ORDER_64, 24) << 24)
+        + (gather_eight(bits, &ORDER_64, 32) << 32)
+        + (gather_eight(bits, &ORDER_64, 40) << 40);
+    if count <= 48 {
+        return low_bits(b, count);
+    }
+    let c = b
+        + (gather_eight(bits, &ORDER_64, 48) << 48)
+        + (gather_eight(bits, &ORDER_64, 56) << 56);
+    low_bits(c, count)
+}
+
 // The first `count` message bits, given the bits of the masks: message bit k is the bit of mask k of the order.
 pub fn message_held(bits: u64, m: usize, count: usize) -> u64
-    requires { ⌜ Tabled m × (count ≤ 2 ^ m) ⌝ }
+    requires { ⌜ Tabled m × (1 ≤ count) × (count ≤ 2 ^ m) ⌝ }
     ensures { λ b. ⌜ b ≡ number count (λ k. bits / 2 ^ getD (order m) k 0 % 2) ⌝ }
 {
     if m == 3 {
-        return gathered(bits, &ORDER_8, count);
+        return low_bits(gather_eight(bits, &ORDER_8, 0), count);
     }
     if m == 4 {
-        return gathered(bits, &ORDER_16, count);
+        return gather_16(bits, count);
     }
     if m == 5 {
-        return gathered(bits, &ORDER_32, count);
+        return gather_32(bits, count);
     }
-    gathered(bits, &ORDER_64, count)
-}
-
-// Writes the message bits of RM(r,m) into `out` from bit `from` on, given the bits of the masks, and leaves every other bit as it was.
-pub fn put_message(bits: u64, m: usize, r: usize, out: &mut [u8], from: usize)
-    requires { ⌜ Tabled m × (r ≤ m) × (dimension r m ≤ 63) × (from % 8 + dimension r m ≤ 64) × (from + dimension r m ≤ 8 * length (now out)) ⌝ }
-    ensures { λ _. ⌜ now (out .exit) ≡ bytesOf (length (now (out .entry)))
-        (withBits from (dimension r m) (λ k. bits / 2 ^ getD (order m) k 0 % 2) (messageBit (now (out .entry)))) ⌝ }
-{
-    let count = dimension_of(m, r);
-    let message = message_held(bits, m, count);
-    bits::put_bits(message, count, out, from);
+    gather_64(bits, count)
 }

@@ -1,5 +1,4 @@
 -- `held_by`: `held` of the number of bytes that the tests have found. Assumes nothing.
-use mathlib.Core.Path.{_≡_}
 use borrow.Author.Needs.{needs}
 use Rattle.bits.proofs.held_by.Statement.{statement}
 use Rattle.bits.proofs.held_by.Tie as tie

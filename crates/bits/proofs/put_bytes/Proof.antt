@@ -1,5 +1,5 @@
--- `put_bytes`: the bytes below at + i are put, and w is what is above the first i. Assumes nothing.
-use Prim.Native.Nat.{ℕ, _+_, _-_, _*_, _/_, _%_, _^_, _≤_, _<_}
+-- `put_bytes`: the first i bytes are put, and w is what is above them. Assumes nothing.
+use Prim.Native.Nat.{ℕ, _+_, _-_, _*_, _/_, _^_, _≤_}
 use mathlib.Core.Path.{_≡_, sym, ap, _∙_}
 use mathlib.Core.List.{List}
 use native.Mathlib.Nat.{div-one}
@@ -7,23 +7,19 @@ use native.Mathlib.Omega.{arith}
 use lib.ListN.{length, set}
 use lib.Pow.{shr-shr}
 use borrow.Author.Needs.{needs}
-use Rattle.bits.specs.Message.{messageBit, withBits}
-use Rattle.bits.proofs.Message.{message-small, length-bytes, bytes-of-bits, with-in, with-before, with-past, with-small}
-use Rattle.bits.proofs.Digits.{digit, digit-small, digit-mod, digit-from}
-use Rattle.bits.proofs.Bytewise.{firstBytes, byte-put, none-put, all-put}
+use Rattle.bits.specs.Message.{messageBit, bytesOf, withBits}
+use Rattle.bits.proofs.Message.{length-bytes, bytes-ext, bytes-of-bits, with-none}
+use Rattle.bits.proofs.Digits.{digit, digit-mod, digit-from}
+use Rattle.bits.proofs.Bytewise.{byte-put}
 use Rattle.bits.proofs.put_bytes.Statement.{statement}
 use Rattle.bits.proofs.put_bytes.Tie as tie
 
--- the bits once they are put
-abbrev put : ℕ → ℕ → List ℕ → ℕ → ℕ → ℕ
-put bits n out at = withBits (8 * at) (8 * n) (digit bits) (messageBit out)
-
-put-small : (bits n : ℕ) (out : List ℕ) (at i : ℕ) → put bits n out at i < 2
-put-small bits n out at = with-small (8 * at) (8 * n) (digit bits) (messageBit out) (digit-small bits) (message-small out)
+-- the bytes once i of them are put
+abbrev put : ℕ → List ℕ → ℕ → ℕ → List ℕ
+put bits out at i = bytesOf (length out) (withBits (8 * at) (8 * i) (digit bits) (messageBit out))
 
 abbrev Inv-loop : tie.InvT-loop
-Inv-loop bits n out₀ at w₀ i₀ out w i =
-    (i ≤ n) × (w ≡ bits / 2 ^ (8 * i)) × (out ≡ firstBytes (length out₀) (put bits n out₀ at) (messageBit out₀) (at + i))
+Inv-loop bits n out₀ at w₀ i₀ out w i = (i ≤ n) × (w ≡ bits / 2 ^ (8 * i)) × (out ≡ put bits out₀ at i)
 
 abbrev μ-loop : tie.MeasureT-loop
 μ-loop bits n out₀ at w₀ i₀ out w i = n - i
@@ -34,13 +30,10 @@ same c = ap length (c .loop .inv .2) ∙ length-bytes (length (c .before .before
 loop-holds : tie.Need-loop-holds Inv-loop μ-loop
 loop-holds c =
     let args = c .before .args in
-    let out = args .out .now in
-    let new = put (args .bits) (args .n) out (args .at) in
-    let small = put-small (args .bits) (args .n) out (args .at) in (
+    let out = args .out .now in (
       omega arith,
       sym (div-one (args .bits)),
-      sym (none-put (length out) new (messageBit out) small (message-small out) (args .at + 0)
-          (λ q l. with-before (8 * args .at) (8 * args .n) (digit (args .bits)) (messageBit out) q (omega arith))
+      sym (bytes-ext (length out) _ (messageBit out) (λ q l. with-none (8 * args .at) (digit (args .bits)) (messageBit out) q)
           ∙ bytes-of-bits out (λ j. c .slice-known .given j .fits)),
     )
 
@@ -66,21 +59,14 @@ loop-again c =
     let args = start .args in
     let out = args .out .now in
     let i : ℕ = at .loop .i in
-    let j : ℕ = args .at + i in
-    let new = put (args .bits) (args .n) out (args .at) in
-    let small = put-small (args .bits) (args .n) out (args .at) in
-    let up : 8 * i + 8 ≡ 8 * (i + 1) = omega arith in
-    let next : j + 1 ≡ args .at + (i + 1) = omega arith in (
+    let up : 8 * i + 8 ≡ 8 * (i + 1) = omega arith in (
       omega arith,
       ap (λ (x : ℕ). x / 256) (at .loop .inv .1) ∙ shr-shr (args .bits) (8 * i) 8 ∙ ap (λ (e : ℕ). args .bits / 2 ^ e) up,
-      ap (λ (xs : List ℕ). set xs j (c .low-byte .result)) (at .loop .inv .2)
-          ∙ byte-put (length out) new (messageBit out) small (message-small out) j (omega (arith, start .pre .1)) (c .low-byte .result) (c .low-byte .ok)
+      ap (λ (xs : List ℕ). set xs (args .at + i) (c .low-byte .result)) (at .loop .inv .2)
+          ∙ byte-put (length out) (args .at) (digit (args .bits)) (messageBit out) i (omega (arith, start .pre .1)) (c .low-byte .result) (c .low-byte .ok)
           (λ p l.
-          let e : 8 * j + p ≡ 8 * args .at + (8 * i + p) = omega arith in
           ap (λ (x : ℕ). digit x p) (c .low-byte .ensures) ∙ digit-mod (at .loop .w) 8 p l ∙ ap (λ (x : ℕ). digit x p) (at .loop .inv .1)
-          ∙ digit-from (args .bits) (8 * i) p
-          ∙ sym (ap new e ∙ with-in (8 * args .at) (8 * args .n) (digit (args .bits)) (messageBit out) (8 * i + p) (omega arith)))
-          ∙ ap (firstBytes (length out) new (messageBit out)) next,
+          ∙ digit-from (args .bits) (8 * i) p),
     )
 
 same-length : tie.Need-same-length Inv-loop μ-loop
@@ -90,14 +76,8 @@ returns : tie.Need-returns Inv-loop μ-loop
 returns c =
     let at = c .before in
     let args = at .before .before .args in
-    let out = args .out .now in
-    let all : at .loop .i ≡ args .n = omega arith in (
-      at .loop .inv .2
-          ∙ all-put (length out) (put (args .bits) (args .n) out (args .at)) (messageBit out) (put-small (args .bits) (args .n) out (args .at)) (message-small out)
-          (args .at + at .loop .i)
-          (λ q l. with-past (8 * args .at) (8 * args .n) (digit (args .bits)) (messageBit out) q (omega arith)),
-      at .loop .inv .1 ∙ ap (λ (e : ℕ). args .bits / 2 ^ (8 * e)) all,
-    )
+    let all : at .loop .i ≡ args .n = omega arith in
+    (at .loop .inv .2 ∙ ap (put (args .bits) (args .out .now) (args .at)) all, at .loop .inv .1 ∙ ap (λ (e : ℕ). args .bits / 2 ^ (8 * e)) all)
 
 pub put-bytes-spec : {M : Type 1} → statement M
 put-bytes-spec =

@@ -6,7 +6,7 @@ use Rattle.reed_muller.proofs.codeword_held.Statement.{statement}
 use Rattle.reed_muller.proofs.codeword_held.Tie as tie
 
 coefficients-requires : tie.Need-coefficients-requires
-coefficients-requires c κs = c .pre .0
+coefficients-requires c κs = c .pre
 
 transformed-requires : tie.Need-transformed-requires
 transformed-requires c κs = omega arith

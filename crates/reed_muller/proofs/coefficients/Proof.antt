@@ -1,68 +1,65 @@
--- `coefficients`: the bits at the places of the masks, by the table of each length. Assumes nothing.
-use mathlib.Core.Path.{_≡_, refl, _∙_}
+-- `coefficients`: the message bits laid at their masks, by the table of each length. Assumes nothing.
+use Prim.Native.Nat.{ℕ, _^_, _≤_, _<_}
+use mathlib.Core.Path.{_≡_, refl, subst}
+use native.Mathlib.Omega.{arith}
 use borrow.Author.Needs.{needs}
-use Rattle.reed_muller.proofs.MaskTables.{right-8, right-16, right-32, right-64, places-within, by-places, last}
+use Rattle.reed_muller.specs.Level.{dimension}
+use Rattle.reed_muller.proofs.MaskTables.{right-8, below-64, last}
+use Rattle.reed_muller.proofs.Laid.{spread-first, spread-all}
 use Rattle.reed_muller.proofs.coefficients.Statement.{statement}
 use Rattle.reed_muller.proofs.coefficients.Tie as tie
 
-slice-aggregate-gathered : tie.Need-slice-aggregate-gathered
-slice-aggregate-gathered c = search needs
+-- the message fits where m is the length n of a table
+fits : {m n : ℕ} → m ≡ n → {r bits : ℕ} → r ≤ m → bits < 2 ^ dimension r m → (r ≤ n) × (bits < 2 ^ dimension r n)
+fits e {r} {bits} h few = subst (λ (x : ℕ). (r ≤ x) × (bits < 2 ^ dimension r x)) e (h, few)
 
-gathered-requires : tie.Need-gathered-requires
-gathered-requires c κs = places-within (c .before .if1 .taken) (c .before .before .pre) refl
+slice-aggregate-spread-eight : tie.Need-slice-aggregate-spread-eight
+slice-aggregate-spread-eight c = search needs
+
+spread-eight-requires : tie.Need-spread-eight-requires
+spread-eight-requires c κs = (omega arith, omega arith, below-64 refl)
 
 returns : tie.Need-returns
 returns c =
-    let at = c .before .before in c .gathered .ensures ∙ by-places (at .if1 .taken) right-8 (at .before .args .bits)
+    let at = c .before .before in
+    let start = at .before in
+    let few = fits (at .if1 .taken) (start .pre .1) (start .pre .2) in
+    let all = spread-first right-8 (start .args .bits) (few .0) (few .1) (c .spread-eight .ensures) in
+    rw (at .if1 .taken) (spread-all all 3 (omega arith) (omega arith) (omega arith) (few .0))
 
-slice-aggregate-gathered-2 : tie.Need-slice-aggregate-gathered-2
-slice-aggregate-gathered-2 c = search needs
-
-gathered-requires-2 : tie.Need-gathered-requires-2
-gathered-requires-2 c κs = places-within (c .before .if2 .taken) (c .before .before .before .pre) refl
+spread-16-requires : tie.Need-spread-16-requires
+spread-16-requires c κs = let start = c .before .before in fits (c .if2 .taken) (start .pre .1) (start .pre .2)
 
 returns-2 : tie.Need-returns-2
-returns-2 c =
-    let at = c .before .before in c .gathered2 .ensures ∙ by-places (at .if2 .taken) right-16 (at .before .before .args .bits)
+returns-2 c = rw (c .before .if2 .taken) (c .spread-16 .ensures)
 
-slice-aggregate-gathered-3 : tie.Need-slice-aggregate-gathered-3
-slice-aggregate-gathered-3 c = search needs
-
-gathered-requires-3 : tie.Need-gathered-requires-3
-gathered-requires-3 c κs = places-within (c .before .if3 .taken) (c .before .before .before .before .pre) refl
+spread-32-requires : tie.Need-spread-32-requires
+spread-32-requires c κs = let start = c .before .before .before in fits (c .if3 .taken) (start .pre .1) (start .pre .2)
 
 returns-3 : tie.Need-returns-3
-returns-3 c =
-    let at = c .before .before in c .gathered3 .ensures ∙ by-places (at .if3 .taken) right-32 (at .before .before .before .args .bits)
+returns-3 c = rw (c .before .if3 .taken) (c .spread-32 .ensures)
 
 -- the tests leave the last length
 is-last : (c : tie.Else3) → c .before .before .before .args .m ≡ 6
 is-last c =
-    let start = c .before .before .before in last (start .pre) (c .before .before .if1 .left) (c .before .if2 .left) (c .if3 .left)
+    let start = c .before .before .before in last (start .pre .0) (c .before .before .if1 .left) (c .before .if2 .left) (c .if3 .left)
 
-slice-aggregate-gathered-4 : tie.Need-slice-aggregate-gathered-4
-slice-aggregate-gathered-4 c = search needs
-
-gathered-requires-4 : tie.Need-gathered-requires-4
-gathered-requires-4 c κs = places-within (is-last (c .before)) (c .before .before .before .before .pre) refl
+spread-64-requires : tie.Need-spread-64-requires
+spread-64-requires c κs = let start = c .before .before .before in fits (is-last c) (start .pre .1) (start .pre .2)
 
 returns-4 : tie.Need-returns-4
-returns-4 c =
-    let at = c .before .before in c .gathered4 .ensures ∙ by-places (is-last at) right-64 (at .before .before .before .args .bits)
+returns-4 c = rw (is-last (c .before)) (c .spread-64 .ensures)
 
 pub coefficients-spec : {M : Type 1} → statement M
 coefficients-spec =
     tie.close
     (tie.spec
-    slice-aggregate-gathered
-    gathered-requires
+    slice-aggregate-spread-eight
+    spread-eight-requires
     returns
-    slice-aggregate-gathered-2
-    gathered-requires-2
+    spread-16-requires
     returns-2
-    slice-aggregate-gathered-3
-    gathered-requires-3
+    spread-32-requires
     returns-3
-    slice-aggregate-gathered-4
-    gathered-requires-4
+    spread-64-requires
     returns-4)

@@ -1,0 +1,44 @@
+-- `spread_16`: eight masks are enough for r of at most 1, and 16 are all. Assumes nothing.
+use mathlib.Core.Path.{refl}
+use native.Mathlib.Omega.{arith}
+use borrow.Author.Needs.{needs}
+use Rattle.reed_muller.proofs.MaskTables.{right-16, below-64}
+use Rattle.reed_muller.proofs.Laid.{Spread, spread-first, spread-next, spread-all}
+use Rattle.reed_muller.proofs.spread_16.Statement.{statement}
+use Rattle.reed_muller.proofs.spread_16.Tie as tie
+
+slice-aggregate-spread-eight : tie.Need-slice-aggregate-spread-eight
+slice-aggregate-spread-eight c = search needs
+
+spread-eight-requires : tie.Need-spread-eight-requires
+spread-eight-requires c κs = (omega arith, omega arith, below-64 refl)
+
+-- the number once the bits of the first eight masks, the first sixteen, and so on are laid
+abbrev to-8 : tie.After-spread-eight → Spread right-16 8
+to-8 c = let start = c .before .before in spread-first right-16 (start .args .bits) (start .pre .0) (start .pre .1) (c .spread-eight .ensures)
+
+returns : tie.Need-returns
+returns c = spread-all (to-8 (c .before)) 1 (omega arith) (omega arith) (omega arith) (c .if1 .taken)
+
+slice-aggregate-spread-eight-2 : tie.Need-slice-aggregate-spread-eight-2
+slice-aggregate-spread-eight-2 c = search needs
+
+spread-eight-requires-2 : tie.Need-spread-eight-requires-2
+spread-eight-requires-2 c κs = (omega arith, omega arith, below-64 refl)
+
+abbrev to-16 : tie.After-spread-eight2 → Spread right-16 16
+to-16 c = spread-next (to-8 (c .before .before .before)) (c .spread-eight2 .ensures)
+
+returns-2 : tie.Need-returns-2
+returns-2 c = spread-all (to-16 c) 4 (omega arith) (omega arith) (omega arith) (to-16 c .degree)
+
+pub spread-16-spec : {M : Type 1} → statement M
+spread-16-spec =
+    tie.close
+    (tie.spec
+    slice-aggregate-spread-eight
+    spread-eight-requires
+    returns
+    slice-aggregate-spread-eight-2
+    spread-eight-requires-2
+    returns-2)
