@@ -18,6 +18,7 @@ use Rattle.integers.specs.Integer.{modZ}
 use Rattle.integers.proofs.Zed.{#_, _⊖_, _⊗_, eq!, tz, sfits-to}
 use Rattle.e8.specs.Energy.{Within}
 use Rattle.e8.specs.Lattice.{bit}
+use Rattle.e8.proofs.Within.{within-at}
 use Rattle.coordinates.proofs.Size.{fits, abs! }
 use Rattle.coordinates.proofs.Rest.{quadruple, Scale, scale}
 use Rattle.coordinates.proofs.Reading.{read, plain, plain-size, power-read, power-size}
@@ -243,12 +244,6 @@ at-whole-cost c = c .before .before .before
 abbrev at-half-cost : tie.After-half-cost → tie.After-candidate2
 at-half-cost c = at-whole-cost (c .before .before)
 
-abbrev at-whole-head : tie.After-whole-first-arg → tie.After-candidate2
-at-whole-head c = at-half-cost (c .before)
-
-abbrev at-half-head : tie.After-whole-first-arg2 → tie.After-candidate2
-at-half-head c = at-whole-head (c .before)
-
 -- what each call gives
 
 whole-part : (c : tie.After-candidate) → let d = at-candidate c in c .candidate .result ≡ wholePart (H-here d) (is-odd d) (block d)
@@ -271,17 +266,7 @@ half-cost-is c =
     tz refl (record { sfits = c .half-cost .ok }) ∙ c .half-cost .ensures
     ∙ (λ j. pos 4 *ℤ height-is y j +ℤ cond (ltZ (pos 0) (half-odd-read d j)) (pos 2 *ℤ shrZ (low-read y j) 16) (pos 0)) ∙ known-here d .half-cost
 
--- the first coordinates
-
-whole-head : (c : tie.After-whole-first-arg) → let w = at-whole-head c .before .before in let d = at-candidate w in
-    read (getD (w .candidate .result) 0 (pos 0)) ≡ getD (wholePart (H-here d) (is-odd d) (block d)) 0 (pos 0)
-whole-head c = tz refl (record { sfits = c .whole-first-arg .given }) ∙ ap (λ l. getD l 0 (pos 0)) (whole-part (at-whole-head c .before .before))
-
-half-head : (c : tie.After-whole-first-arg2) → let w = at-half-head c in let d = at-candidate2 w in
-    read (getD (w .candidate2 .result) 0 (pos 0)) ≡ getD (halfPart (H-here d) (half-is-odd d) (block d)) 0 (pos 0)
-half-head c = tz refl (record { sfits = c .whole-first-arg2 .given }) ∙ ap (λ l. getD l 0 (pos 0)) (half-part (at-half-head c))
-
--- ---- the candidates' coordinates are small
+-- ---- the candidates' coordinates are small, and the first of them
 
 whole-within : (c : tie.After-candidate) → Within (2 ^ 8) (c .candidate .result)
 whole-within c =
@@ -293,6 +278,17 @@ half-within c =
     let d = at-candidate2 c in
     subst (Within (2 ^ 8)) (sym (c .candidate2 .ensures))
     (members-within (read (back d)) (height (z d)) _ 0 (block d) (back-low-here d) (height-size (z d)) (known-here d .block-size))
+
+head-read : (v : List ℤ) → Within (2 ^ 8) v → read (getD v 0 (pos 0)) ≡ getD v 0 (pos 0)
+head-read v w = plain (getD v 0 (pos 0)) (omega (arith, within-at (2 ^ 8) v 0 w))
+
+whole-head : (c : tie.After-candidate) → let d = at-candidate c in
+    read (getD (c .candidate .result) 0 (pos 0)) ≡ getD (wholePart (H-here d) (is-odd d) (block d)) 0 (pos 0)
+whole-head c = head-read (c .candidate .result) (whole-within c) ∙ ap (λ v. getD v 0 (pos 0)) (whole-part c)
+
+half-head : (c : tie.After-candidate2) → let d = at-candidate2 c in
+    read (getD (c .candidate2 .result) 0 (pos 0)) ≡ getD (halfPart (H-here d) (half-is-odd d) (block d)) 0 (pos 0)
+half-head c = head-read (c .candidate2 .result) (half-within c) ∙ ap (λ v. getD v 0 (pos 0)) (half-part c)
 
 -- a truth value as a number
 truth : (t : Bool) → toZ w32 (boolByte t) ≡ pos (bit t)
@@ -360,23 +356,21 @@ cast-chosen c = tt
 chosen-requires : tie.Need-chosen-requires
 chosen-requires c κs =
     let t = c .whole-first .result in
-    let half = at-half-head (c .before) in
+    let half = at-half-cost (c .before .before .before) in
     (truth t ∙ ap (λ u. pos (bit u)) (sym (truth-test t)), whole-within (half .before .before), half-within half)
 
 returns : tie.Need-returns
 returns c =
     let first = c .before in
-    let head2 = first .before in
-    let head = head2 .before in
-    let cost2 = head .before in
+    let cost2 = first .before .before .before in
     let cost = cost2 .before .before in
-    let half = at-half-head head2 in
+    let half = at-whole-cost cost in
     let whole = half .before .before in
     let t = first .whole-first .result in
     c .chosen .ensures ∙ ap (λ u. cond u (whole .candidate .result) (half .candidate2 .result)) (truth-test t)
     ∙ ap₂ (cond t) (whole-part whole) (half-part half)
     ∙ known-here (at-candidate whole) .two .least t
-    (first .whole-first .ensures ∙ (λ j. wholeFirst (whole-cost-is cost j) (whole-head head j) (half-cost-is cost2 j) (half-head head2 j)))
+    (first .whole-first .ensures ∙ (λ j. wholeFirst (whole-cost-is cost j) (whole-head whole j) (half-cost-is cost2 j) (half-head half j)))
 
 pub least-spec : {M : Type 1} → statement M
 least-spec =
