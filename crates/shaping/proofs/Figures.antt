@@ -4,9 +4,11 @@ use mathlib.Core.Bool.{Bool, true, false, cond}
 use mathlib.Core.List.{List, [], _∷_}
 use Prim.Native.Nat.{ℕ, zero, suc, _*_, _^_, _<_, _≤_}
 use native.Mathlib.Omega.{arith}
+use lib.Dec.{eqb}
 use lib.ListN.{length, drop, getD, set}
 use lib.Seq.{drop-cons}
 use lib.IntN.{ℤ, pos, _+ℤ_, _-ℤ_, natAbs}
+use lib.Signed.{ltZ}
 use Rattle.integers.specs.Integer.{modZ}
 use Rattle.integers.proofs.Zed.{`_, #_, _⊕_, _⊖_, eq! }
 use Rattle.integers.proofs.Floor.{modZ-lt}
@@ -15,7 +17,7 @@ use Rattle.e8.specs.Least.{cent}
 use Rattle.e8.proofs.Cent.{range-abs, cent-range}
 use Rattle.coordinates.proofs.Size.{sum-abs, less-abs}
 use Rattle.coordinates.proofs.Rest.{Scale}
-use Rattle.shaping.specs.Rounded.{rounded, off, floors, sizes}
+use Rattle.shaping.specs.Rounded.{across, rankOf, rounded, off, floors, sizes, members}
 
 -- ---- one coordinate more
 
@@ -71,7 +73,20 @@ pub either : (t : Bool) (x y : ℤ) (B : ℕ) → natAbs x ≤ B → natAbs y �
 either true x y B h k = h
 either false x y B h k = k
 
--- ---- how large they are, at a scale that the code takes
+-- ---- how large the coordinates of a candidate are
+
+across-size : (m c : ℤ) → natAbs m ≤ 2 ^ 7 → natAbs c ≤ 2 ^ 7 → natAbs (across m c) ≤ 2 ^ 8
+across-size m c h k = either (ltZ c (pos 0)) (c +ℤ m) (c -ℤ m) (2 ^ 8) (sum-abs c m (2 ^ 7) (2 ^ 7) k h) (less-abs c m (2 ^ 7) (2 ^ 7) k h)
+
+pub members-within : (at elsewhere : ℤ) (t i : ℕ) (cs : List ℤ) → natAbs at ≤ 2 ^ 7 → natAbs elsewhere ≤ 2 ^ 7 → Within (2 ^ 7) cs
+    → Within (2 ^ 8) (members at elsewhere t i cs)
+members-within at elsewhere t i [] a b w = tt
+members-within at elsewhere t i (c ∷ cs) a b w = (
+  across-size (cond (eqb (rankOf c i) t) at elsewhere) c (either (eqb (rankOf c i) t) at elsewhere (2 ^ 7) a b) (w .0),
+  members-within at elsewhere t (suc i) cs a b (w .1),
+)
+
+-- ---- how large the figures are, at a scale that the code takes
 
 module _ {H : ℕ} (s : Scale H) where
   pub cent-low : (x : ℤ) → natAbs (cent H x) ≤ 2 ^ 6

@@ -249,18 +249,12 @@ wholeCost H odd rs = sizes rs + bit odd * (2 * H - 2 * (highest rs 0 / 16))
 abbrev pub halfCost : ℕ → Bool → List ℤ → ℕ
 halfCost H odd rs = 4 * H + bit odd * (2 * (lowest rs 0 / 16))
 
--- the candidates and their first coordinates
+-- the candidates
 abbrev pub wholePart : ℕ → Bool → List ℤ → List ℤ
 wholePart H odd rs = members (left H odd) (pos 0) (highest rs 0) 0 rs
 
 abbrev pub halfPart : ℕ → Bool → List ℤ → List ℤ
 halfPart H odd rs = members (pos H -ℤ left H odd) (pos H) (lowest rs 0) 0 rs
-
-abbrev pub wholeHead : ℕ → Bool → List ℤ → ℤ
-wholeHead H odd rs = memberOf (left H odd) (pos 0) (highest rs 0) (getD rs 0 (pos 0)) 0
-
-abbrev pub halfHead : ℕ → Bool → List ℤ → ℤ
-halfHead H odd rs = memberOf (pos H -ℤ left H odd) (pos H) (lowest rs 0) (getD rs 0 (pos 0)) 0
 
 -- what is known of the two candidates of a block xs that is rounded to rs: the sums of what came off, the ranks, and which of the two is the least block
 pub record Two (H : ℕ) (xs rs : List ℤ) : Type 0 where
@@ -270,7 +264,8 @@ pub record Two (H : ℕ) (xs rs : List ℤ) : Type 0 where
   pub half-left : pos (modZ (floors H xs) (2 * (2 * H))) ≡ left H half-odd
   pub top-low : highest rs 0 ≤ 16 * H + 15
   pub low-low : lowest rs 0 ≤ 16 * H + 15
-  pub least : (t : Bool) → t ≡ wholeFirst (pos (wholeCost H odd rs)) (wholeHead H odd rs) (pos (halfCost H half-odd rs)) (halfHead H half-odd rs)
+  pub least : (t : Bool)
+      → t ≡ wholeFirst (pos (wholeCost H odd rs)) (getD (wholePart H odd rs) 0 (pos 0)) (pos (halfCost H half-odd rs)) (getD (halfPart H half-odd rs) 0 (pos 0))
       → cond t (wholePart H odd rs) (halfPart H half-odd rs) ≡ leastBlock H xs
 
 -- more and less by M times as much
@@ -364,14 +359,6 @@ module _ (H : ℕ) (xs : List ℤ) (h : 0 < H) (l : length xs ≡ 8) where
       members-half H by (lowest rs 0) half-top 0 rs r ranks (omega (arith, eight))
       ∙ members-changed by half-top 0 ds (omega (arith, half-eight)) (omega arith) (halved .taken) ∙ halved .is
 
-  whole-head : getD a 0 (pos 0) ≡ wholeHead H (whole .odd) rs
-  whole-head = ap (λ v. getD v 0 (pos 0)) (sym whole-is) ∙ members-at (left H (whole .odd)) (pos 0) top 0 rs 0 (omega (arith, eight))
-
-  half-head : getD b 0 (pos 0) ≡ halfHead H (halved .odd) rs
-  half-head =
-      ap (λ v. getD v 0 (pos 0)) (sym half-is)
-      ∙ members-at (pos H -ℤ left H (halved .odd)) (pos H) (lowest rs 0) 0 rs 0 (omega (arith, eight))
-
   pub two : Two H xs rs
   two = record {
     odd = whole .odd;
@@ -385,6 +372,6 @@ module _ (H : ℕ) (xs : List ℤ) (h : 0 < H) (l : length xs ≡ 8) where
         let e₂ : ℕ = halfCost H (halved .odd) rs in
         let g = compare M e₁ e₂ (energy a) (energy b) (M * sizes rs) (energy rs) (omega arith) whole-energy half-energy in
         let f : wholeFirst (pos (energy a)) (getD a 0 (pos 0)) (pos (energy b)) (getD b 0 (pos 0)) ≡ t =
-        (λ j. cond (ltZ (whole-head j) (half-head j)) (g .0 j) (g .1 j)) ∙ sym e in
+        (λ j. cond (ltZ (getD (sym whole-is j) 0 (pos 0)) (getD (sym half-is j) 0 (pos 0))) (g .0 j) (g .1 j)) ∙ sym e in
         ap₂ (cond t) whole-is half-is ∙ ap (λ u. cond u a b) (sym f) ∙ least-is H xs (energy a) (energy b) h (omega arith) refl refl;
   }

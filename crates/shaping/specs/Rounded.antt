@@ -7,7 +7,6 @@ use mathlib.Core.List.{List, [], _∷_}
 use Prim.Native.Nat.{ℕ, suc, _+_, _*_, _-_}
 use lib.Dec.{eqb, ltb}
 use lib.IntN.{ℤ, pos, _+ℤ_, _-ℤ_, natAbs}
-use lib.ListN.{take, drop}
 use lib.Signed.{ltZ, leZ}
 use Rattle.integers.specs.Integer.{modZ}
 use Rattle.e8.specs.Least.{cent}
@@ -40,17 +39,7 @@ smallerOf a b = cond (ltZ a b) a b
 abbrev pub among : (ℤ → ℤ → ℤ) → List ℤ → ℤ
 among f [] = pos 0
 among f (x ∷ []) = x
-among f (x ∷ y ∷ ys) = f x (among f (y ∷ ys))
-
--- two lists place by place
-abbrev pub zipped : (ℤ → ℤ → ℤ) → List ℤ → List ℤ → List ℤ
-zipped f [] ys = []
-zipped f (x ∷ xs) [] = []
-zipped f (x ∷ xs) (y ∷ ys) = f x y ∷ zipped f xs ys
-
--- the first four of eight with the last four: place i with place i + 4
-abbrev pub halved : (ℤ → ℤ → ℤ) → List ℤ → List ℤ
-halved f r = zipped f (take 4 r) (drop 4 r)
+among f (x ∷ y ∷ ys) = f (among f (y ∷ ys)) x
 
 -- every coordinate rounded
 abbrev pub rounded : ℕ → List ℤ → List ℤ

@@ -7,18 +7,19 @@ ghost use lib.ListN.{length};
 ghost use lib.IntN.{pos, natAbs, _+ℤ_, _-ℤ_, _*ℤ_};
 ghost use lib.Signed.{ltZ, shrZ};
 ghost use Rattle.e8.specs.Energy.{Within};
+ghost use Rattle.e8.specs.Lattice.{bit};
 ghost use Rattle.e8.specs.Least.{leastBlock, leastFrame};
-ghost use Rattle.shaping.specs.Rounded.{across, wholeFirst, rankOf, ranksOf, largerOf, smallerOf, among, halved, memberOf, members, Rounded};
+ghost use Rattle.shaping.specs.Rounded.{across, wholeFirst, rankOf, ranksOf, largerOf, smallerOf, among, memberOf, members, Rounded};
 
 // The larger of two.
-fn larger(a: i32, b: i32) -> i32
+fn larger(a: i16, b: i16) -> i16
     ensures { λ r. ⌜ r ≡ largerOf a b ⌝ }
 {
     if a < b { b } else { a }
 }
 
 // The smaller of two.
-fn smaller(a: i32, b: i32) -> i32
+fn smaller(a: i16, b: i16) -> i16
     ensures { λ r. ⌜ r ≡ smallerOf a b ⌝ }
 {
     if a < b { a } else { b }
@@ -79,67 +80,47 @@ fn whole_first(e: i32, c: i32, f: i32, d: i32) -> bool
     if c < d { e <= f } else { e < f }
 }
 
-// The ranks of a block's coordinates.
-fn ranks(c: [i32; 8]) -> [i32; 8]
+// The ranks of a block's coordinates. No rank passes 16·2^7 + 15, so that i16 has room for it: the compiler then keeps all eight in one register.
+fn ranks(c: [i32; 8]) -> [i16; 8]
     requires { ⌜ Within (2 ^ 7) c ⌝ }
     ensures { λ r. ⌜ r ≡ ranksOf c 0 ⌝ }
 {
-    let mut r = c;
+    let mut r = [0i16; 8];
     let mut i: usize = 0;
     while i < 8 {
         let z = c[i];
-        r[i] = rank(z, i);
+        r[i] = rank(z, i) as i16;
         i += 1;
     }
     r
 }
 
-// The larger of each of the first four and the one four places on. The largest of eight is found by halves: four are compared at once.
-fn larger_half(r: [i32; 8]) -> [i32; 4]
-    ensures { λ t. ⌜ t ≡ halved largerOf r ⌝ }
-{
-    let mut t = [0i32; 4];
-    let mut i: usize = 0;
-    while i < 4 {
-        let j = i + 4;
-        let a = r[i];
-        let b = r[j];
-        t[i] = larger(a, b);
-        i += 1;
-    }
-    t
-}
-
-// The smaller of each of the first four and the one four places on.
-fn smaller_half(r: [i32; 8]) -> [i32; 4]
-    ensures { λ t. ⌜ t ≡ halved smallerOf r ⌝ }
-{
-    let mut t = [0i32; 4];
-    let mut i: usize = 0;
-    while i < 4 {
-        let j = i + 4;
-        let a = r[i];
-        let b = r[j];
-        t[i] = smaller(a, b);
-        i += 1;
-    }
-    t
-}
-
-// The largest of eight.
-fn largest(r: [i32; 8]) -> i32
+// The largest of eight, from the last to the first.
+fn largest(r: [i16; 8]) -> i16
     ensures { λ n. ⌜ n ≡ among largerOf r ⌝ }
 {
-    let t = larger_half(r);
-    larger(larger(t[0], t[2]), larger(t[1], t[3]))
+    let mut m = r[7];
+    let mut i: usize = 7;
+    while 0 < i {
+        i -= 1;
+        let a = r[i];
+        m = larger(m, a);
+    }
+    m
 }
 
-// The smallest of eight.
-fn smallest(r: [i32; 8]) -> i32
+// The smallest of eight, likewise.
+fn smallest(r: [i16; 8]) -> i16
     ensures { λ n. ⌜ n ≡ among smallerOf r ⌝ }
 {
-    let t = smaller_half(r);
-    smaller(smaller(t[0], t[2]), smaller(t[1], t[3]))
+    let mut m = r[7];
+    let mut i: usize = 7;
+    while 0 < i {
+        i -= 1;
+        let a = r[i];
+        m = smaller(m, a);
+    }
+    m
 }
 
 // A block with every coordinate rounded, and what is to be known of it to choose the one to change, in the whole part and in the half part.
@@ -177,8 +158,8 @@ fn round(k: u32, h: i32, x: [i32; 8]) -> RoundedBlock
         sum,
         halves,
         sizes,
-        top: largest(ranks(r)),
-        low: smallest(ranks(r)),
+        top: largest(ranks(r)) as i32,
+        low: smallest(ranks(r)) as i32,
     }
 }
 
@@ -205,6 +186,30 @@ fn candidate(at: i32, elsewhere: i32, t: i32, c: [i32; 8]) -> [i32; 8]
     r
 }
 
+// One of two numbers: a where t is 1, b where it is 0. By a product, of which the compiler makes no branch.
+fn pick(t: i32, a: i32, b: i32) -> i32
+    requires { ⌜ (t ≡ pos (bit (ltZ (pos 0) t))) × (natAbs a ≤ 2 ^ 8) × (natAbs b ≤ 2 ^ 8) ⌝ }
+    ensures { λ r. ⌜ r ≡ cond (ltZ (pos 0) t) a b ⌝ }
+{
+    b + (a - b) * t
+}
+
+// One of two blocks, likewise, coordinate by coordinate.
+fn chosen(t: i32, a: [i32; 8], b: [i32; 8]) -> [i32; 8]
+    requires { ⌜ (t ≡ pos (bit (ltZ (pos 0) t))) × Within (2 ^ 8) a × Within (2 ^ 8) b ⌝ }
+    ensures { λ r. ⌜ r ≡ cond (ltZ (pos 0) t) a b ⌝ }
+{
+    let mut r = a;
+    let mut i: usize = 0;
+    while i < 8 {
+        let x = a[i];
+        let y = b[i];
+        r[i] = pick(t, x, y);
+        i += 1;
+    }
+    r
+}
+
 // The member of a block's class that is sent, for the scale M = 2^(k + 1): the better of the whole part and the half part.
 pub fn least(k: u32, x: [i32; 8]) -> [i32; 8]
     requires { ⌜ (k ≤ 6) × Within (2 ^ 24) x ⌝ }
@@ -214,23 +219,13 @@ pub fn least(k: u32, x: [i32; 8]) -> [i32; 8]
     let q = round(k, h, x);
     let odd = coordinates::remainder(k + 2, q.sum);
     let half_odd = coordinates::remainder(k + 2, q.halves);
-    let at = h - half_odd;
     let b = q.block;
-    let c = b[0];
+    let whole = candidate(odd, 0, q.top, b);
+    let half = candidate(h - half_odd, h, q.low, b);
     let e = whole_cost(h, q.sizes, odd, q.top);
     let f = half_cost(h, half_odd, q.low);
-    let t = whole_first(
-        e,
-        member(odd, 0, q.top, c, 0),
-        f,
-        member(at, h, q.low, c, 0),
-    );
-    candidate(
-        choose(t, odd, at),
-        choose(t, 0, h),
-        choose(t, q.top, q.low),
-        b,
-    )
+    let t = whole_first(e, whole[0], f, half[0]);
+    chosen(t as i32, whole, half)
 }
 
 // Shapes a frame in place, block by block, for the scale M = 2^(k + 1).

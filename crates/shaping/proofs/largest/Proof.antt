@@ -1,79 +1,79 @@
--- `largest` meets its contract
-use mathlib.Core.Path.{_≡_, refl, _∙_, ap₂}
-use Prim.Native.Nat.{ℕ}
-use lib.IntN.{ℤ, pos}
-use lib.ListN.{length, getD}
+-- `largest` meets its contract. After the loop came to place i, m is the largest from i on
+use mathlib.Core.Path.{_≡_, refl, sym, _∙_, ap, ap₂}
+use Prim.Native.Nat.{ℕ, suc, _-_, _≤_}
+use native.Mathlib.Omega.{arith}
+use lib.ListN.{length, drop}
+use mir.Syntax.{w16}
+use mir.Val.{toZ}
 use borrow.Author.Needs.{needs}
 use Rattle.integers.proofs.Zed.{tz}
-use Rattle.coordinates.proofs.Reading.{read}
-use Rattle.shaping.proofs.Ranking.{larger-joins, by-halves}
-use Rattle.shaping.specs.Rounded.{largerOf}
+use Rattle.shaping.proofs.Ranking.{among-last, among-more}
+use Rattle.shaping.specs.Rounded.{largerOf, among}
 use Rattle.shaping.proofs.largest.Statement.{statement}
 use Rattle.shaping.proofs.largest.Tie as tie
 
-eight : (s : tie.Start) → length (s .args .r) ≡ 8
-eight s = search needs
+abbrev Inv-loop : tie.InvT-loop
+Inv-loop r m₀ i₀ m i = (i ≤ 7) × (toZ w16 m ≡ among largerOf (drop i r))
 
--- the four that are left
-abbrev z : tie.After-larger-half → ℕ → ℤ
-z h i = getD (h .larger-half .result) i (pos 0)
+abbrev μ-loop : tie.MeasureT-loop
+μ-loop r m₀ i₀ m i = i
 
-first : (c : tie.After-larger) → let h = c .before .before .before in read (c .larger .result) ≡ largerOf (z h 0) (z h 2)
-first c =
-    let h = c .before .before .before in
-    let x : read (z h 0) ≡ z h 0 = tz refl (record { sfits = c .before .before .larger-arg .given }) in
-    let y : read (z h 2) ≡ z h 2 = tz refl (record { sfits = c .before .larger-arg2 .given }) in
-    tz refl (record { sfits = c .larger .ok }) ∙ c .larger .ensures ∙ ap₂ largerOf x y
+module _ (s : tie.Start Inv-loop μ-loop) where
+  eight : length (s .args .t1) ≡ 8
+  eight = search needs
 
-second : (c : tie.After-larger2) → let h = c .before .before .before .before .before .before in read (c .larger2 .result) ≡ largerOf (z h 1) (z h 3)
-second c =
-    let h = c .before .before .before .before .before .before in
-    let x : read (z h 1) ≡ z h 1 = tz refl (record { sfits = c .before .before .larger-arg3 .given }) in
-    let y : read (z h 3) ≡ z h 3 = tz refl (record { sfits = c .before .larger-arg4 .given }) in
-    tz refl (record { sfits = c .larger2 .ok }) ∙ c .larger2 .ensures ∙ ap₂ largerOf x y
+array-copy-out-m : tie.Need-array-copy-out-m Inv-loop μ-loop
+array-copy-out-m c = search needs
 
-larger-half-requires : tie.Need-larger-half-requires
-larger-half-requires c κs = search needs
+loop-holds : tie.Need-loop-holds Inv-loop μ-loop
+loop-holds c =
+    let s = c .before in
+    (omega arith, tz refl (record { sfits = c .m .given }) ∙ among-last largerOf (s .args .t1) 7 (sym (eight s)))
 
-array-copy-out-larger : tie.Need-array-copy-out-larger
-array-copy-out-larger c = search needs
+sub-i : tie.Need-sub-i Inv-loop μ-loop
+sub-i c = omega arith
 
-array-copy-out-larger-2 : tie.Need-array-copy-out-larger-2
-array-copy-out-larger-2 c = search needs
+mul-a : tie.Need-mul-a Inv-loop μ-loop
+mul-a c = search needs
 
-larger-requires : tie.Need-larger-requires
+array-copy-out-a : tie.Need-array-copy-out-a Inv-loop μ-loop
+array-copy-out-a c = search needs
+
+larger-requires : tie.Need-larger-requires Inv-loop μ-loop
 larger-requires c κs = search needs
 
-array-copy-out-larger-3 : tie.Need-array-copy-out-larger-3
-array-copy-out-larger-3 c = search needs
+loop-less : tie.Need-loop-less Inv-loop μ-loop
+loop-less c = omega arith
 
-array-copy-out-larger-4 : tie.Need-array-copy-out-larger-4
-array-copy-out-larger-4 c = search needs
+loop-again : tie.Need-loop-again Inv-loop μ-loop
+loop-again c =
+    let l = c .before .before .before in
+    let r = l .before .before .args .t1 in
+    let j = l .loop .i - 1 in
+    let next : l .loop .i ≡ suc j = omega arith in (
+      omega arith,
+      tz refl (record { sfits = c .larger .ok }) ∙ c .larger .ensures
+          ∙ ap₂ largerOf (l .loop .inv .1 ∙ ap (λ (n : ℕ). among largerOf (drop n r)) next) (tz refl (record { sfits = c .before .a .given }))
+          ∙ among-more largerOf r j (omega (arith, eight (l .before .before))),
+    )
 
-larger-requires-2 : tie.Need-larger-requires-2
-larger-requires-2 c κs = search needs
-
-larger-requires-3 : tie.Need-larger-requires-3
-larger-requires-3 c κs = search needs
-
-returns : tie.Need-returns
+returns : tie.Need-returns Inv-loop μ-loop
 returns c =
-    let b = c .before in
-    let a = b .before .before .before in
-    let h = a .before .before .before in
-    tz refl (record { sfits = c .larger3 .ok }) ∙ c .larger3 .ensures ∙ ap₂ largerOf (first a) (second b)
-    ∙ by-halves largerOf larger-joins (h .before .args .r) (h .larger-half .result) (eight (h .before)) (h .larger-half .ensures)
+    let l = c .before in
+    l .loop .inv .1 ∙ ap (λ (n : ℕ). among largerOf (drop n (l .before .before .args .t1))) {x = l .loop .i} {y = 0} (omega arith)
 
 pub largest-spec : {M : Type 1} → statement M
 largest-spec =
     tie.close
     (tie.spec
-    larger-half-requires
-    array-copy-out-larger
-    array-copy-out-larger-2
+    Inv-loop
+    μ-loop
+    array-copy-out-m
+    loop-holds
+    sub-i
+    mul-a
+    array-copy-out-a
     larger-requires
-    array-copy-out-larger-3
-    array-copy-out-larger-4
-    larger-requires-2
-    larger-requires-3
+    loop-less
+    loop-again
     returns)

@@ -1,4 +1,4 @@
--- `least` meets its contract: the block is rounded once, the first of its two candidates by cost and first coordinate is found, and that one is made.
+-- `least` meets its contract: the block is rounded once, both candidates are made of it, and the first of them by cost and first coordinate is taken.
 -- That at most one coordinate is changed, and which, is in Mending; the half part, the costs and their comparison are in Halving (`Two`).
 -- Here it is shown that the figures of the rounded block fit an i32 and what remainders and costs they make (`Known`), that each local is read as its
 -- figure (the facts after `remainder2`, where the last of them is known), and that each call then gives its part of `Two`. H = 2^k and M = 2·H
@@ -10,6 +10,8 @@ use native.Mathlib.Omega.{arith}
 use lib.IntN.{ℤ, pos, _+ℤ_, _-ℤ_, _*ℤ_, natAbs}
 use lib.ListN.{length, getD}
 use lib.Signed.{ltZ, shrZ}
+use mir.Syntax.{w32}
+use mir.Val.{toZ, boolByte}
 use borrow.Author.Needs.{needs}
 use borrow.Author.Tests.{lt-ltb}
 use Rattle.integers.specs.Integer.{modZ}
@@ -20,10 +22,10 @@ use Rattle.e8.proofs.Within.{within-at}
 use Rattle.coordinates.proofs.Size.{fits, abs! }
 use Rattle.coordinates.proofs.Rest.{quadruple, Scale, scale}
 use Rattle.coordinates.proofs.Reading.{read, plain, plain-size, power-read, power-size}
-use Rattle.shaping.specs.Rounded.{wholeFirst, memberOf, members, sizes, highest, lowest, Rounded}
+use Rattle.shaping.specs.Rounded.{wholeFirst, members, sizes, highest, lowest, Rounded}
 use Rattle.shaping.specs.declared.RoundedBlock.{RoundedBlock}
-use Rattle.shaping.proofs.Halving.{left, wholeCost, halfCost, wholePart, halfPart, wholeHead, halfHead, Two, two}
-use Rattle.shaping.proofs.Figures.{pos-where, either, off-size, floors-size, sizes-low, rounded-within}
+use Rattle.shaping.proofs.Halving.{left, wholeCost, halfCost, wholePart, halfPart, Two, two}
+use Rattle.shaping.proofs.Figures.{members-within, off-size, floors-size, sizes-low, rounded-within}
 use Rattle.shaping.proofs.least.Statement.{statement}
 use Rattle.shaping.proofs.least.Tie as tie
 
@@ -160,12 +162,6 @@ module _ (c : tie.After-round) where
   low-read : read (q .low) ≡ q .low
   low-read = plain (q .low) (omega (arith, f .low-size))
 
-  head-read : read (getD (q .block) 0 (pos 0)) ≡ getD (q .block) 0 (pos 0)
-  head-read = plain (getD (q .block) 0 (pos 0)) (omega (arith, within-at (2 ^ 7) (q .block) 0 (f .block-size)))
-
-  head-size : natAbs (read (getD (q .block) 0 (pos 0))) ≤ 2 ^ 7
-  head-size = plain-size (getD (q .block) 0 (pos 0)) (2 ^ 7) (within-at (2 ^ 7) (q .block) 0 (f .block-size)) (omega arith)
-
   -- a rank is read as the rank, which is not negative
   top-rank : natAbs (read (q .top)) ≡ highest (q .block) 0
   top-rank = ap natAbs (top-read ∙ f .top-is)
@@ -234,91 +230,74 @@ module _ (c : tie.After-remainder2) where
   back-low-here : natAbs (read back) ≤ 2 ^ 7
   back-low-here = subst (λ (y : ℤ). natAbs y ≤ 2 ^ 7) (sym back-read) (known-here .back-size)
 
--- ---- the later places, each by the one before it
+-- ---- the later places, each by the one before it: the candidates after `remainder2`, the rest after the second candidate
 
-abbrev at-whole-cost : tie.After-whole-cost → tie.After-remainder2
-at-whole-cost c = c .before .before .before .before .before
+abbrev at-candidate : tie.After-candidate → tie.After-remainder2
+at-candidate c = c .before .before .before
 
-abbrev at-half-cost : tie.After-half-cost → tie.After-remainder2
+abbrev at-candidate2 : tie.After-candidate2 → tie.After-remainder2
+at-candidate2 c = at-candidate (c .before .before)
+
+abbrev at-whole-cost : tie.After-whole-cost → tie.After-candidate2
+at-whole-cost c = c .before .before .before
+
+abbrev at-half-cost : tie.After-half-cost → tie.After-candidate2
 at-half-cost c = at-whole-cost (c .before .before)
-
-abbrev at-member : tie.After-member → tie.After-remainder2
-at-member c = at-half-cost (c .before .before)
-
-abbrev at-member2 : tie.After-member2 → tie.After-remainder2
-at-member2 c = at-member (c .before .before)
 
 -- what each call gives
 
-whole-cost-is : (c : tie.After-whole-cost) → let d = at-whole-cost c in read (c .whole-cost .result) ≡ pos (wholeCost (H-here d) (is-odd d) (block d))
+whole-part : (c : tie.After-candidate) → let d = at-candidate c in c .candidate .result ≡ wholePart (H-here d) (is-odd d) (block d)
+whole-part c = let d = at-candidate c in c .candidate .ensures ∙ (λ j. members (odd-read d j) (pos 0) (top-rank (z d) j) 0 (block d))
+
+half-part : (c : tie.After-candidate2) → let d = at-candidate2 c in c .candidate2 .result ≡ halfPart (H-here d) (half-is-odd d) (block d)
+half-part c = let d = at-candidate2 c in c .candidate2 .ensures ∙ (λ j. members (back-read d j) (height-is (z d) j) (low-rank (z d) j) 0 (block d))
+
+whole-cost-is : (c : tie.After-whole-cost) → let d = at-candidate2 (at-whole-cost c) in read (c .whole-cost .result) ≡ pos (wholeCost (H-here d) (is-odd d) (block d))
 whole-cost-is c =
-    let d = at-whole-cost c in
+    let d = at-candidate2 (at-whole-cost c) in
     let y = z d in
     tz refl (record { sfits = c .whole-cost .ok }) ∙ c .whole-cost .ensures
     ∙ (λ j. sizes-read y j +ℤ cond (ltZ (pos 0) (odd-read d j)) (pos 2 *ℤ (height-is y j -ℤ shrZ (top-read y j) 16)) (pos 0)) ∙ known-here d .whole-cost
 
-half-cost-is : (c : tie.After-half-cost) → let d = at-half-cost c in read (c .half-cost .result) ≡ pos (halfCost (H-here d) (half-is-odd d) (block d))
+half-cost-is : (c : tie.After-half-cost) → let d = at-candidate2 (at-half-cost c) in read (c .half-cost .result) ≡ pos (halfCost (H-here d) (half-is-odd d) (block d))
 half-cost-is c =
-    let d = at-half-cost c in
+    let d = at-candidate2 (at-half-cost c) in
     let y = z d in
     tz refl (record { sfits = c .half-cost .ok }) ∙ c .half-cost .ensures
     ∙ (λ j. pos 4 *ℤ height-is y j +ℤ cond (ltZ (pos 0) (half-odd-read d j)) (pos 2 *ℤ shrZ (low-read y j) 16) (pos 0)) ∙ known-here d .half-cost
 
-whole-head : (c : tie.After-member) → let d = at-member c in read (c .member .result) ≡ wholeHead (H-here d) (is-odd d) (block d)
-whole-head c =
-    let d = at-member c in
-    tz refl (record { sfits = c .member .ok }) ∙ c .member .ensures ∙ (λ j. memberOf (odd-read d j) (pos 0) (top-rank (z d) j) (head-read (z d) j) 0)
+-- ---- the candidates' coordinates are small, and the first of them
 
-half-head : (c : tie.After-member2) → let d = at-member2 c in read (c .member2 .result) ≡ halfHead (H-here d) (half-is-odd d) (block d)
-half-head c =
-    let d = at-member2 c in
-    tz refl (record { sfits = c .member2 .ok }) ∙ c .member2 .ensures
-    ∙ (λ j. memberOf (back-read d j) (height-is (z d) j) (low-rank (z d) j) (head-read (z d) j) 0)
+whole-within : (c : tie.After-candidate) → Within (2 ^ 8) (c .candidate .result)
+whole-within c =
+    let d = at-candidate c in
+    subst (Within (2 ^ 8)) (sym (c .candidate .ensures)) (members-within (odd d) (pos 0) _ 0 (block d) (odd-low d) (omega arith) (known-here d .block-size))
 
--- ---- the candidate taken: its amounts, and the rank at which it has the first of them
+half-within : (c : tie.After-candidate2) → Within (2 ^ 8) (c .candidate2 .result)
+half-within c =
+    let d = at-candidate2 c in
+    subst (Within (2 ^ 8)) (sym (c .candidate2 .ensures))
+    (members-within (read (back d)) (height (z d)) _ 0 (block d) (back-low-here d) (height-size (z d)) (known-here d .block-size))
 
-members-of : (t : Bool) (H : ℕ) (odd half-odd : Bool) (rs : List ℤ)
-    → members (cond t (left H odd) (pos H -ℤ left H half-odd)) (cond t (pos 0) (pos H)) (cond t (highest rs 0) (lowest rs 0)) 0 rs
-    ≡ cond t (wholePart H odd rs) (halfPart H half-odd rs)
-members-of true H odd half-odd rs = refl
-members-of false H odd half-odd rs = refl
+head-read : (v : List ℤ) → Within (2 ^ 8) v → read (getD v 0 (pos 0)) ≡ getD v 0 (pos 0)
+head-read v w = plain (getD v 0 (pos 0)) (omega (arith, within-at (2 ^ 8) v 0 w))
 
-module _ (c : tie.After-choose3) where
-  abbrev at-second : tie.After-choose2
-  at-second = c .before .before .before
+whole-head : (c : tie.After-candidate) → let d = at-candidate c in
+    read (getD (c .candidate .result) 0 (pos 0)) ≡ getD (wholePart (H-here d) (is-odd d) (block d)) 0 (pos 0)
+whole-head c = head-read (c .candidate .result) (whole-within c) ∙ ap (λ v. getD v 0 (pos 0)) (whole-part c)
 
-  abbrev at-first : tie.After-choose
-  at-first = at-second .before
+half-head : (c : tie.After-candidate2) → let d = at-candidate2 c in
+    read (getD (c .candidate2 .result) 0 (pos 0)) ≡ getD (halfPart (H-here d) (half-is-odd d) (block d)) 0 (pos 0)
+half-head c = head-read (c .candidate2 .result) (half-within c) ∙ ap (λ v. getD v 0 (pos 0)) (half-part c)
 
-  abbrev at-test : tie.After-whole-first
-  at-test = at-first .before
+-- a truth value as a number
+truth : (t : Bool) → toZ w32 (boolByte t) ≡ pos (bit t)
+truth true = refl
+truth false = refl
 
-  abbrev d : tie.After-remainder2
-  d = at-member2 (at-test .before)
-
-  abbrev t : Bool
-  t = at-test .whole-first .result
-
-  abbrev amount : ℤ
-  amount = cond t (left (H-here d) (is-odd d)) (pos (H-here d) -ℤ left (H-here d) (half-is-odd d))
-
-  abbrev elsewhere : ℤ
-  elsewhere = cond t (pos 0) (pos (H-here d))
-
-  abbrev rank : ℕ
-  rank = cond t (highest (block d) 0) (lowest (block d) 0)
-
-  amount-read : read (at-first .choose .result) ≡ amount
-  amount-read = tz refl (record { sfits = at-first .choose .ok }) ∙ at-first .choose .ensures ∙ ap₂ (cond t) (odd-read d) (back-read d)
-
-  elsewhere-read : read (at-second .choose2 .result) ≡ elsewhere
-  elsewhere-read = tz refl (record { sfits = at-second .choose2 .ok }) ∙ at-second .choose2 .ensures ∙ ap (cond t (pos 0)) (height-is (z d))
-
-  rank-read : read (c .choose3 .result) ≡ pos rank
-  rank-read =
-      tz refl (record { sfits = c .choose3 .ok }) ∙ c .choose3 .ensures
-      ∙ ap₂ (cond t) (top-read (z d) ∙ known-here d .top-is) (low-read (z d) ∙ known-here d .low-is)
-      ∙ pos-where t (highest (block d) 0) (lowest (block d) 0)
+truth-test : (t : Bool) → ltZ (pos 0) (toZ w32 (boolByte t)) ≡ t
+truth-test true = refl
+truth-test false = refl
 
 -- ---- the needs
 
@@ -344,59 +323,54 @@ remainder-requires-2 c κs =
     let y = c .before .before .before in
     (omega (arith, start y .pre .0), plain-size (q y .halves) (2 ^ 30) (omega (arith, f y .halves-size)) (omega arith))
 
-sub-at : tie.Need-sub-at
-sub-at c = sfits-to (back-is c) (fits _ (omega (arith, known-here c .back-size)))
+candidate-requires : tie.Need-candidate-requires
+candidate-requires c κs = let d = c .before .before in (odd-low d, omega arith, top-pos (z d), known-here d .block-size)
 
-array-copy-out-c : tie.Need-array-copy-out-c
-array-copy-out-c c = search needs
+sub-candidate : tie.Need-sub-candidate
+sub-candidate c = let d = at-candidate c in sfits-to (back-is d) (fits _ (omega (arith, known-here d .back-size)))
+
+candidate-requires-2 : tie.Need-candidate-requires-2
+candidate-requires-2 c κs = let d = at-candidate (c .before) in (back-low-here d, height-size (z d), low-pos (z d), known-here d .block-size)
 
 whole-cost-requires : tie.Need-whole-cost-requires
 whole-cost-requires c κs =
-    let d = c .before .before .before .before in
+    let d = at-candidate2 (c .before .before) in
     let u = plain-size (q (z d) .sizes) (2 ^ 10) (known-here d .sizes-size) (omega arith) in
     (height-size (z d), u, plain-size (q (z d) .top) (2 ^ 12) (known-here d .top-size) (omega arith))
 
 half-cost-requires : tie.Need-half-cost-requires
-half-cost-requires c κs = let d = at-whole-cost (c .before) in (height-size (z d), plain-size (q (z d) .low) (2 ^ 12) (known-here d .low-size) (omega arith))
+half-cost-requires c κs = let d = at-candidate2 (at-whole-cost (c .before)) in (height-size (z d), plain-size (q (z d) .low) (2 ^ 12) (known-here d .low-size) (omega arith))
 
-member-requires : tie.Need-member-requires
-member-requires c κs = let d = at-half-cost (c .before) in (odd-low d, omega arith, top-pos (z d), head-size (z d), omega arith)
+array-copy-out-whole-first : tie.Need-array-copy-out-whole-first
+array-copy-out-whole-first c = search needs
 
-member-requires-2 : tie.Need-member-requires-2
-member-requires-2 c κs = let d = at-member (c .before) in (back-low-here d, height-size (z d), low-pos (z d), head-size (z d), omega arith)
+array-copy-out-whole-first-2 : tie.Need-array-copy-out-whole-first-2
+array-copy-out-whole-first-2 c = search needs
 
 whole-first-requires : tie.Need-whole-first-requires
 whole-first-requires c κs = search needs
 
-choose-requires : tie.Need-choose-requires
-choose-requires c κs = search needs
+cast-chosen : tie.Need-cast-chosen
+cast-chosen c = tt
 
-choose-requires-2 : tie.Need-choose-requires-2
-choose-requires-2 c κs = search needs
-
-choose-requires-3 : tie.Need-choose-requires-3
-choose-requires-3 c κs = search needs
-
-candidate-requires : tie.Need-candidate-requires
-candidate-requires c κs = (
-  subst (λ (y : ℤ). natAbs y ≤ 2 ^ 7) (sym (amount-read c)) (either (t c) _ _ (2 ^ 7) (known-here (d c) .odd-size) (known-here (d c) .back-size)),
-  subst (λ (y : ℤ). natAbs y ≤ 2 ^ 7) (sym (elsewhere-read c)) (either (t c) (pos 0) (pos (H-here (d c))) (2 ^ 7) (omega arith)
-      (subst (λ (y : ℤ). natAbs y ≤ 2 ^ 7) (height-is (z (d c))) (height-size (z (d c))))),
-  rank-read c ∙ ap (λ (y : ℤ). pos (natAbs y)) (sym (rank-read c)),
-  known-here (d c) .block-size,
-)
+chosen-requires : tie.Need-chosen-requires
+chosen-requires c κs =
+    let t = c .whole-first .result in
+    let half = at-half-cost (c .before .before .before) in
+    (truth t ∙ ap (λ u. pos (bit u)) (sym (truth-test t)), whole-within (half .before .before), half-within half)
 
 returns : tie.Need-returns
 returns c =
-    let e = c .before in
-    let head2 = at-test e .before in
-    let head = head2 .before .before in
-    let cost2 = head .before .before in
+    let first = c .before in
+    let cost2 = first .before .before .before in
     let cost = cost2 .before .before in
-    c .candidate .ensures ∙ (λ j. members (amount-read e j) (elsewhere-read e j) (natAbs (rank-read e j)) 0 (block (d e)))
-    ∙ members-of (t e) (H-here (d e)) (is-odd (d e)) (half-is-odd (d e)) (block (d e))
-    ∙ known-here (d e) .two .least (t e)
-    (at-test e .whole-first .ensures ∙ (λ j. wholeFirst (whole-cost-is cost j) (whole-head head j) (half-cost-is cost2 j) (half-head head2 j)))
+    let half = at-whole-cost cost in
+    let whole = half .before .before in
+    let t = first .whole-first .result in
+    c .chosen .ensures ∙ ap (λ u. cond u (whole .candidate .result) (half .candidate2 .result)) (truth-test t)
+    ∙ ap₂ (cond t) (whole-part whole) (half-part half)
+    ∙ known-here (at-candidate whole) .two .least t
+    (first .whole-first .ensures ∙ (λ j. wholeFirst (whole-cost-is cost j) (whole-head whole j) (half-cost-is cost2 j) (half-head half j)))
 
 pub least-spec : {M : Type 1} → statement M
 least-spec =
@@ -408,15 +382,14 @@ least-spec =
     remainder-requires
     add-remainder-2
     remainder-requires-2
-    sub-at
-    array-copy-out-c
+    candidate-requires
+    sub-candidate
+    candidate-requires-2
     whole-cost-requires
     half-cost-requires
-    member-requires
-    member-requires-2
+    array-copy-out-whole-first
+    array-copy-out-whole-first-2
     whole-first-requires
-    choose-requires
-    choose-requires-2
-    choose-requires-3
-    candidate-requires
+    cast-chosen
+    chosen-requires
     returns)

@@ -2,7 +2,7 @@
 use mathlib.Core.Path.{_≡_, refl, sym, _∙_, ap, ap₂, subst}
 use mathlib.Core.Bool.{Bool, true, false, cond}
 use mathlib.Core.Logic.{⊎-elim}
-use Prim.Native.Nat.{ℕ, _+_, _*_, _-_, _^_, _<_, _≤_}
+use Prim.Native.Nat.{ℕ, _*_, _-_, _^_, _≤_}
 use native.Mathlib.Omega.{arith}
 use lib.IntN.{ℤ, pos, _+ℤ_, _-ℤ_, _*ℤ_, natAbs}
 use lib.Signed.{ltZ}
@@ -14,6 +14,7 @@ use Rattle.integers.proofs.Zed.{#_, _⊖_, eq!, tz, sfits-to}
 use Rattle.shaping.specs.Rounded.{rankOf}
 use Rattle.coordinates.proofs.Size.{fits, sum-abs, less-abs}
 use Rattle.coordinates.proofs.Reading.{read, plain-size}
+use Rattle.shaping.proofs.Ranking.{rank-low}
 use Rattle.shaping.proofs.rank.Statement.{statement}
 use Rattle.shaping.proofs.rank.Tie as tie
 
@@ -29,13 +30,6 @@ less-read x y a b = plain-size (x -ℤ y) 30 (less-size x y a b) (omega arith)
 
 sum-fits : (x y : ℤ) → natAbs x ≤ 2 ^ 11 → natAbs y ≤ 30 → SFits w32 (x +ℤ y)
 sum-fits x y a b = fits (x +ℤ y) (omega (arith, sum-abs x y (2 ^ 11) 30 a b))
-
-rank-low : (c : ℤ) (i : ℕ) → natAbs c ≤ 2 ^ 7 → i < 8 → rankOf c i ≤ 2 ^ 12
-rank-low c i h k = go (ltZ c (pos 0))
-  where
-    go : (t : Bool) → 16 * natAbs c + cond t i (15 - i) ≤ 2 ^ 12
-    go true = omega arith
-    go false = omega arith
 
 module _ (s : tie.Start) where
   abbrev z : ℤ

@@ -4,12 +4,14 @@ use Prim.Native.Nat.{ℕ, _+_, _-_, _^_, _<_, _≤_}
 use native.Mathlib.Omega.{arith}
 use lib.IntN.{ℤ, pos, natAbs}
 use lib.ListN.{length, getD}
+use mir.Syntax.{w16}
+use mir.Val.{SFits}
 use borrow.Author.Needs.{needs}
-use Rattle.integers.proofs.Zed.{tz}
+use Rattle.integers.proofs.Zed.{#_, tz, sfits!, sfits-to}
 use Rattle.e8.proofs.Within.{within-at}
-use Rattle.coordinates.proofs.Reading.{plain, plain-size}
+use Rattle.coordinates.proofs.Reading.{read, plain, plain-size}
 use Rattle.coordinates.proofs.Filled.{Filled, filled-none, filled-next, filled-all}
-use Rattle.shaping.proofs.Ranking.{ranks-length, ranks-at}
+use Rattle.shaping.proofs.Ranking.{rank-low, ranks-length, ranks-at}
 use Rattle.shaping.specs.Rounded.{rankOf, ranksOf}
 use Rattle.shaping.proofs.ranks.Statement.{statement}
 use Rattle.shaping.proofs.ranks.Tie as tie
@@ -36,8 +38,28 @@ module _ (s : tie.Start Inv-loop μ-loop) where
   target-at : (i : ℕ) → i < 8 → getD (ranksOf (s .args .t1) 0) i (pos 0) ≡ pos (rankOf (z i) i)
   target-at i h = ranks-at (s .args .t1) 0 i (omega (arith, eight)) ∙ ap (λ (n : ℕ). pos (rankOf (z i) n)) {x = i + 0} {y = i} (omega arith)
 
+-- the rank of the next coordinate
+module _ (c : tie.After-rank Inv-loop μ-loop) where
+  abbrev l : tie.At-loop Inv-loop μ-loop
+  l = c .before .before .before
+
+  abbrev s : tie.Start Inv-loop μ-loop
+  s = l .before
+
+  abbrev i : ℕ
+  i = l .loop .i
+
+  abbrev n : ℕ
+  n = rankOf (z s i) i
+
+  rank-is : read (c .rank .result) ≡ pos n
+  rank-is = tz refl (record { sfits = c .rank .ok }) ∙ c .rank .ensures ∙ ap (λ (y : ℤ). pos (rankOf y i)) (plain (z s i) (omega (arith, small s i)))
+
+  rank-fits : SFits w16 (pos n)
+  rank-fits = sfits! w16 (# n) (omega (arith, rank-low (z s i) i (small s i) (omega arith))) (omega arith)
+
 loop-holds : tie.Need-loop-holds Inv-loop μ-loop
-loop-holds c = (omega arith, filled-none (ranksOf (c .args .t1) 0) (c .args .t1) (eight c ∙ sym (long c)))
+loop-holds c = (omega arith, filled-none (ranksOf (c .args .t1) 0) _ (sym (long c)))
 
 mul-z : tie.Need-mul-z Inv-loop μ-loop
 mul-z c = search needs
@@ -49,6 +71,9 @@ rank-requires : tie.Need-rank-requires Inv-loop μ-loop
 rank-requires c κs =
     let l = c .before .before in
     (plain-size (z (l .before) (l .loop .i)) (2 ^ 7) (small (l .before) (l .loop .i)) (omega arith), omega arith)
+
+cast-r : tie.Need-cast-r Inv-loop μ-loop
+cast-r c = sfits-to (rank-is c) (rank-fits c)
 
 mul-r : tie.Need-mul-r Inv-loop μ-loop
 mul-r c = search needs
@@ -63,15 +88,11 @@ loop-less : tie.Need-loop-less Inv-loop μ-loop
 loop-less c = search needs
 
 loop-again : tie.Need-loop-again Inv-loop μ-loop
-loop-again c =
-    let l = c .before .before .before in
-    let s = l .before in
-    let i = l .loop .i in
-    let e = plain (z s i) (omega (arith, small s i)) in (
-      omega arith,
-      filled-next (pos 0) (ranksOf (s .args .t1) 0) (l .loop .r) i _ (l .loop .inv .1) (omega (arith, long s))
-          (tz refl (record { sfits = c .rank .ok }) ∙ c .rank .ensures ∙ ap (λ (y : ℤ). pos (rankOf y i)) e ∙ sym (target-at s i (omega arith))),
-    )
+loop-again c = (
+  omega arith,
+  filled-next (pos 0) (ranksOf (s c .args .t1) 0) (l c .loop .r) (i c) _ (l c .loop .inv .1) (omega (arith, long (s c)))
+      (tz (rank-is c) (rank-fits c) ∙ sym (target-at (s c) (i c) (omega arith))),
+)
 
 returns : tie.Need-returns Inv-loop μ-loop
 returns c =
@@ -89,6 +110,7 @@ ranks-spec =
     mul-z
     array-copy-out-z
     rank-requires
+    cast-r
     mul-r
     array-set-from-r
     add-i

@@ -7,8 +7,9 @@ use Prim.Native.Nat.{ℕ, _+_, _*_, _-_, _^_, _<_, _≤_}
 use native.Mathlib.Omega.{arith}
 use lib.IntN.{ℤ, pos, _+ℤ_, _-ℤ_, natAbs}
 use lib.ListN.{length, drop, getD, length-set, length-drop, drop-of-length-le}
-use mir.Syntax.{w32}
-use mir.Val.{SFits, toZ}
+use lib.Signed.{mag}
+use mir.Syntax.{w16, w32}
+use mir.Val.{SFits, hbits, toZ, ofZ}
 use borrow.Author.Needs.{needs}
 use Rattle.integers.specs.Integer.{modZ}
 use Rattle.integers.proofs.Zed.{tz, sfits-to}
@@ -209,6 +210,17 @@ module _ (c : tie.After-loop Inv-loop μ-loop) where
   rs-within : Within (2 ^ 7) rs
   rs-within = subst (Within (2 ^ 7)) (sym (all .block)) (rounded-within (H-scale (start l)) (block (start l)))
 
+-- a number of 16 bits, read as one of 32
+module _ (z : ℤ) (h : mag z < 2 ^ hbits w16) where
+  narrow : toZ w16 (ofZ w16 z) ≡ z
+  narrow = tz refl (record { sfits = h })
+
+  wide-fits : SFits w32 z
+  wide-fits = record { sfits = omega arith }
+
+  wide : read (toZ w16 (ofZ w16 z)) ≡ z
+  wide = tz narrow wide-fits
+
 -- ---- the needs
 
 loop-holds : tie.Need-loop-holds Inv-loop μ-loop
@@ -299,11 +311,17 @@ ranks-requires c κs = rs-within c
 largest-requires : tie.Need-largest-requires Inv-loop μ-loop
 largest-requires c κs = search needs
 
+cast-t25 : tie.Need-cast-t25 Inv-loop μ-loop
+cast-t25 c = sfits-to (narrow (c .largest .result) (c .largest .ok)) (wide-fits (c .largest .result) (c .largest .ok))
+
 ranks-requires-2 : tie.Need-ranks-requires-2 Inv-loop μ-loop
 ranks-requires-2 c κs = rs-within (c .before .before)
 
 smallest-requires : tie.Need-smallest-requires Inv-loop μ-loop
 smallest-requires c κs = search needs
+
+cast-t29 : tie.Need-cast-t29 Inv-loop μ-loop
+cast-t29 c = sfits-to (narrow (c .smallest .result) (c .smallest .ok)) (wide-fits (c .smallest .result) (c .smallest .ok))
 
 returns : tie.Need-returns Inv-loop μ-loop
 returns c =
@@ -315,8 +333,8 @@ returns c =
       whole = all e .whole;
       half = all e .half;
       size = all e .size;
-      top = tz refl (record { sfits = t .largest .ok }) ∙ t .largest .ensures ∙ ap (among largerOf) (t .before .ranks .ensures) ∙ top-is (rs e) 0 some;
-      low = tz refl (record { sfits = c .smallest .ok }) ∙ c .smallest .ensures ∙ ap (among smallerOf) (c .before .ranks2 .ensures) ∙ low-is (rs e) 0 some;
+      top = wide (t .largest .result) (t .largest .ok) ∙ t .largest .ensures ∙ ap (among largerOf) (t .before .ranks .ensures) ∙ top-is (rs e) 0 some;
+      low = wide (c .smallest .result) (c .smallest .ok) ∙ c .smallest .ensures ∙ ap (among smallerOf) (c .before .ranks2 .ensures) ∙ low-is (rs e) 0 some;
     }
 
 pub round-spec : {M : Type 1} → statement M
@@ -345,6 +363,8 @@ round-spec =
     loop-again
     ranks-requires
     largest-requires
+    cast-t25
     ranks-requires-2
     smallest-requires
+    cast-t29
     returns)

@@ -1,79 +1,79 @@
--- `smallest` meets its contract
-use mathlib.Core.Path.{_≡_, refl, _∙_, ap₂}
-use Prim.Native.Nat.{ℕ}
-use lib.IntN.{ℤ, pos}
-use lib.ListN.{length, getD}
+-- `smallest` meets its contract. After the loop came to place i, m is the smallest from i on
+use mathlib.Core.Path.{_≡_, refl, sym, _∙_, ap, ap₂}
+use Prim.Native.Nat.{ℕ, suc, _-_, _≤_}
+use native.Mathlib.Omega.{arith}
+use lib.ListN.{length, drop}
+use mir.Syntax.{w16}
+use mir.Val.{toZ}
 use borrow.Author.Needs.{needs}
 use Rattle.integers.proofs.Zed.{tz}
-use Rattle.coordinates.proofs.Reading.{read}
-use Rattle.shaping.proofs.Ranking.{smaller-joins, by-halves}
-use Rattle.shaping.specs.Rounded.{smallerOf}
+use Rattle.shaping.proofs.Ranking.{among-last, among-more}
+use Rattle.shaping.specs.Rounded.{smallerOf, among}
 use Rattle.shaping.proofs.smallest.Statement.{statement}
 use Rattle.shaping.proofs.smallest.Tie as tie
 
-eight : (s : tie.Start) → length (s .args .r) ≡ 8
-eight s = search needs
+abbrev Inv-loop : tie.InvT-loop
+Inv-loop r m₀ i₀ m i = (i ≤ 7) × (toZ w16 m ≡ among smallerOf (drop i r))
 
--- the four that are left
-abbrev z : tie.After-smaller-half → ℕ → ℤ
-z h i = getD (h .smaller-half .result) i (pos 0)
+abbrev μ-loop : tie.MeasureT-loop
+μ-loop r m₀ i₀ m i = i
 
-first : (c : tie.After-smaller) → let h = c .before .before .before in read (c .smaller .result) ≡ smallerOf (z h 0) (z h 2)
-first c =
-    let h = c .before .before .before in
-    let x : read (z h 0) ≡ z h 0 = tz refl (record { sfits = c .before .before .smaller-arg .given }) in
-    let y : read (z h 2) ≡ z h 2 = tz refl (record { sfits = c .before .smaller-arg2 .given }) in
-    tz refl (record { sfits = c .smaller .ok }) ∙ c .smaller .ensures ∙ ap₂ smallerOf x y
+module _ (s : tie.Start Inv-loop μ-loop) where
+  eight : length (s .args .t1) ≡ 8
+  eight = search needs
 
-second : (c : tie.After-smaller2) → let h = c .before .before .before .before .before .before in read (c .smaller2 .result) ≡ smallerOf (z h 1) (z h 3)
-second c =
-    let h = c .before .before .before .before .before .before in
-    let x : read (z h 1) ≡ z h 1 = tz refl (record { sfits = c .before .before .smaller-arg3 .given }) in
-    let y : read (z h 3) ≡ z h 3 = tz refl (record { sfits = c .before .smaller-arg4 .given }) in
-    tz refl (record { sfits = c .smaller2 .ok }) ∙ c .smaller2 .ensures ∙ ap₂ smallerOf x y
+array-copy-out-m : tie.Need-array-copy-out-m Inv-loop μ-loop
+array-copy-out-m c = search needs
 
-smaller-half-requires : tie.Need-smaller-half-requires
-smaller-half-requires c κs = search needs
+loop-holds : tie.Need-loop-holds Inv-loop μ-loop
+loop-holds c =
+    let s = c .before in
+    (omega arith, tz refl (record { sfits = c .m .given }) ∙ among-last smallerOf (s .args .t1) 7 (sym (eight s)))
 
-array-copy-out-smaller : tie.Need-array-copy-out-smaller
-array-copy-out-smaller c = search needs
+sub-i : tie.Need-sub-i Inv-loop μ-loop
+sub-i c = omega arith
 
-array-copy-out-smaller-2 : tie.Need-array-copy-out-smaller-2
-array-copy-out-smaller-2 c = search needs
+mul-a : tie.Need-mul-a Inv-loop μ-loop
+mul-a c = search needs
 
-smaller-requires : tie.Need-smaller-requires
+array-copy-out-a : tie.Need-array-copy-out-a Inv-loop μ-loop
+array-copy-out-a c = search needs
+
+smaller-requires : tie.Need-smaller-requires Inv-loop μ-loop
 smaller-requires c κs = search needs
 
-array-copy-out-smaller-3 : tie.Need-array-copy-out-smaller-3
-array-copy-out-smaller-3 c = search needs
+loop-less : tie.Need-loop-less Inv-loop μ-loop
+loop-less c = omega arith
 
-array-copy-out-smaller-4 : tie.Need-array-copy-out-smaller-4
-array-copy-out-smaller-4 c = search needs
+loop-again : tie.Need-loop-again Inv-loop μ-loop
+loop-again c =
+    let l = c .before .before .before in
+    let r = l .before .before .args .t1 in
+    let j = l .loop .i - 1 in
+    let next : l .loop .i ≡ suc j = omega arith in (
+      omega arith,
+      tz refl (record { sfits = c .smaller .ok }) ∙ c .smaller .ensures
+          ∙ ap₂ smallerOf (l .loop .inv .1 ∙ ap (λ (n : ℕ). among smallerOf (drop n r)) next) (tz refl (record { sfits = c .before .a .given }))
+          ∙ among-more smallerOf r j (omega (arith, eight (l .before .before))),
+    )
 
-smaller-requires-2 : tie.Need-smaller-requires-2
-smaller-requires-2 c κs = search needs
-
-smaller-requires-3 : tie.Need-smaller-requires-3
-smaller-requires-3 c κs = search needs
-
-returns : tie.Need-returns
+returns : tie.Need-returns Inv-loop μ-loop
 returns c =
-    let b = c .before in
-    let a = b .before .before .before in
-    let h = a .before .before .before in
-    tz refl (record { sfits = c .smaller3 .ok }) ∙ c .smaller3 .ensures ∙ ap₂ smallerOf (first a) (second b)
-    ∙ by-halves smallerOf smaller-joins (h .before .args .r) (h .smaller-half .result) (eight (h .before)) (h .smaller-half .ensures)
+    let l = c .before in
+    l .loop .inv .1 ∙ ap (λ (n : ℕ). among smallerOf (drop n (l .before .before .args .t1))) {x = l .loop .i} {y = 0} (omega arith)
 
 pub smallest-spec : {M : Type 1} → statement M
 smallest-spec =
     tie.close
     (tie.spec
-    smaller-half-requires
-    array-copy-out-smaller
-    array-copy-out-smaller-2
+    Inv-loop
+    μ-loop
+    array-copy-out-m
+    loop-holds
+    sub-i
+    mul-a
+    array-copy-out-a
     smaller-requires
-    array-copy-out-smaller-3
-    array-copy-out-smaller-4
-    smaller-requires-2
-    smaller-requires-3
+    loop-less
+    loop-again
     returns)
