@@ -115,10 +115,9 @@ module _ (m : ℕ) where
 -- ---- as the code lays them: eight at a time, from a table, in a number of 64 digits
 
 -- a message of RM(r,m), and the number once the bits of the first n masks of the table are laid
-pub record Spread {m : ℕ} {os ds : List ℕ} (t : Right m os ds) (n : ℕ) : Type 0 where
+pub record Spread {m : ℕ} {os ps ds : List ℕ} (t : Right m os ps ds) (n : ℕ) : Type 0 where
   pub bits : ℕ
   pub r : ℕ
-  pub degree : r ≤ m
   pub few : bits < 2 ^ dimension r m
   pub word : ℕ
   pub is : word ≡ number 64 (laid n (λ k. getD os k 0) (digit bits))
@@ -127,21 +126,21 @@ pub record Spread {m : ℕ} {os ds : List ℕ} (t : Right m os ds) (n : ℕ) : T
 abbrev pub eightFrom : List ℕ → ℕ → ℕ → ℕ
 eightFrom os bits n = number 64 (laid 8 (λ k. getD os (n + k) 0) (λ k. digit bits (n + k)))
 
-module _ {m : ℕ} {os ds : List ℕ} (t : Right m os ds) (bits : ℕ) where
+module _ {m : ℕ} {os ps ds : List ℕ} (t : Right m os ps ds) (bits : ℕ) where
   pub eight-first : {y : ℕ} → y ≡ eightFrom os bits 0 → y ≡ number 64 (laid 8 (λ k. getD os k 0) (digit bits))
   eight-first e =
       e ∙ ap (λ (f : ℕ → ℕ). number 64 (laid 8 (λ k. getD os (f k) 0) (λ k. digit bits (f k)))) (fun-ext zero-add)
 
-  abbrev pub spread-first : {r : ℕ} → r ≤ m → bits < 2 ^ dimension r m → {y : ℕ} → y ≡ eightFrom os bits 0 → Spread t 8
-  spread-first {r} degree few {y} e = record { bits = bits; r = r; degree = degree; few = few; word = y; is = eight-first e }
+  abbrev pub spread-first : (r : ℕ) → bits < 2 ^ dimension r m → {y : ℕ} → y ≡ eightFrom os bits 0 → Spread t 8
+  spread-first r few {y} e = record { bits = bits; r = r; few = few; word = y; is = eight-first e }
 
-module _ {m : ℕ} {os ds : List ℕ} {t : Right m os ds} {n : ℕ} (g : Spread t n) where
+module _ {m : ℕ} {os ps ds : List ℕ} {t : Right m os ps ds} {n : ℕ} (g : Spread t n) where
   pub eight-next : {y : ℕ} → y ≡ eightFrom os (g .bits) n → bitXor (g .word) y ≡ number 64 (laid (n + 8) (λ k. getD os k 0) (digit (g .bits)))
   eight-next = laid-join 64 n 8 (λ k. getD os k 0) (digit (g .bits)) (g .is)
 
   abbrev pub spread-next : {y : ℕ} → y ≡ eightFrom os (g .bits) n → Spread t (n + 8)
   spread-next {y} e =
-      record { bits = g .bits; r = g .r; degree = g .degree; few = g .few; word = bitXor (g .word) y; is = eight-next e }
+      record { bits = g .bits; r = g .r; few = g .few; word = bitXor (g .word) y; is = eight-next e }
 
   -- the first n masks are enough for degrees up to j
   pub spread-all : (j : ℕ) → j < suc m → getD ds j 0 ≤ n → n ≤ 2 ^ m → g .r ≤ j → g .word ≡ number (2 ^ m) (λ S. digit (g .bits) (place (order m) S))

@@ -1,4 +1,4 @@
--- Message bits laid at their masks, and lists of masks. Private contracts cite them. Assumes nothing.
+-- Message bits laid at their masks, and tables of masks and places. Private contracts cite them. Assumes nothing.
 use Prim.Native.Nat.{ℕ, _%_, _<_}
 use mathlib.Core.List.{List}
 use lib.Dec.{eqb}
@@ -10,6 +10,6 @@ unfoldable pub laid : ℕ → (ℕ → ℕ) → (ℕ → ℕ) → ℕ → ℕ
 unfolding sumTo
 laid n mask bit S = sumTo n (λ k. given (eqb (mask k) S) (bit k)) % 2
 
--- every mask of the list is below 64
-pub record Below64 (masks : List ℕ) : Type 0 where
-  pub below : (i : ℕ) → i < length masks → getD masks i 0 < 64
+-- every entry of the table is below 64
+pub record Below64 (entries : List ℕ) : Type 0 where
+  pub below : (i : ℕ) → i < length entries → getD entries i 0 < 64

@@ -1,6 +1,6 @@
 // Level codes RM(r,m): the order of the masks, the codeword of a message, and from a word the message and whether the word belongs.
 // The work is done on numbers that hold a whole word, message or transform: bit p is the value at p, bit k message bit k, bit S the bit of mask S;
-// no bit is set past the last one. `Tabled m`: length 2 ^ m has its tables of masks and dimensions.
+// no bit is set past the last one. `Tabled m`: length 2 ^ m has its tables of masks, places and dimensions.
 ghost use mathlib.Core.Path.{_≡_};
 ghost use Prim.Native.Nat.{_+_, _*_, _/_, _%_, _^_, _<_, _≤_};
 ghost use lib.Dec.{ltb};
@@ -112,6 +112,113 @@ const ORDER_64: [u8; 64] = [
     47,
     55,
     59,
+    61,
+    62,
+    63,
+];
+
+// The place of each mask in the order.
+const PLACE_8: [u8; 8] = [0, 1, 2, 4, 3, 5, 6, 7];
+
+const PLACE_16: [u8; 16] = [0, 1, 2, 5, 3, 6, 7, 11, 4, 8, 9, 12, 10, 13, 14, 15];
+
+const PLACE_32: [u8; 32] = [
+    0,
+    1,
+    2,
+    6,
+    3,
+    7,
+    8,
+    16,
+    4,
+    9,
+    10,
+    17,
+    11,
+    18,
+    19,
+    26,
+    5,
+    12,
+    13,
+    20,
+    14,
+    21,
+    22,
+    27,
+    15,
+    23,
+    24,
+    28,
+    25,
+    29,
+    30,
+    31,
+];
+
+const PLACE_64: [u8; 64] = [
+    0,
+    1,
+    2,
+    7,
+    3,
+    8,
+    9,
+    22,
+    4,
+    10,
+    11,
+    23,
+    12,
+    24,
+    25,
+    42,
+    5,
+    13,
+    14,
+    26,
+    15,
+    27,
+    28,
+    43,
+    16,
+    29,
+    30,
+    44,
+    31,
+    45,
+    46,
+    57,
+    6,
+    17,
+    18,
+    32,
+    19,
+    33,
+    34,
+    47,
+    20,
+    35,
+    36,
+    48,
+    37,
+    49,
+    50,
+    58,
+    21,
+    38,
+    39,
+    51,
+    40,
+    52,
+    53,
+    59,
+    41,
+    54,
+    55,
+    60,
+    56,
     61,
     62,
     63,
@@ -261,34 +368,61 @@ fn spread_eight(bits: u64, masks: &[u8], from: usize) -> u64
     w
 }
 
-// The message bits of RM(r,4), each at its mask: the first eight masks are enough for r of at most 1.
+// The bit of each mask of length 16, taken from its place in the order.
+fn placed_16(bits: u64) -> u64
+    ensures { λ w. ⌜ w ≡ number (2 ^ 4) (λ S. bits / 2 ^ place (order 4) S % 2) ⌝ }
+{
+    gather_eight(bits, &PLACE_16, 0) + (gather_eight(bits, &PLACE_16, 8) << 8)
+}
+
+// The bit of each mask of length 32, taken from its place in the order.
+fn placed_32(bits: u64) -> u64
+    ensures { λ w. ⌜ w ≡ number (2 ^ 5) (λ S. bits / 2 ^ place (order 5) S % 2) ⌝ }
+{
+    gather_eight(bits, &PLACE_32, 0)
+        + (gather_eight(bits, &PLACE_32, 8) << 8)
+        + (gather_eight(bits, &PLACE_32, 16) << 16)
+        + (gather_eight(bits, &PLACE_32, 24) << 24)
+}
+
+// The bit of each mask of length 64, taken from its place in the order.
+fn placed_64(bits: u64) -> u64
+    ensures { λ w. ⌜ w ≡ number (2 ^ 6) (λ S. bits / 2 ^ place (order 6) S % 2) ⌝ }
+{
+    gather_eight(bits, &PLACE_64, 0)
+        + (gather_eight(bits, &PLACE_64, 8) << 8)
+        + (gather_eight(bits, &PLACE_64, 16) << 16)
+        + (gather_eight(bits, &PLACE_64, 24) << 24)
+        + (gather_eight(bits, &PLACE_64, 32) << 32)
+        + (gather_eight(bits, &PLACE_64, 40) << 40)
+        + (gather_eight(bits, &PLACE_64, 48) << 48)
+        + (gather_eight(bits, &PLACE_64, 56) << 56)
+}
+
+// The message bits of RM(r,4), each at its mask: laid at the first eight masks for r of at most 1, and taken from the places else.
 fn spread_16(bits: u64, r: usize) -> u64
     requires { ⌜ (r ≤ 4) × (bits < 2 ^ dimension r 4) ⌝ }
     ensures { λ w. ⌜ w ≡ number (2 ^ 4) (λ S. bits / 2 ^ place (order 4) S % 2) ⌝ }
 {
-    let a = spread_eight(bits, &ORDER_16, 0);
     if r <= 1 {
-        return a;
+        return spread_eight(bits, &ORDER_16, 0);
     }
-    a ^ spread_eight(bits, &ORDER_16, 8)
+    placed_16(bits)
 }
 
-// The message bits of RM(r,5), each at its mask: the first eight masks are enough for r of at most 1.
+// The message bits of RM(r,5), each at its mask: laid at the first eight masks for r of at most 1, and taken from the places else.
 fn spread_32(bits: u64, r: usize) -> u64
     requires { ⌜ (r ≤ 5) × (bits < 2 ^ dimension r 5) ⌝ }
     ensures { λ w. ⌜ w ≡ number (2 ^ 5) (λ S. bits / 2 ^ place (order 5) S % 2) ⌝ }
 {
-    let a = spread_eight(bits, &ORDER_32, 0);
     if r <= 1 {
-        return a;
+        return spread_eight(bits, &ORDER_32, 0);
     }
-    a
-        ^ spread_eight(bits, &ORDER_32, 8)
-        ^ spread_eight(bits, &ORDER_32, 16)
-        ^ spread_eight(bits, &ORDER_32, 24)
+    placed_32(bits)
 }
 
-// The message bits of RM(r,6), each at its mask: the first eight masks are enough for r of at most 1, the first 48 for r of at most 3.
+// The message bits of RM(r,6), each at its mask: laid at the first eight masks for r of at most 1, at the first 48 for r of at most 3,
+// and taken from the places else.
 fn spread_64(bits: u64, r: usize) -> u64
     requires { ⌜ (r ≤ 6) × (bits < 2 ^ dimension r 6) ⌝ }
     ensures { λ w. ⌜ w ≡ number (2 ^ 6) (λ S. bits / 2 ^ place (order 6) S % 2) ⌝ }
@@ -297,16 +431,15 @@ fn spread_64(bits: u64, r: usize) -> u64
     if r <= 1 {
         return a;
     }
-    let b = a
-        ^ spread_eight(bits, &ORDER_64, 8)
-        ^ spread_eight(bits, &ORDER_64, 16)
-        ^ spread_eight(bits, &ORDER_64, 24)
-        ^ spread_eight(bits, &ORDER_64, 32)
-        ^ spread_eight(bits, &ORDER_64, 40);
     if r <= 3 {
-        return b;
+        return a
+            ^ spread_eight(bits, &ORDER_64, 8)
+            ^ spread_eight(bits, &ORDER_64, 16)
+            ^ spread_eight(bits, &ORDER_64, 24)
+            ^ spread_eight(bits, &ORDER_64, 32)
+            ^ spread_eight(bits, &ORDER_64, 40);
     }
-    b ^ spread_eight(bits, &ORDER_64, 48) ^ spread_eight(bits, &ORDER_64, 56)
+    placed_64(bits)
 }
 
 // The message bits of RM(r,m), each at its mask.
@@ -315,7 +448,7 @@ fn coefficients(bits: u64, m: usize, r: usize) -> u64
     ensures { λ w. ⌜ w ≡ number (2 ^ m) (λ S. bits / 2 ^ place (order m) S % 2) ⌝ }
 {
     if m == 3 {
-        return spread_eight(bits, &ORDER_8, 0);
+        return gather_eight(bits, &PLACE_8, 0);
     }
     if m == 4 {
         return spread_16(bits, r);
@@ -351,17 +484,17 @@ pub fn clear_above(bits: u64, m: usize, r: usize) -> bool
     heavies << (64 - positions(m)) == 0
 }
 
-// The bits of eight masks from place `from` of the order on.
-fn gather_eight(bits: u64, masks: &[u8], from: usize) -> u64
-    requires { ⌜ (from + 8 ≤ length (now masks)) × Below64 (now masks) ⌝ }
-    ensures { λ b. ⌜ b ≡ number 8 (λ k. bits / 2 ^ getD (now (masks .entry)) (from + k) 0 % 2) ⌝ }
+// The bits at eight entries of a table, of masks or of places, from entry `from` on.
+fn gather_eight(bits: u64, table: &[u8], from: usize) -> u64
+    requires { ⌜ (from + 8 ≤ length (now table)) × Below64 (now table) ⌝ }
+    ensures { λ b. ⌜ b ≡ number 8 (λ k. bits / 2 ^ getD (now (table .entry)) (from + k) 0 % 2) ⌝ }
 {
     let mut b: u64 = 0;
     let mut k: usize = 8;
     while 0 < k {
         k -= 1;
         let j = from + k;
-        b = 2 * b + (bits >> masks[j]) % 2;
+        b = 2 * b + (bits >> table[j]) % 2;
     }
     b
 }

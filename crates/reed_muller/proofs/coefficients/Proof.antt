@@ -1,11 +1,11 @@
--- `coefficients`: the message bits laid at their masks, by the table of each length. Assumes nothing.
+-- `coefficients`: the message bits at their masks, by the tables of each length. Assumes nothing.
 use Prim.Native.Nat.{ℕ, _^_, _≤_, _<_}
 use mathlib.Core.Path.{_≡_, refl, subst}
 use native.Mathlib.Omega.{arith}
 use borrow.Author.Needs.{needs}
 use Rattle.reed_muller.specs.Level.{dimension}
 use Rattle.reed_muller.proofs.MaskTables.{right-8, below-64, last}
-use Rattle.reed_muller.proofs.Laid.{spread-first, spread-all}
+use Rattle.reed_muller.proofs.Gathered.{gathered-first, gathered-all}
 use Rattle.reed_muller.proofs.coefficients.Statement.{statement}
 use Rattle.reed_muller.proofs.coefficients.Tie as tie
 
@@ -13,19 +13,16 @@ use Rattle.reed_muller.proofs.coefficients.Tie as tie
 fits : {m n : ℕ} → m ≡ n → {r bits : ℕ} → r ≤ m → bits < 2 ^ dimension r m → (r ≤ n) × (bits < 2 ^ dimension r n)
 fits e {r} {bits} h few = subst (λ (x : ℕ). (r ≤ x) × (bits < 2 ^ dimension r x)) e (h, few)
 
-slice-aggregate-spread-eight : tie.Need-slice-aggregate-spread-eight
-slice-aggregate-spread-eight c = search needs
+slice-aggregate-gather-eight : tie.Need-slice-aggregate-gather-eight
+slice-aggregate-gather-eight c = search needs
 
-spread-eight-requires : tie.Need-spread-eight-requires
-spread-eight-requires c κs = (omega arith, omega arith, below-64 refl)
+gather-eight-requires : tie.Need-gather-eight-requires
+gather-eight-requires c κs = (omega arith, below-64 refl)
 
 returns : tie.Need-returns
 returns c =
     let at = c .before .before in
-    let start = at .before in
-    let few = fits (at .if1 .taken) (start .pre .1) (start .pre .2) in
-    let all = spread-first right-8 (start .args .bits) (few .0) (few .1) (c .spread-eight .ensures) in
-    rw (at .if1 .taken) (spread-all all 3 (omega arith) (omega arith) (omega arith) (few .0))
+    rw (at .if1 .taken) (gathered-all right-8 (gathered-first (at .before .args .bits) (c .gather-eight .ensures)))
 
 spread-16-requires : tie.Need-spread-16-requires
 spread-16-requires c κs = let start = c .before .before in fits (c .if2 .taken) (start .pre .1) (start .pre .2)
@@ -54,8 +51,8 @@ pub coefficients-spec : {M : Type 1} → statement M
 coefficients-spec =
     tie.close
     (tie.spec
-    slice-aggregate-spread-eight
-    spread-eight-requires
+    slice-aggregate-gather-eight
+    gather-eight-requires
     returns
     spread-16-requires
     returns-2

@@ -2,7 +2,7 @@
 use mathlib.Core.Path.{refl, _∙_}
 use native.Mathlib.Omega.{arith}
 use borrow.Author.Needs.{needs}
-use Rattle.reed_muller.proofs.MaskTables.{right-32, below-64}
+use Rattle.reed_muller.proofs.MaskTables.{right-32, masksOf, below-64}
 use Rattle.reed_muller.proofs.Gathered.{Gathered, gathered-first, gathered-next, gathered-sizes, gathered-low}
 use Rattle.reed_muller.proofs.gather_32.Statement.{statement}
 use Rattle.reed_muller.proofs.gather_32.Tie as tie
@@ -14,14 +14,14 @@ gather-eight-requires : tie.Need-gather-eight-requires
 gather-eight-requires c κs = (omega arith, below-64 refl)
 
 -- the number once the bits of the first eight masks, the first sixteen, and so on are gathered
-abbrev to-8 : tie.After-gather-eight → Gathered right-32 8
-to-8 c = let start = c .before .before in gathered-first right-32 (start .args .bits) (start .pre .1) (c .gather-eight .ensures)
+abbrev to-8 : tie.After-gather-eight → Gathered (masksOf right-32) 8
+to-8 c = gathered-first (c .before .before .args .bits) (c .gather-eight .ensures)
 
 low-bits-requires : tie.Need-low-bits-requires
 low-bits-requires c κs = search needs
 
 returns : tie.Need-returns
-returns c = c .low-bits .ensures ∙ gathered-low (to-8 (c .before .before)) (c .before .if1 .taken)
+returns c = c .low-bits .ensures ∙ gathered-low right-32 (to-8 (c .before .before)) (c .before .if1 .taken)
 
 slice-aggregate-gather-eight-2 : tie.Need-slice-aggregate-gather-eight-2
 slice-aggregate-gather-eight-2 c = search needs
@@ -29,7 +29,7 @@ slice-aggregate-gather-eight-2 c = search needs
 gather-eight-requires-2 : tie.Need-gather-eight-requires-2
 gather-eight-requires-2 c κs = (omega arith, below-64 refl)
 
-abbrev to-16 : tie.After-gather-eight2 → Gathered right-32 16
+abbrev to-16 : tie.After-gather-eight2 → Gathered (masksOf right-32) 16
 to-16 c = gathered-next (to-8 (c .before .before .before)) (omega arith) (c .gather-eight2 .ensures)
 
 add-b : tie.Need-add-b
@@ -41,7 +41,7 @@ slice-aggregate-gather-eight-3 c = search needs
 gather-eight-requires-3 : tie.Need-gather-eight-requires-3
 gather-eight-requires-3 c κs = (omega arith, below-64 refl)
 
-abbrev to-24 : tie.After-gather-eight3 → Gathered right-32 24
+abbrev to-24 : tie.After-gather-eight3 → Gathered (masksOf right-32) 24
 to-24 c = gathered-next (to-16 (c .before .before)) (omega arith) (c .gather-eight3 .ensures)
 
 add-b-2 : tie.Need-add-b-2
@@ -53,7 +53,7 @@ slice-aggregate-gather-eight-4 c = search needs
 gather-eight-requires-4 : tie.Need-gather-eight-requires-4
 gather-eight-requires-4 c κs = (omega arith, below-64 refl)
 
-abbrev to-32 : tie.After-gather-eight4 → Gathered right-32 32
+abbrev to-32 : tie.After-gather-eight4 → Gathered (masksOf right-32) 32
 to-32 c = gathered-next (to-24 (c .before .before)) (omega arith) (c .gather-eight4 .ensures)
 
 add-b-3 : tie.Need-add-b-3
@@ -63,7 +63,7 @@ low-bits-requires-2 : tie.Need-low-bits-requires-2
 low-bits-requires-2 c κs = search needs
 
 returns-2 : tie.Need-returns-2
-returns-2 c = let all = to-32 (c .before) in c .low-bits2 .ensures ∙ gathered-low all (all .few)
+returns-2 c = c .low-bits2 .ensures ∙ gathered-low right-32 (to-32 (c .before)) (omega arith)
 
 pub gather-32-spec : {M : Type 1} → statement M
 gather-32-spec =

@@ -1,4 +1,4 @@
--- `gather_eight`: the number has the bits of the masks from place from + k on. Assumes nothing.
+-- `gather_eight`: the number has the bits at the entries of the table from entry from + k on. Assumes nothing.
 use Prim.Native.Nat.{ℕ, _+_, _-_, _^_, _≤_, _<_}
 use mathlib.Core.Path.{_≡_, ap, _∙_, subst}
 use native.Mathlib.Omega.{arith}
@@ -10,11 +10,11 @@ use Rattle.reed_muller.proofs.gather_eight.Statement.{statement}
 use Rattle.reed_muller.proofs.gather_eight.Tie as tie
 
 abbrev Inv-loop : tie.InvT-loop
-Inv-loop bits masks from b₀ k₀ b k =
-    (k ≤ 8) × (b < 2 ^ (8 - k)) × ((q : ℕ) → k + q < 8 → digit b q ≡ digit bits (getD masks (from + (k + q)) 0))
+Inv-loop bits table from b₀ k₀ b k =
+    (k ≤ 8) × (b < 2 ^ (8 - k)) × ((q : ℕ) → k + q < 8 → digit b q ≡ digit bits (getD table (from + (k + q)) 0))
 
 abbrev μ-loop : tie.MeasureT-loop
-μ-loop bits masks from b₀ k₀ b k = k
+μ-loop bits table from b₀ k₀ b k = k
 
 -- a bit more fits
 few : (c : tie.At-loop Inv-loop μ-loop) → 0 < c .loop .k → c .loop .b < 2 ^ 7
@@ -53,7 +53,7 @@ loop-again : tie.Need-loop-again Inv-loop μ-loop
 loop-again c =
     let at = c .before .before in
     let args = at .before .args in
-    let f : ℕ → ℕ = λ k. digit (args .bits) (getD (args .masks .now) (args .from + k) 0) in (
+    let f : ℕ → ℕ = λ k. digit (args .bits) (getD (args .table .now) (args .from + k) 0) in (
       omega arith,
       digits-fit f 8 (at .loop .k) (at .loop .b) (omega arith) (omega arith) (at .loop .inv .0) (at .loop .inv .1),
       digits-more f 8 (at .loop .k) (at .loop .b) (omega arith) (omega arith) (at .loop .inv .2),
@@ -66,7 +66,7 @@ returns c =
     let all : 8 - at .loop .k ≡ 8 = omega arith in
     number-of (at .loop .b) 8 (subst (λ (n : ℕ). at .loop .b < 2 ^ n) all (at .loop .inv .1)) (λ q l.
     let e : at .loop .k + q ≡ q = omega arith in
-    at .loop .inv .2 q (omega arith) ∙ ap (λ (k : ℕ). digit (args .bits) (getD (args .masks .now) (args .from + k) 0)) e)
+    at .loop .inv .2 q (omega arith) ∙ ap (λ (k : ℕ). digit (args .bits) (getD (args .table .now) (args .from + k) 0)) e)
 
 pub gather-eight-spec : {M : Type 1} → statement M
 gather-eight-spec =

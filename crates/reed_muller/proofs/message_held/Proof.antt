@@ -30,7 +30,7 @@ returns c =
     let eight = c .before in
     let at = eight .before .before in
     rw (at .if1 .taken)
-    (c .low-bits .ensures ∙ gathered-low (gathered-first right-8 (at .before .args .bits) (few-8 at .1) (eight .gather-eight .ensures)) (few-8 at .1))
+    (c .low-bits .ensures ∙ gathered-low right-8 (gathered-first (at .before .args .bits) (eight .gather-eight .ensures)) (few-8 at .1))
 
 gather-16-requires : tie.Need-gather-16-requires
 gather-16-requires c κs = let start = c .before .before in fits (c .if2 .taken) (start .pre .1) (start .pre .2)

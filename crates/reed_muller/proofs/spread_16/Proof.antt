@@ -1,9 +1,9 @@
--- `spread_16`: eight masks are enough for r of at most 1, and 16 are all. Assumes nothing.
+-- `spread_16`: eight masks are enough for r of at most 1. Assumes nothing.
 use mathlib.Core.Path.{refl}
 use native.Mathlib.Omega.{arith}
 use borrow.Author.Needs.{needs}
 use Rattle.reed_muller.proofs.MaskTables.{right-16, below-64}
-use Rattle.reed_muller.proofs.Laid.{Spread, spread-first, spread-next, spread-all}
+use Rattle.reed_muller.proofs.Laid.{spread-first, spread-all}
 use Rattle.reed_muller.proofs.spread_16.Statement.{statement}
 use Rattle.reed_muller.proofs.spread_16.Tie as tie
 
@@ -13,24 +13,17 @@ slice-aggregate-spread-eight c = search needs
 spread-eight-requires : tie.Need-spread-eight-requires
 spread-eight-requires c κs = (omega arith, omega arith, below-64 refl)
 
--- the number once the bits of the first eight masks, the first sixteen, and so on are laid
-abbrev to-8 : tie.After-spread-eight → Spread right-16 8
-to-8 c = let start = c .before .before in spread-first right-16 (start .args .bits) (start .pre .0) (start .pre .1) (c .spread-eight .ensures)
-
 returns : tie.Need-returns
-returns c = spread-all (to-8 (c .before)) 1 (omega arith) (omega arith) (omega arith) (c .if1 .taken)
+returns c =
+    let start = c .before .before .before in
+    let eight = spread-first right-16 (start .args .bits) (start .args .r) (start .pre .1) (c .spread-eight .ensures) in
+    spread-all eight 1 (omega arith) (omega arith) (omega arith) (omega arith)
 
-slice-aggregate-spread-eight-2 : tie.Need-slice-aggregate-spread-eight-2
-slice-aggregate-spread-eight-2 c = search needs
-
-spread-eight-requires-2 : tie.Need-spread-eight-requires-2
-spread-eight-requires-2 c κs = (omega arith, omega arith, below-64 refl)
-
-abbrev to-16 : tie.After-spread-eight2 → Spread right-16 16
-to-16 c = spread-next (to-8 (c .before .before .before)) (c .spread-eight2 .ensures)
+placed-16-requires : tie.Need-placed-16-requires
+placed-16-requires c κs = search needs
 
 returns-2 : tie.Need-returns-2
-returns-2 c = spread-all (to-16 c) 4 (omega arith) (omega arith) (omega arith) (to-16 c .degree)
+returns-2 c = c .placed-16 .ensures
 
 pub spread-16-spec : {M : Type 1} → statement M
 spread-16-spec =
@@ -39,6 +32,5 @@ spread-16-spec =
     slice-aggregate-spread-eight
     spread-eight-requires
     returns
-    slice-aggregate-spread-eight-2
-    spread-eight-requires-2
+    placed-16-requires
     returns-2)

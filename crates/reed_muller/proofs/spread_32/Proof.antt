@@ -1,9 +1,9 @@
--- `spread_32`: eight masks are enough for r of at most 1, and 32 are all. Assumes nothing.
+-- `spread_32`: eight masks are enough for r of at most 1. Assumes nothing.
 use mathlib.Core.Path.{refl}
 use native.Mathlib.Omega.{arith}
 use borrow.Author.Needs.{needs}
 use Rattle.reed_muller.proofs.MaskTables.{right-32, below-64}
-use Rattle.reed_muller.proofs.Laid.{Spread, spread-first, spread-next, spread-all}
+use Rattle.reed_muller.proofs.Laid.{spread-first, spread-all}
 use Rattle.reed_muller.proofs.spread_32.Statement.{statement}
 use Rattle.reed_muller.proofs.spread_32.Tie as tie
 
@@ -13,42 +13,17 @@ slice-aggregate-spread-eight c = search needs
 spread-eight-requires : tie.Need-spread-eight-requires
 spread-eight-requires c κs = (omega arith, omega arith, below-64 refl)
 
--- the number once the bits of the first eight masks, the first sixteen, and so on are laid
-abbrev to-8 : tie.After-spread-eight → Spread right-32 8
-to-8 c = let start = c .before .before in spread-first right-32 (start .args .bits) (start .pre .0) (start .pre .1) (c .spread-eight .ensures)
-
 returns : tie.Need-returns
-returns c = spread-all (to-8 (c .before)) 1 (omega arith) (omega arith) (omega arith) (c .if1 .taken)
+returns c =
+    let start = c .before .before .before in
+    let eight = spread-first right-32 (start .args .bits) (start .args .r) (start .pre .1) (c .spread-eight .ensures) in
+    spread-all eight 1 (omega arith) (omega arith) (omega arith) (omega arith)
 
-slice-aggregate-spread-eight-2 : tie.Need-slice-aggregate-spread-eight-2
-slice-aggregate-spread-eight-2 c = search needs
-
-spread-eight-requires-2 : tie.Need-spread-eight-requires-2
-spread-eight-requires-2 c κs = (omega arith, omega arith, below-64 refl)
-
-abbrev to-16 : tie.After-spread-eight2 → Spread right-32 16
-to-16 c = spread-next (to-8 (c .before .before .before)) (c .spread-eight2 .ensures)
-
-slice-aggregate-spread-eight-3 : tie.Need-slice-aggregate-spread-eight-3
-slice-aggregate-spread-eight-3 c = search needs
-
-spread-eight-requires-3 : tie.Need-spread-eight-requires-3
-spread-eight-requires-3 c κs = (omega arith, omega arith, below-64 refl)
-
-abbrev to-24 : tie.After-spread-eight3 → Spread right-32 24
-to-24 c = spread-next (to-16 (c .before .before)) (c .spread-eight3 .ensures)
-
-slice-aggregate-spread-eight-4 : tie.Need-slice-aggregate-spread-eight-4
-slice-aggregate-spread-eight-4 c = search needs
-
-spread-eight-requires-4 : tie.Need-spread-eight-requires-4
-spread-eight-requires-4 c κs = (omega arith, omega arith, below-64 refl)
-
-abbrev to-32 : tie.After-spread-eight4 → Spread right-32 32
-to-32 c = spread-next (to-24 (c .before .before)) (c .spread-eight4 .ensures)
+placed-32-requires : tie.Need-placed-32-requires
+placed-32-requires c κs = search needs
 
 returns-2 : tie.Need-returns-2
-returns-2 c = spread-all (to-32 c) 5 (omega arith) (omega arith) (omega arith) (to-32 c .degree)
+returns-2 c = c .placed-32 .ensures
 
 pub spread-32-spec : {M : Type 1} → statement M
 spread-32-spec =
@@ -57,10 +32,5 @@ spread-32-spec =
     slice-aggregate-spread-eight
     spread-eight-requires
     returns
-    slice-aggregate-spread-eight-2
-    spread-eight-requires-2
-    slice-aggregate-spread-eight-3
-    spread-eight-requires-3
-    slice-aggregate-spread-eight-4
-    spread-eight-requires-4
+    placed-32-requires
     returns-2)

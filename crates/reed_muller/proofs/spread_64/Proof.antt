@@ -1,4 +1,4 @@
--- `spread_64`: eight masks are enough for r of at most 1, 48 for r of at most 3, and 64 are all. Assumes nothing.
+-- `spread_64`: eight masks are enough for r of at most 1, 48 for r of at most 3. Assumes nothing.
 use mathlib.Core.Path.{refl}
 use native.Mathlib.Omega.{arith}
 use borrow.Author.Needs.{needs}
@@ -15,7 +15,7 @@ spread-eight-requires c κs = (omega arith, omega arith, below-64 refl)
 
 -- the number once the bits of the first eight masks, the first sixteen, and so on are laid
 abbrev to-8 : tie.After-spread-eight → Spread right-64 8
-to-8 c = let start = c .before .before in spread-first right-64 (start .args .bits) (start .pre .0) (start .pre .1) (c .spread-eight .ensures)
+to-8 c = let start = c .before .before in spread-first right-64 (start .args .bits) (start .args .r) (start .pre .1) (c .spread-eight .ensures)
 
 returns : tie.Need-returns
 returns c = spread-all (to-8 (c .before)) 1 (omega arith) (omega arith) (omega arith) (c .if1 .taken)
@@ -27,7 +27,7 @@ spread-eight-requires-2 : tie.Need-spread-eight-requires-2
 spread-eight-requires-2 c κs = (omega arith, omega arith, below-64 refl)
 
 abbrev to-16 : tie.After-spread-eight2 → Spread right-64 16
-to-16 c = spread-next (to-8 (c .before .before .before)) (c .spread-eight2 .ensures)
+to-16 c = spread-next (to-8 (c .before .before .before .before)) (c .spread-eight2 .ensures)
 
 slice-aggregate-spread-eight-3 : tie.Need-slice-aggregate-spread-eight-3
 slice-aggregate-spread-eight-3 c = search needs
@@ -66,28 +66,13 @@ abbrev to-48 : tie.After-spread-eight6 → Spread right-64 48
 to-48 c = spread-next (to-40 (c .before .before)) (c .spread-eight6 .ensures)
 
 returns-2 : tie.Need-returns-2
-returns-2 c = spread-all (to-48 (c .before)) 3 (omega arith) (omega arith) (omega arith) (c .if2 .taken)
+returns-2 c = spread-all (to-48 c) 3 (omega arith) (omega arith) (omega arith) (omega arith)
 
-slice-aggregate-spread-eight-7 : tie.Need-slice-aggregate-spread-eight-7
-slice-aggregate-spread-eight-7 c = search needs
-
-spread-eight-requires-7 : tie.Need-spread-eight-requires-7
-spread-eight-requires-7 c κs = (omega arith, omega arith, below-64 refl)
-
-abbrev to-56 : tie.After-spread-eight7 → Spread right-64 56
-to-56 c = spread-next (to-48 (c .before .before .before)) (c .spread-eight7 .ensures)
-
-slice-aggregate-spread-eight-8 : tie.Need-slice-aggregate-spread-eight-8
-slice-aggregate-spread-eight-8 c = search needs
-
-spread-eight-requires-8 : tie.Need-spread-eight-requires-8
-spread-eight-requires-8 c κs = (omega arith, omega arith, below-64 refl)
-
-abbrev to-64 : tie.After-spread-eight8 → Spread right-64 64
-to-64 c = spread-next (to-56 (c .before .before)) (c .spread-eight8 .ensures)
+placed-64-requires : tie.Need-placed-64-requires
+placed-64-requires c κs = search needs
 
 returns-3 : tie.Need-returns-3
-returns-3 c = spread-all (to-64 c) 6 (omega arith) (omega arith) (omega arith) (to-64 c .degree)
+returns-3 c = c .placed-64 .ensures
 
 pub spread-64-spec : {M : Type 1} → statement M
 spread-64-spec =
@@ -107,8 +92,5 @@ spread-64-spec =
     slice-aggregate-spread-eight-6
     spread-eight-requires-6
     returns-2
-    slice-aggregate-spread-eight-7
-    spread-eight-requires-7
-    slice-aggregate-spread-eight-8
-    spread-eight-requires-8
+    placed-64-requires
     returns-3)
