@@ -21,8 +21,8 @@ pub record Gathered (es : List ℕ) (n : ℕ) : Type 0 where
   pub word : ℕ
   pub is : word ≡ number n (bitsFrom es bits 0)
 
-abbrev pub gathered-first : {es : List ℕ} (bits : ℕ) {y : ℕ} → y ≡ number 8 (bitsFrom es bits 0) → Gathered es 8
-gathered-first bits {y} e = record { bits = bits; word = y; is = e }
+abbrev pub gathered-first : (es : List ℕ) (bits : ℕ) {y : ℕ} → y ≡ number 8 (bitsFrom es bits 0) → Gathered es 8
+gathered-first es bits {y} e = record { bits = bits; word = y; is = e }
 
 module _ {es : List ℕ} {n : ℕ} (g : Gathered es n) where
   word-less : g .word < 2 ^ n

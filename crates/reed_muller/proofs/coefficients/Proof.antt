@@ -4,7 +4,7 @@ use mathlib.Core.Path.{_≡_, refl, subst}
 use native.Mathlib.Omega.{arith}
 use borrow.Author.Needs.{needs}
 use Rattle.reed_muller.specs.Level.{dimension}
-use Rattle.reed_muller.proofs.MaskTables.{right-8, below-64, last}
+use Rattle.reed_muller.proofs.MaskTables.{right-8, placesOf, below-64, last}
 use Rattle.reed_muller.proofs.Gathered.{gathered-first, gathered-all}
 use Rattle.reed_muller.proofs.coefficients.Statement.{statement}
 use Rattle.reed_muller.proofs.coefficients.Tie as tie
@@ -22,7 +22,7 @@ gather-eight-requires c κs = (omega arith, below-64 refl)
 returns : tie.Need-returns
 returns c =
     let at = c .before .before in
-    rw (at .if1 .taken) (gathered-all right-8 (gathered-first (at .before .args .bits) (c .gather-eight .ensures)))
+    rw (at .if1 .taken) (gathered-all right-8 (gathered-first (placesOf right-8) (at .before .args .bits) (c .gather-eight .ensures)))
 
 spread-16-requires : tie.Need-spread-16-requires
 spread-16-requires c κs = let start = c .before .before in fits (c .if2 .taken) (start .pre .1) (start .pre .2)

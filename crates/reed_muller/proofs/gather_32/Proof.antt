@@ -15,7 +15,7 @@ gather-eight-requires c κs = (omega arith, below-64 refl)
 
 -- the number once the bits of the first eight masks, the first sixteen, and so on are gathered
 abbrev to-8 : tie.After-gather-eight → Gathered (masksOf right-32) 8
-to-8 c = gathered-first (c .before .before .args .bits) (c .gather-eight .ensures)
+to-8 c = gathered-first (masksOf right-32) (c .before .before .args .bits) (c .gather-eight .ensures)
 
 low-bits-requires : tie.Need-low-bits-requires
 low-bits-requires c κs = search needs

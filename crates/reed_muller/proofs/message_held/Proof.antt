@@ -3,7 +3,7 @@ use Prim.Native.Nat.{ℕ, _^_, _≤_}
 use mathlib.Core.Path.{_≡_, refl, _∙_, subst}
 use native.Mathlib.Omega.{arith}
 use borrow.Author.Needs.{needs}
-use Rattle.reed_muller.proofs.MaskTables.{right-8, below-64, last}
+use Rattle.reed_muller.proofs.MaskTables.{right-8, masksOf, below-64, last}
 use Rattle.reed_muller.proofs.Gathered.{gathered-first, gathered-low}
 use Rattle.reed_muller.proofs.message_held.Statement.{statement}
 use Rattle.reed_muller.proofs.message_held.Tie as tie
@@ -30,7 +30,7 @@ returns c =
     let eight = c .before in
     let at = eight .before .before in
     rw (at .if1 .taken)
-    (c .low-bits .ensures ∙ gathered-low right-8 (gathered-first (at .before .args .bits) (eight .gather-eight .ensures)) (few-8 at .1))
+    (c .low-bits .ensures ∙ gathered-low right-8 (gathered-first (masksOf right-8) (at .before .args .bits) (eight .gather-eight .ensures)) (few-8 at .1))
 
 gather-16-requires : tie.Need-gather-16-requires
 gather-16-requires c κs = let start = c .before .before in fits (c .if2 .taken) (start .pre .1) (start .pre .2)

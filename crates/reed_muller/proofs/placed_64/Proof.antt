@@ -15,7 +15,7 @@ gather-eight-requires c κs = (omega arith, below-64 refl)
 
 -- the number once the bits at the first eight places, the first sixteen, and so on are gathered
 abbrev to-8 : tie.After-gather-eight → Gathered (placesOf right-64) 8
-to-8 c = gathered-first (c .before .before .args .bits) (c .gather-eight .ensures)
+to-8 c = gathered-first (placesOf right-64) (c .before .before .args .bits) (c .gather-eight .ensures)
 
 slice-aggregate-gather-eight-2 : tie.Need-slice-aggregate-gather-eight-2
 slice-aggregate-gather-eight-2 c = search needs
