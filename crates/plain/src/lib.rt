@@ -68,9 +68,8 @@ fn write_sent(kind: u8, grade: usize, message: &[u8], frame: &mut [i32]) -> u64
     ensures energy { λ r. ⌜ r ≡ energyOf (sentFrame kind grade (now (message .entry))) ⌝ }
 {
     write_leader(kind, grade, message, frame);
-    let k = kind_table::levels(kind) + grade - 1;
-    shaping::shape(k as u32, frame);
-    coordinates::energy(frame)
+    let sent = sending::shape_leader(kind, grade, frame);
+    sent.energy
 }
 
 // Sending by the mask test at every position: as `coder_send`, by the same contract.

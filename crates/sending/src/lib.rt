@@ -5,9 +5,10 @@ ghost use Prim.Native.Nat.{_%_, _≤_, _^_};
 ghost use lib.ListN.{length};
 ghost use Rattle.e8.specs.Energy.{energy as energyOf, Within};
 ghost use Rattle.e8.specs.Largest.{largestBlock};
-ghost use Rattle.frames.specs.Kind.{isKind, messageBytes};
+ghost use Rattle.e8.specs.Least.{leastFrame};
+ghost use Rattle.frames.specs.Kind.{isKind, blocks, messageBytes};
 ghost use Rattle.frames.specs.Message.{leader};
-ghost use Rattle.frames.specs.Frame.{sentFrame};
+ghost use Rattle.frames.specs.Frame.{half, sentFrame};
 ghost use Rattle.frames.specs.Sending.{sendRefusal, frameAfter, energySent, LeastEnergy};
 
 mod leader;
@@ -66,6 +67,18 @@ fn shaped_energies(frame: &[i32]) -> Energies
     Energies { energy, largest }
 }
 
+// Shapes the leader of a message of a good kind and grade in place, and gives the energy of the sent frame and its largest block's.
+pub fn shape_leader(kind: u8, grade: usize, frame: &mut [i32]) -> Energies
+    requires { ⌜ (isKind kind ≡ true) × (1 ≤ grade) × (grade ≤ 4) × (length (now frame) ≡ 2 ^ kind) × Within (2 ^ 24) (now frame) ⌝ }
+    ensures frame { λ _. ⌜ now (frame .exit) ≡ leastFrame (half kind grade) (blocks kind) (now (frame .entry)) ⌝ }
+    ensures energy { λ r. ⌜ r .energy ≡ energyOf (leastFrame (half kind grade) (blocks kind) (now (frame .entry))) ⌝ }
+    ensures largest { λ r. ⌜ r .largest ≡ largestBlock (leastFrame (half kind grade) (blocks kind) (now (frame .entry))) ⌝ }
+{
+    let k = kind_table::levels(kind) + grade - 1;
+    shaping::shape(k as u32, frame);
+    shaped_energies(frame)
+}
+
 // Writes the sent frame of a message of a good kind, grade and length, and gives its energy and its largest block's: the leader is written, and shaped.
 pub fn write_sent(kind: u8, grade: usize, message: &[u8], frame: &mut [i32]) -> Energies
     requires { ⌜ (isKind kind ≡ true) × (1 ≤ grade) × (grade ≤ 4)
@@ -75,9 +88,7 @@ pub fn write_sent(kind: u8, grade: usize, message: &[u8], frame: &mut [i32]) -> 
     ensures largest { λ r. ⌜ r .largest ≡ largestBlock (sentFrame kind grade (now (message .entry))) ⌝ }
 {
     write_leader(kind, grade, message, frame);
-    let k = kind_table::levels(kind) + grade - 1;
-    shaping::shape(k as u32, frame);
-    shaped_energies(frame)
+    shape_leader(kind, grade, frame)
 }
 
 // The tests alone, for a caller that has a test of its own to make before anything is written; n coordinates are lent.

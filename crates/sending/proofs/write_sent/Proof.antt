@@ -1,76 +1,33 @@
 -- `write_sent` meets its contract: the shaped leader is the sent frame. Assumes nothing.
-use Prim.Native.Nat.{_≤_}
-use mathlib.Core.Path.{_≡_, ap, _∙_}
-use native.Mathlib.Omega.{arith}
+use mathlib.Core.Path.{ap, _∙_}
 use Rattle.e8.specs.Energy.{energy}
 use Rattle.e8.specs.Largest.{largestBlock}
-use Rattle.frames.specs.Frame.{sentFrame}
-use Rattle.frames.proofs.Limits.{few-levels}
-use Rattle.sending.proofs.Sent.{sent-is, shape-takes, energy-takes}
+use Rattle.sending.proofs.Sent.{leader-takes, sent-is}
 use borrow.Author.Needs.{needs}
 use Rattle.sending.proofs.write_sent.Statement.{statement}
 use Rattle.sending.proofs.write_sent.Tie as tie
 
-few : (c : tie.After-levels) → c .levels .result ≤ 3
-few c =
-    let s = c .before .before .before .before .before in
-    omega (arith, c .levels .ensures, few-levels (s .args .kind) (s .pre .0))
-
 write-leader-requires : tie.Need-write-leader-requires
 write-leader-requires c κs = search needs
 
-levels-requires : tie.Need-levels-requires
-levels-requires c κs = search needs
-
-add-k : tie.Need-add-k
-add-k c = omega (arith, few c)
-
-sub-k : tie.Need-sub-k
-sub-k c = search needs
-
-cast-shape : tie.Need-cast-shape
-cast-shape c = omega (arith, few c)
-
-shape-requires : tie.Need-shape-requires
-shape-requires c κs =
-    let l = c .before .before .before in
+shape-leader-requires : tie.Need-shape-leader-requires
+shape-leader-requires c κs =
+    let l = c .before .before in
     let s = l .before .before .before in
-    let t = shape-takes (s .args .kind) (s .args .grade) (s .pre .0) (s .pre .1) (s .pre .2) (s .args .message .now) _ (l .write-leader .ensures) in
-    (omega (arith, few (c .before)), t .0, t .1, t .2, t .3)
-
--- what is shaped is the sent frame
-shaped : (h : tie.After-shape) → let s = h .before .before .before .before .before .before .before in h .shape .last .1 .0 ≡ sentFrame (s .args .kind) (s .args .grade) (s .args .message .now)
-shaped h =
-    let v = h .before .before in
-    let l = v .before .before in
-    let s = l .before .before .before in
-    h .shape .ensures ∙ sent-is (s .args .kind) (s .args .grade) (v .levels .result) (s .args .message .now) (l .write-leader .last .1 .1 .1 .0) (v .levels .ensures) (l .write-leader .ensures)
-
-shaped-energies-requires : tie.Need-shaped-energies-requires
-shaped-energies-requires c κs =
-    let h = c .before .before in
-    let s = h .before .before .before .before .before .before .before in
-    energy-takes (s .args .kind) (s .args .grade) (s .pre .0) (s .pre .1) (s .pre .2) (s .args .message .now) _ (shaped h)
+    let t = leader-takes (s .args .kind) (s .args .grade) (s .args .message .now) _ (l .write-leader .ensures) (s .pre .0) (s .pre .2) in
+    (s .pre .0, s .pre .1, s .pre .2, t .0, t .1)
 
 same-length : tie.Need-same-length
 same-length c = search needs
 
 returns : tie.Need-returns
 returns c =
-    let h = c .before .before .before in
-    let e = c .shaped-energies .ensures in
-    (shaped h, (e .0 ∙ ap energy (shaped h), e .1 ∙ ap largestBlock (shaped h)))
+    let h = c .before in
+    let l = h .before .before .before in
+    let s = l .before .before .before in
+    let e = h .shape-leader .ensures in
+    let is = sent-is (s .args .kind) (s .args .grade) (s .args .message .now) _ (l .write-leader .ensures) in
+    (e .0 ∙ is, (e .1 .0 ∙ ap energy is, e .1 .1 ∙ ap largestBlock is))
 
 pub write-sent-spec : {M : Type 1} → statement M
-write-sent-spec =
-    tie.close
-    (tie.spec
-    write-leader-requires
-    levels-requires
-    add-k
-    sub-k
-    cast-shape
-    shape-requires
-    shaped-energies-requires
-    same-length
-    returns)
+write-sent-spec = tie.close (tie.spec write-leader-requires shape-leader-requires same-length returns)
