@@ -157,10 +157,6 @@ pub record Piece (from count bits : ℕ) : Type 0 where
   pub word : from % 8 + count ≤ 64
   pub inside : from + count ≤ bits
 
--- as `bits_at` and `put_bits` ask it of n bytes that hold the message
-pub in-bytes : {from count bits : ℕ} → Piece from count bits → (n : ℕ) → bits ≤ 8 * n → (count ≤ 63) × (from % 8 + count ≤ 64) × (from + count ≤ 8 * n)
-in-bytes p n h = (p .few, p .word, omega (arith, p .inside))
-
 -- the pieces of levels of the degrees rs, from bit `from` on: each level begins where the one before ends
 abbrev held : ℕ → ℕ → List ℕ → Bool
 held m from [] = true

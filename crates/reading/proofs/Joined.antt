@@ -2,27 +2,17 @@
 use Prim.Native.Nat.{ℕ, zero, suc, _+_, _*_, _%_, _^_, _≤_, _<_}
 use mathlib.Core.Path.{_≡_, refl, sym, ap, ap₂, _∙_}
 use mathlib.Core.List.{List, [], _∷_, _++_, map}
-use native.Mathlib.Nat.{mul-comm, mul-le-mul-right, mod-eq-of-lt}
 use native.Mathlib.Omega.{arith}
 use lib.ListN.{length, getD, drop, List·getD-append}
 use lib.IntN.{ℤ, pos, natAbs}
-use lib.Pow.{pow-pos, pow-mono, pow-add}
 use lib.Seq.{getD-append-add}
 use Rattle.bits.specs.Number.{sumTo, number}
-use Rattle.bits.proofs.Sum.{sum-ext, sum-split, sum-times}
 use Rattle.bits.proofs.Table.{table-at}
-use Rattle.bits.proofs.Message.{number-ext, number-digits}
+use Rattle.bits.proofs.Message.{number-ext, number-join, number-digits}
 use Rattle.bits.proofs.Digits.{digit}
 use Rattle.e8.specs.Rows.{ints}
 use Rattle.frames.specs.Reading.{digits, allDigits}
 use Rattle.frames.proofs.Numbers.{total, digits-length}
-
--- w bits, and n bits above them
-pub number-join : (w n : ℕ) (f : ℕ → ℕ) → 2 ^ w * number n (λ t. f (w + t)) + number w f ≡ number (w + n) f
-number-join w n f = omega (arith, sum-split w n (λ p. f p * 2 ^ p), above)
-  where
-    above : sumTo n (λ t. f (w + t) * 2 ^ (w + t)) ≡ 2 ^ w * number n (λ t. f (w + t))
-    above = sum-ext n (λ t l. omega (arith, ap (λ (x : ℕ). f (w + t) * x) (pow-add 2 w t))) ∙ sum-times n (2 ^ w) (λ t. f (w + t) * 2 ^ t)
 
 -- the bits of f from p on: w bits more below those from w + p on
 pub number-from : (f : ℕ → ℕ) (w n p word : ℕ) → word ≡ number n (λ t. f (w + p + t))
@@ -66,13 +56,6 @@ pub total-drop : (ws : List ℕ) (i : ℕ) → total (drop i ws) ≤ total ws
 total-drop ws zero = omega arith
 total-drop [] (suc i) = omega arith
 total-drop (w ∷ ws) (suc i) = omega (arith, total-drop ws i)
-
--- a number of n bits moved up by w bits, where a word of W bits has room
-pub moved-up : (x w n W : ℕ) → x < 2 ^ n → w + n ≤ W → x * 2 ^ w % 2 ^ W ≡ 2 ^ w * x
-moved-up x w n W h room =
-    let e : x * 2 ^ w ≡ 2 ^ w * x = mul-comm x (2 ^ w) in
-    let l : x + 1 ≤ 2 ^ n = omega arith in
-    mod-eq-of-lt (omega (arith, mul-le-mul-right (2 ^ w) l, pow-pos w, pow-add 2 w n, pow-mono {i = w + n} {j = W} room)) ∙ e
 
 -- ---- the sizes of a block's numbers
 

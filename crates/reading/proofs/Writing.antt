@@ -10,12 +10,11 @@ use lib.ListN.{length, getD, List·getD-eq-default}
 use lib.Pow.{high}
 use Rattle.bits.specs.Number.{number}
 use Rattle.bits.specs.Message.{messageBit, bytesOf, withBits}
-use Rattle.bits.proofs.Message.{message-small, length-bytes, bits-of-bytes, bytes-ext, bytes-of-bits, number-lt, number-ext, digit-of}
+use Rattle.bits.proofs.Message.{message-small, length-bytes, bits-of-bytes, bytes-ext, bytes-of-bits, number-lt, number-ext, number-join, digit-of}
 use Rattle.bits.proofs.Message.{with-in, with-before, with-past, with-small, with-none}
 use Rattle.bits.proofs.Bytewise.{with-ext}
-use Rattle.bits.proofs.Digits.{digit, digit-past}
+use Rattle.bits.proofs.Digits.{digit, digit-past, moved-up}
 use Rattle.reading.specs.Written.{written}
-use Rattle.reading.proofs.Joined.{number-join, moved-up}
 
 -- a row of bits: every entry is 0 or 1
 abbrev pub Bits : List ℕ → Type 0

@@ -171,10 +171,6 @@ module _ (r m : ℕ) where
       (λ i (hi : r ≤ i) e. (rw length-append (omega (arith, e .0)), take-append-le (length (masks r m)) (masks i m) _ (e .0) ∙ e .1))
       j h
 
--- there is a message bit: that of mask 0
-pub dimension-some : (r m : ℕ) → 1 ≤ dimension r m
-dimension-some r m = omega (arith, place-mask r m 0 (pow-pos m) (omega (arith, ones-le 0 0 (omega arith))) .0)
-
 -- a higher degree has all message bits of a lower one
 pub dimension-mono : (r j m : ℕ) → r ≤ j → dimension r m ≤ dimension j m
 unfolding dimension

@@ -1,7 +1,7 @@
 -- `coordinate` meets its contract: from the last level to the first, what stands over the levels passed so far. Assumes nothing.
 use Prim.Native.Nat.{ℕ, suc, _+_, _-_, _*_, _^_, _≤_, _<_}
-use mathlib.Core.Path.{_≡_, refl, sym, ap, ap₂, _∙_, subst}
-use mathlib.Core.List.{List, [], _∷_}
+use mathlib.Core.Path.{_≡_, sym, ap, ap₂, _∙_, subst}
+use mathlib.Core.List.{List}
 use native.Mathlib.Nat.{mul-le-mul}
 use native.Mathlib.Omega.{arith}
 use lib.IntN.{pos}
@@ -17,7 +17,7 @@ use Rattle.reed_muller.proofs.Codeword.{codeword-small}
 use Rattle.frames.specs.Kind.{degrees, levels as levels-of, dimensions, levelBits}
 use Rattle.frames.specs.Message.{stacked}
 use Rattle.frames.proofs.Lengths.{level-end}
-use Rattle.frames.proofs.Limits.{tabled, few-levels, few-level-bits, degree-fits, Piece, level-piece}
+use Rattle.frames.proofs.Limits.{tabled, few-levels, few-level-bits, degree-fits, level-piece}
 use Rattle.kind_table.proofs.Entry.{entry-levels, entry-bits, entry-degree}
 use Rattle.sending.proofs.Stack.{stacked-below}
 use Rattle.plain.proofs.coordinate.Statement.{statement}

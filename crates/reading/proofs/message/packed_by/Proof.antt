@@ -15,11 +15,11 @@ use borrow.Author.Needs.{needs}
 use Rattle.integers.proofs.Zed.{tz}
 use Rattle.bits.specs.Number.{sumTo, number}
 use Rattle.bits.proofs.Message.{number-lt}
-use Rattle.bits.proofs.Digits.{one-shifted}
+use Rattle.bits.proofs.Digits.{one-shifted, moved-up}
 use Rattle.frames.specs.Message.{widths}
 use Rattle.frames.specs.Reading.{digits, allDigits}
 use Rattle.frames.proofs.Numbers.{total, total-widths}
-use Rattle.reading.proofs.Joined.{pack-more, all-from, total-from, total-drop, moved-up, sizes-at, sizes-length}
+use Rattle.reading.proofs.Joined.{pack-more, all-from, total-from, total-drop, sizes-at, sizes-length}
 use Rattle.reading.proofs.Rows.{all-bits}
 use Rattle.reading.proofs.message.packed_by.Statement.{statement}
 use Rattle.reading.proofs.message.packed_by.Tie as tie
