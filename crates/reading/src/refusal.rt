@@ -90,7 +90,7 @@ pub fn tests(strict: bool, kind: u8, grade: u8, frame: &[i32], n: usize) -> Test
         return t;
     }
     let k = kind_table::levels(kind) + (grade as usize) - 1;
-    if is_least(k as u32, frame) {
+    if is_least(kind, k as u32, frame) {
         t
     } else {
         refused(9)

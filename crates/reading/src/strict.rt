@@ -1,24 +1,48 @@
 // The further test of the strict reading: a frame is the one that is sent where each block is the least member of its class.
 ghost use mathlib.Core.Path.{_≡_};
-ghost use Prim.Native.Nat.{_*_, _/_, _^_, _≤_};
-ghost use lib.ListN.{length};
+ghost use mathlib.Core.Bool.{true};
+ghost use mathlib.Core.List.{_++_};
+ghost use Prim.Native.Nat.{_+_, _/_, _^_, _≤_};
+ghost use lib.ListN.{length, take, drop};
 ghost use Rattle.e8.specs.Energy.{Within};
 ghost use Rattle.e8.specs.Least.{leastFrame};
 ghost use Rattle.bits.specs.Number.{pick};
+ghost use Rattle.frames.specs.Kind.{isKind};
 ghost use Rattle.frames.specs.Reading.{sameNumber, sameFrame};
 
-// A frame written over another of its length.
-fn copied(frame: &[i32], copy: &mut [i32])
-    requires { ⌜ length (now frame) ≡ length (now copy) ⌝ }
-    ensures { λ _. ⌜ now (copy .exit) ≡ now (frame .entry) ⌝ }
+// The n coordinates from place a on written over those of a copy, whose coordinates before them are the frame's already.
+fn copy_part(frame: &[i32], copy: &mut [i32], a: usize, n: usize)
+    requires { ⌜ (a + n ≤ 64) × (a + n ≤ length (now frame)) × (length (now copy) ≡ length (now frame)) × (take a (now copy) ≡ take a (now frame)) ⌝ }
+    ensures { λ _. ⌜ now (copy .exit) ≡ take (a + n) (now (frame .entry)) ++ drop (a + n) (now (copy .entry)) ⌝ }
 {
-    let n = copy.len();
     let mut i: usize = 0;
     while i < n {
-        let z = frame[i];
-        copy[i] = z;
+        let p = a + i;
+        let z = frame[p];
+        copy[p] = z;
         i += 1;
     }
+}
+
+// A frame of a kind written over another. By parts of constant length, 32 coordinates at most: of a longer part, or of one whose length it does not know,
+// the compiler makes a call of memcpy, and the archive calls nothing.
+fn copied(kind: u8, frame: &[i32], copy: &mut [i32])
+    requires { ⌜ (isKind kind ≡ true) × (length (now frame) ≡ 2 ^ kind) × (length (now copy) ≡ 2 ^ kind) ⌝ }
+    ensures { λ _. ⌜ now (copy .exit) ≡ now (frame .entry) ⌝ }
+{
+    copy_part(frame, copy, 0, 8);
+    if kind == 3 {
+        return;
+    }
+    copy_part(frame, copy, 8, 8);
+    if kind == 4 {
+        return;
+    }
+    copy_part(frame, copy, 16, 16);
+    if kind == 5 {
+        return;
+    }
+    copy_part(frame, copy, 32, 32);
 }
 
 // 0 where two coordinates are the same, and else 1.
@@ -45,25 +69,23 @@ fn same(a: &[i32], b: &[i32]) -> bool
     d == 0
 }
 
-// Whether a frame of whole blocks is the least member of its class, for the scale M = 2^(k + 1). The least member is made in `copy`.
-fn is_least_by(k: u32, frame: &[i32], copy: &mut [i32]) -> bool
-    requires { ⌜ (k ≤ 6) × (8 * (length (now frame) / 8) ≡ length (now frame)) × Within (2 ^ 24) (now frame)
-        × (8 ≤ length (now frame)) × (length (now frame) ≤ 64) × (length (now frame) ≡ length (now copy)) ⌝ }
+// Whether a frame of a kind is the least member of its class, for the scale M = 2^(k + 1). The least member is made in `copy`.
+fn is_least_by(kind: u8, k: u32, frame: &[i32], copy: &mut [i32]) -> bool
+    requires { ⌜ (isKind kind ≡ true) × (k ≤ 6) × Within (2 ^ 24) (now frame) × (length (now frame) ≡ 2 ^ kind) × (length (now copy) ≡ 2 ^ kind) ⌝ }
     ensures same { λ r. ⌜ r ≡ sameFrame (now (frame .entry)) (leastFrame (2 ^ k) (length (now (frame .entry)) / 8) (now (frame .entry))) ⌝ }
     ensures copy { λ _. ⌜ now (copy .exit) ≡ leastFrame (2 ^ k) (length (now (frame .entry)) / 8) (now (frame .entry)) ⌝ }
 {
-    copied(frame, copy);
+    copied(kind, frame, copy);
     shaping::shape(k, copy);
     same(frame, copy)
 }
 
 // The same, with a copy of its own.
-pub fn is_least(k: u32, frame: &[i32]) -> bool
-    requires { ⌜ (k ≤ 6) × (8 * (length (now frame) / 8) ≡ length (now frame)) × Within (2 ^ 24) (now frame)
-        × (8 ≤ length (now frame)) × (length (now frame) ≤ 64) ⌝ }
+pub fn is_least(kind: u8, k: u32, frame: &[i32]) -> bool
+    requires { ⌜ (isKind kind ≡ true) × (k ≤ 6) × Within (2 ^ 24) (now frame) × (length (now frame) ≡ 2 ^ kind) ⌝ }
     ensures { λ r. ⌜ r ≡ sameFrame (now (frame .entry)) (leastFrame (2 ^ k) (length (now (frame .entry)) / 8) (now (frame .entry))) ⌝ }
 {
     let n = frame.len();
     let mut copy = [0i32; 64];
-    is_least_by(k, frame, &mut copy[0..n])
+    is_least_by(kind, k, frame, &mut copy[0..n])
 }

@@ -15,7 +15,7 @@ use Rattle.frames.specs.Frame.{half}
 use Rattle.frames.specs.Sending.{unless}
 use Rattle.frames.specs.Reading.{sameFrame, openRefusal}
 use Rattle.frames.proofs.Rows.{grade-low, grade-high}
-use Rattle.frames.proofs.Limits.{few-levels, few-positions, whole-blocks, some-block}
+use Rattle.frames.proofs.Limits.{few-levels}
 use Rattle.frames.proofs.Refusals.{range-within, Accepted, accepted}
 use Rattle.frames.proofs.Reading.{strict-by-least}
 use Rattle.reading.specs.Numbers.{refusalOf}
@@ -48,9 +48,6 @@ module _ (c : tie.Else1) where
 
   small : levels (start .args .kind) + start .args .grade ≤ 7
   small = omega (arith, few-levels (start .args .kind) (a .kind), grade-high (start .args .grade) (a .grade))
-
-  whole : 8 * (length (start .args .frame .now) / 8) ≡ length (start .args .frame .now)
-  whole = ap (λ (n : ℕ). 8 * (n / 8)) (a .coordinates) ∙ whole-blocks (start .args .kind) (a .kind) ∙ sym (a .coordinates)
 
 tested : (c : tie.After-is-least) → let s = start (c .before .before .before) .args in
     c .is-least .result ≡ sameFrame (s .frame .now) (leastFrame (half (s .kind) (s .grade)) (blocks (s .kind)) (s .frame .now))
@@ -104,11 +101,10 @@ is-least-requires c κs =
     let d = c .before .before in
     let k = start d .args .kind in
     let f = start d .args .frame .now in (
+      a d .kind,
       omega (arith, c .levels .ensures, small d),
-      whole d,
       within-to 1048576 (2 ^ 24) f (omega arith) (range-within f (a d .range)),
-      omega (arith, a d .coordinates, whole-blocks k (a d .kind), some-block k (a d .kind)),
-      omega (arith, a d .coordinates, few-positions k (a d .kind)),
+      a d .coordinates,
     )
 
 returns-3 : tie.Need-returns-3

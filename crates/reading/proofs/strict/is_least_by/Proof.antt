@@ -9,6 +9,7 @@ use borrow.Author.Needs.{needs}
 use Rattle.e8.specs.Energy.{Within}
 use Rattle.e8.specs.Least.{leastFrame}
 use Rattle.frames.specs.Reading.{sameFrame}
+use Rattle.frames.proofs.Limits.{few-positions, some-block, whole-blocks}
 use Rattle.reading.proofs.strict.is_least_by.Statement.{statement}
 use Rattle.reading.proofs.strict.is_least_by.Tie as tie
 
@@ -19,12 +20,14 @@ shape-requires : tie.Need-shape-requires
 shape-requires c κs =
     let d = c .before .before in
     let s = d .before .before in
-    let e = d .copied .ensures in (
-      omega (arith, s .pre .0),
-      omega (arith, ap length e, s .pre .1),
-      omega (arith, ap length e, s .pre .4),
+    let k = s .args .kind in
+    let e = d .copied .ensures in
+    let n = whole-blocks k (s .pre .0) in (
+      omega (arith, s .pre .1),
+      omega (arith, ap length e, s .pre .3, n),
+      omega (arith, ap length e, s .pre .3, few-positions k (s .pre .0)),
       subst (Within (2 ^ 24)) (sym e) (s .pre .2),
-      omega (arith, ap length e, s .pre .3),
+      omega (arith, ap length e, s .pre .3, n, some-block k (s .pre .0)),
     )
 
 same-requires : tie.Need-same-requires
