@@ -28,9 +28,9 @@
  *   - a pointer is valid for as many elements as its length says, and aligned for its type. Where the length is 0 it may be
  *     anything, null too: no message and no frame has length 0, and the call is refused before anything is read or written;
  *   - `count`, `sum` and `largest`, or `account`, are valid in every call, and never null, also where the call is refused;
- *   - what is lent to one call does not overlap, and nobody else writes to it during the call;
- *   - the message that is lent to a reading holds values, any values (`= {0}`): the reading loads its bytes before it overwrites
- *     them. What stood there makes no difference to the outcome, but valgrind tells of memory that was never set.
+ *   - what is lent to one call does not overlap, and nobody else writes to it during the call.
+ * What is lent to be written (a sender's frame, a reading's message) need not be set before: nothing of it is loaded that the call
+ *     has not stored (tested under valgrind).
  *
  * KIND AND GRADE ARE uint8_t in the archive's functions. C and C++ narrow an int to that in silence: kind 259 arrives as 3. The
  *     functions that are written out in this header take an int and test it before they narrow it. Where kind and grade come
@@ -44,12 +44,12 @@
  *     Measured on the archive of this version, A=target/staticlib/libframe_coder.a:
  *
  *       nm -u $A        no undefined symbols: it prints the name of the member and nothing more
- *       size $A         text 11012 (code and constants), data 0, bss 0
- *       size -A $A      a section for each function, so that -Wl,--gc-sections leaves out what is not called: of 10516 bytes of
- *                       code coder_send alone needs 4709, both readings 6277
+ *       size $A         text 15802 (code and constants), data 0, bss 0
+ *       size -A $A      a section for each function, so that -Wl,--gc-sections leaves out what is not called: of 15298 bytes of
+ *                       code coder_send alone needs 8925, both readings 9842
  *       cc -I crates/frame_coder tools/c/stack.c $A -o target/stack && target/stack
  *                       the most stack that a call used, in bytes, with its return address and the arguments on the stack:
- *                       coder_send 480, coder_send_counted 560, coder_read_open 464, coder_read_strict 560
+ *                       coder_send 784, coder_send_counted 848, coder_read_open 592, coder_read_strict 1072
  *       objdump -dr $A | grep -E '>:$|push|sub .*,%rsp|-0x[0-9a-f]*\(%rsp\)|PLT32'
  *                       where it goes: the frames on the way down add up to the same, nothing recurs, and 80 of the bytes of
  *                       sending and of the strict reading lie below the stack pointer, in the red zone of the calling convention:
