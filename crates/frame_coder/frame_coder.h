@@ -51,9 +51,9 @@
  *                       the most stack that a call used, in bytes, with its return address and the arguments on the stack:
  *                       coder_send 784, coder_send_counted 848, coder_read_open 592, coder_read_strict 1072
  *       objdump -dr $A | grep -E '>:$|push|sub .*,%rsp|-0x[0-9a-f]*\(%rsp\)|PLT32'
- *                       where it goes: the frames on the way down add up to the same, nothing recurs, and 80 of the bytes of
- *                       sending and of the strict reading lie below the stack pointer, in the red zone of the calling convention:
- *                       an interrupt on the same stack must leave out 128 bytes there
+ *                       where it goes: the frames on the way down add up to the same, nothing recurs, and 128 of the bytes of
+ *                       sending and of the strict reading, and 8 of those of the open reading, lie below the stack pointer, in the
+ *                       red zone of the calling convention: an interrupt on the same stack must leave out 128 bytes there
  *
  * Every function of the archive is proved to answer, and to leave in what it is lent, what crates/frame_coder/src/lib.rt says.
  * The functions that are written out in this header (lengths, names, account) are plain C and tested only, by tools/c/run; so are
