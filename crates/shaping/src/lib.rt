@@ -228,7 +228,8 @@ pub fn least(k: u32, x: [i32; 8]) -> [i32; 8]
     chosen(t as i32, whole, half)
 }
 
-// Shapes a frame in place, block by block, for the scale M = 2^(k + 1).
+// Shapes a frame in place, block by block, for the scale M = 2^(k + 1). In the library `least` is called here alone and has no branch: the compiler lays it
+// into the loop, and takes four blocks side by side.
 pub fn shape(k: u32, frame: &mut [i32])
     requires { ⌜ (k ≤ 6) × (length (now frame) % 8 ≡ 0) × (length (now frame) ≤ 1024)
         × Within (2 ^ 24) (now frame) × (8 ≤ length (now frame)) ⌝ }
