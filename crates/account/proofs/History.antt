@@ -3,7 +3,7 @@
 use Prim.Native.Nat.{_+_, _≤_, _<_}
 use mathlib.Core.Path.{_≡_, refl, sym, ap, _∙_}
 use mathlib.Core.Bool.{Bool, true, false}
-use mathlib.Core.List.{List, [], _∷_}
+use mathlib.Core.List.{List, [], _∷_, _++_}
 use native.Mathlib.Omega.{arith}
 use lib.Dec.{eqb}
 use lib.IntN.{ℤ}
@@ -29,7 +29,7 @@ frame-of c = sentFrame (c .kind) (c .grade) (c .message)
 
 module _ (a : Account) (c : Call) where
   -- an accepted call passed sending's tests, and the account had room
-  tests : answer a c ≡ 0 → Passed (c .kind) (c .grade) (c .message) (c .n)
+  pub tests : answer a c ≡ 0 → Passed (c .kind) (c .grade) (c .message) (c .n)
   tests e = all-passed (c .kind) (c .grade) (c .message) (c .n) (passed (c .kind) (c .grade) (c .message) (c .n) a 0 (sym e) (λ l. refl))
 
   counts : answer a c ≡ 0 → Countable 6 (frame-of c)
@@ -48,21 +48,27 @@ module _ (a : Account) (c : Call) where
   has-room : answer a c ≡ 0 → a .count < 1000000
   has-room e = leb-false 1000000 (a .count) (room (c .kind) (c .grade) (c .message) (c .n) a e)
 
-  after-sent : eqb (answer a c) 0 ≡ true → after a c ≡ grown a (frame-of c)
+  pub after-sent : eqb (answer a c) 0 ≡ true → after a c ≡ grown a (frame-of c)
   unfolding countedAccount
   after-sent q = simp q
 
-  after-refused : eqb (answer a c) 0 ≡ false → after a c ≡ a
+  pub after-refused : eqb (answer a c) 0 ≡ false → after a c ≡ a
   unfolding countedAccount
   after-refused q = simp q
 
-  by-sent : eqb (answer a c) 0 ≡ true → (cs : List Call) → sentBy a (c ∷ cs) ≡ frame-of c ∷ sentBy (after a c) cs
+  pub by-sent : eqb (answer a c) 0 ≡ true → (cs : List Call) → sentBy a (c ∷ cs) ≡ frame-of c ∷ sentBy (after a c) cs
   unfolding sentBy
   by-sent q cs = simp q
 
-  by-refused : eqb (answer a c) 0 ≡ false → (cs : List Call) → sentBy a (c ∷ cs) ≡ sentBy (after a c) cs
+  pub by-refused : eqb (answer a c) 0 ≡ false → (cs : List Call) → sentBy a (c ∷ cs) ≡ sentBy (after a c) cs
   unfolding sentBy
   by-refused q cs = simp q
+
+-- calls after other calls
+pub calls-after : (a : Account) (cs ds : List Call) → accountAfter a (cs ++ ds) ≡ accountAfter (accountAfter a cs) ds
+unfolding accountAfter
+calls-after a [] ds = refl
+calls-after a (c ∷ cs) ds = calls-after (after a c) cs ds
 
 -- the account is grown by the frames sent and by nothing else; at most 1,000,000 are
 record Grown (a : Account) (cs : List Call) : Type 0 where

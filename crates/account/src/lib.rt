@@ -3,8 +3,10 @@ ghost use mathlib.Core.Path.{_≡_};
 ghost use mathlib.Core.Bool.{false, cond};
 ghost use lib.Ieee.Exact.{HasValue};
 ghost use lib.ListN.{length};
+ghost use Rattle.e8.specs.Energy.{energy as energyOf};
+ghost use Rattle.frames.specs.Frame.{sentFrame};
 ghost use Rattle.frames.specs.Sending.{frameAfter, energySent, LeastEnergy};
-ghost use Rattle.account.specs.Power.{Measured, powerOf, begun, full, grownWith};
+ghost use Rattle.account.specs.Power.{Measured, powerOf, begun, full, grown, grownWith};
 ghost use Rattle.account.specs.Counted.{countedRefusal, countedAccount};
 
 // An account, by value: a count of frames, the sum of their powers, and the largest block energy among them. One from elsewhere may
@@ -68,8 +70,8 @@ fn grow(a: Account, energy: u64, n: usize, block: u64) -> Account
     }
 }
 
-// The tests: those of sending, and then whether the account is full; n coordinates are lent.
-fn refusal(kind: u8, grade: u8, message: &[u8], n: usize, account: Account) -> u8
+// The tests alone: those of sending, and then whether the account is full; n coordinates are lent.
+pub fn refusal(kind: u8, grade: u8, message: &[u8], n: usize, account: Account) -> u8
     ensures { λ r. ⌜ r ≡ countedRefusal kind grade (now (message .entry)) n account ⌝ }
 {
     let first = sending::test(kind, grade, message, n);
@@ -93,6 +95,28 @@ fn refused(number: u8, account: Account) -> Counted
     }
 }
 
+// Writes the sent frame of a message that passes the tests, and gives its energy and the account grown by it.
+pub fn write_counted(
+    kind: u8,
+    grade: u8,
+    message: &[u8],
+    frame: &mut [i32],
+    account: Account,
+) -> Counted
+    requires { ⌜ countedRefusal kind grade (now message) (length (now frame)) account ≡ 0 ⌝ }
+    ensures frame { λ _. ⌜ now (frame .exit) ≡ sentFrame kind grade (now (message .entry)) ⌝ }
+    ensures energy { λ r. ⌜ (r .number ≡ 0) × (r .energy ≡ energyOf (sentFrame kind grade (now (message .entry)))) ⌝ }
+    ensures account { λ r. ⌜ r .account ≡ grown account (sentFrame kind grade (now (message .entry))) ⌝ }
+{
+    let n = frame.len();
+    let sent = sending::write_sent(kind, grade as usize, message, frame);
+    Counted {
+        number: 0,
+        energy: sent.energy,
+        account: grow(account, sent.energy, n, sent.largest),
+    }
+}
+
 // Sends a message with an account: tests 1, 2, 3, 4, 5, then 11. A refusal writes nothing and gives the account as it came.
 pub fn send_counted(
     kind: u8,
@@ -107,15 +131,9 @@ pub fn send_counted(
     ensures account { λ r. ⌜ r .account ≡ countedAccount (r .number) kind grade (now (message .entry)) account ⌝ }
     ensures least { λ r. ⌜ (r .number ≡ 0 → LeastEnergy kind grade (now (frame .exit)) (r .energy)) ⌝ }
 {
-    let n = frame.len();
-    let number = refusal(kind, grade, message, n, account);
+    let number = refusal(kind, grade, message, frame.len(), account);
     if number != 0 {
         return refused(number, account);
     }
-    let sent = sending::write_sent(kind, grade as usize, message, frame);
-    Counted {
-        number,
-        energy: sent.energy,
-        account: grow(account, sent.energy, n, sent.largest),
-    }
+    write_counted(kind, grade, message, frame, account)
 }
