@@ -1,0 +1,4 @@
+pub mod Tests
+pub mod Turns
+pub mod InOrder
+pub mod Worked
