@@ -1,13 +1,12 @@
 /* Sends the message 00 08 at kind 3, grade 1, prints its energy and its frame, and reads it back both ways; then a frame that is
- * read openly and refused strictly, refusals by name, and an account. */
+ * read openly and refused strictly, refusals by name, an account, and a queue that stops at its third message. */
 #include <inttypes.h>
 #include <stdio.h>
 #include <string.h>
 #include "frame_coder.h"
 
-static void print_frame(int64_t energy, const int32_t *frame, size_t length)
+static void print_frame(const int32_t *frame, size_t length)
 {
-    printf("energy %" PRId64 ":", energy);
     for (size_t p = 0; p < length; p++)
         printf(" %" PRId32, frame[p]);
     printf("\n");
@@ -39,7 +38,8 @@ int main(void)
         printf("refused %" PRId64 " (%s)\n", -answer, coder_refusal_name(answer));
         return 1;
     }
-    print_frame(answer, frame, coordinates);
+    printf("energy %" PRId64 ":", answer);
+    print_frame(frame, coordinates);
 
     answer = coder_read_open(kind, grade, frame, coordinates, back, bytes);
     print_message("read openly", answer, back, bytes);
@@ -65,5 +65,18 @@ int main(void)
     print_message("kind 259", coder_account_send(&account, 259, 1, message, bytes, frame, coordinates), NULL, 0);
     printf("account: %" PRIu32 " frames, mean power %g, largest block %" PRIu64 "\n", account.count, account.sum / account.count,
            account.largest);
-    return 0;
+
+    /* A queue: messages end to end, and so their frames. The third has a spare bit set: the two before it are sent and counted. */
+    const uint8_t queue[4 * CODER_MESSAGE_LENGTH(3, 1)] = {0x00, 0x08, 0x02, 0x00, 0x00, 0x10, 0x01, 0x00};
+    int32_t frames[4 * CODER_FRAME_LENGTH(3)];
+    size_t sent;
+    answer = coder_account_send_queue(&account, kind, grade, queue, 4 * bytes, frames, 4 * coordinates, &sent);
+    for (size_t i = 0; i < sent; i++) {
+        printf("queue, message %zu:", i + 1);
+        print_frame(frames + i * coordinates, coordinates);
+    }
+    if (answer < 0)
+        printf("queue, message %zu: refused %" PRId64 " (%s)\n", sent + 1, -answer, coder_refusal_name(answer));
+    printf("account: %" PRIu32 " frames\n", account.count);
+    return sent == 2 ? 0 : 1;
 }

@@ -1,11 +1,12 @@
 /* The frame coder for C99 and C++: link with libframe_coder.a, which `rt staticlib frame_coder` makes in target/staticlib.
  *
- * A message is bytes, a frame is 8, 16, 32 or 64 whole numbers (int32_t). Sending makes the frame of a message, reading the message
- * of a frame. Each is lent as a pointer and a length. An answer is the energy of the frame, 0 or more, or minus the number of a
- * refusal. Bad input is refused, and a refusal changes nothing that was lent. docs/GUIDE.md explains the words, docs/example.c
- * shows the calls.
+ * A message is bytes, a frame is 8, 16, 32 or 64 whole numbers (int32_t). Sending makes the frame of a message, or the frames of a
+ * queue of messages; reading makes the message of a frame. Each is lent as a pointer and a length. An answer is the energy of the
+ * frame, 0 or more (for a queue 0), or minus the number of a refusal. Bad input is refused, and a refusal changes nothing that was
+ * lent; in a queue this is true of the refused message, and what was sent before it stands. docs/GUIDE.md explains the words,
+ * docs/example.c shows the calls.
  *
- * LENGTHS, by kind (3 to 6) and grade (1 to 4). A lent length must be exactly the table's.
+ * LENGTHS, by kind (3 to 6) and grade (1 to 4). A lent length must be exactly the table's; for a queue see QUEUES.
  *
  *     kind | coordinates | message bits     | message bytes  | spare bits
  *        3 |           8 |   4 +  8 * grade |     grade + 1  | 4
@@ -24,13 +25,20 @@
  * TIES. The sent frame is the one of least energy in the class of the message. Among frames of least energy it is the first in
  *     reading order: at the first coordinate where two differ, the smaller comes first.
  *
+ * QUEUES. Messages of one kind and grade stand end to end, and so do their frames: for N messages lend
+ *     N * coder_message_length(kind, grade) bytes and N * coder_frame_length(kind) coordinates. They are sent in turn, with an
+ *     account, up to the first that is refused: the frames before it are written, the account is grown by them, `sent` is their
+ *     number, and the coordinates behind them keep their values. A queue of no messages is good: 0 bytes and 0 coordinates.
+ *
  * WHAT A CALLER HAS TO SEE TO, since nothing here can test it:
  *   - a pointer is valid for as many elements as its length says, and aligned for its type. Where the length is 0 it may be
- *     anything, null too: no message and no frame has length 0, and the call is refused before anything is read or written;
- *   - `count`, `sum` and `largest`, or `account`, are valid in every call, and never null, also where the call is refused;
+ *     anything, null too, and is not looked at: no message and no frame has length 0, so that the call is refused, unless it is a
+ *     queue of no messages, which has nothing to read and nothing to write;
+ *   - `count`, `sum`, `largest` and `sent`, or `account`, are valid in every call that takes them, and never null, also where the
+ *     call is refused (coder_send_queue stores to all four in every call);
  *   - what is lent to one call does not overlap, and nobody else writes to it during the call.
- * What is lent to be written (a sender's frame, a reading's message) need not be set before: nothing of it is loaded that the call
- *     has not stored (tested under valgrind).
+ * What is lent to be written (a sender's frames, `sent`, a reading's message) need not be set before: nothing of it is loaded that
+ *     the call has not stored (tested under valgrind).
  *
  * KIND AND GRADE ARE uint8_t in the archive's functions. C and C++ narrow an int to that in silence: kind 259 arrives as 3. The
  *     functions that are written out in this header take an int and test it before they narrow it. Where kind and grade come
@@ -39,17 +47,18 @@
  * FOR FIRMWARE. The archive is for x86-64, ELF and the System V calling convention (Linux); there is none for other processors
  *     today. It needs nothing beyond the base of x86-64 (SSE2), and links into fixed and position-independent programs. It calls
  *     nothing (no libc, no allocation, no system call) and has no data that is written, so it is reentrant and safe in threads.
- *     Only coder_send_counted computes in floating point; but every function uses the vector registers (xmm), which whoever
- *     interrupts a thread must save. A call ends on every input; its time depends on the input (docs/BENCHMARKS.md).
+ *     Only coder_send_counted and coder_send_queue compute in floating point; but every function uses the vector registers (xmm),
+ *     which whoever interrupts a thread must save. A call ends on every input; its time depends on the input (docs/BENCHMARKS.md),
+ *     that of a queue on the number of its messages above all.
  *     Measured on the archive of this version, A=target/staticlib/libframe_coder.a:
  *
  *       nm -u $A        no undefined symbols: it prints the name of the member and nothing more
- *       size $A         text 15802 (code and constants), data 0, bss 0
- *       size -A $A      a section for each function, so that -Wl,--gc-sections leaves out what is not called: of 15298 bytes of
+ *       size $A         text 17015 (code and constants), data 0, bss 0
+ *       size -A $A      a section for each function, so that -Wl,--gc-sections leaves out what is not called: of 16479 bytes of
  *                       code coder_send alone needs 8925, both readings 9842
  *       cc -I crates/frame_coder tools/c/stack.c $A -o target/stack && target/stack
  *                       the most stack that a call used, in bytes, with its return address and the arguments on the stack:
- *                       coder_send 784, coder_send_counted 848, coder_read_open 592, coder_read_strict 1072
+ *                       coder_send 784, coder_send_counted 848, coder_send_queue 976, coder_read_open 592, coder_read_strict 1072
  *       objdump -dr $A | grep -E '>:$|push|sub .*,%rsp|-0x[0-9a-f]*\(%rsp\)|PLT32'
  *                       where it goes: the frames on the way down add up to the same, nothing recurs, and 128 of the bytes of
  *                       sending and of the strict reading, and 8 of those of the open reading, lie below the stack pointer, in the
@@ -65,7 +74,7 @@
 #include <stddef.h>
 #include <stdint.h>
 
-#define FRAME_CODER_VERSION "0.5.0"
+#define FRAME_CODER_VERSION "0.6.0"
 
 #ifdef __cplusplus
 extern "C" {
@@ -115,23 +124,24 @@ CODER_INLINE size_t coder_message_length(int kind, int grade)
     return (size_t)CODER_MESSAGE_LENGTH(kind, grade);
 }
 
-/* The numbers of the refusals. Sending tests 1, 2, 3, 4, 5, and with an account 11; reading tests 1, 2, 4, 3, then 6 over all
- * coordinates, then 7, 8, 13, and if it is strict 9. The first that holds is answered. (10 and 12 are refusals of a sheet.) */
+/* The numbers of the refusals. Sending tests 1, 2, 3, 4, 5, and with an account 11; sending a queue tests 1, 2, 3, 4 before any
+ * message is sent, then 5 and 11 of each message in its turn; reading tests 1, 2, 4, 3, then 6 over all coordinates, then 7, 8, 13,
+ * and if it is strict 9. The first that holds is answered. (10 and 12 are refusals of a sheet.) */
 enum coder_refusal {
     CODER_REFUSED_KIND = 1,           /* the kind is not 3 to 6 */
     CODER_REFUSED_GRADE = 2,          /* the grade is not 1 to 4 */
-    CODER_REFUSED_MESSAGE_LENGTH = 3, /* the message bytes lent differ from the kind's and grade's */
-    CODER_REFUSED_FRAME_LENGTH = 4,   /* the coordinates lent differ from the kind's */
-    CODER_REFUSED_SPARE_BITS = 5,     /* sending: a spare bit of the message is set */
+    CODER_REFUSED_MESSAGE_LENGTH = 3, /* the message bytes lent differ from the kind's and grade's; a queue: are no whole messages */
+    CODER_REFUSED_FRAME_LENGTH = 4,   /* the coordinates lent differ from the kind's; a queue: from the kind's times its messages */
+    CODER_REFUSED_SPARE_BITS = 5,     /* sending: a spare bit of the message is set; a queue: of the first one not sent */
     CODER_REFUSED_OVER_RANGE = 6,     /* reading: a coordinate is outside -1048576 .. 1048576 */
     CODER_REFUSED_BROKEN_LEVEL_0 = 7, /* reading: the coordinates' bits of weight 1 are not a codeword */
     CODER_REFUSED_BROKEN_LEVEL_1 = 8, /* reading, kinds 4 to 6: the coordinates' bits of weight 2 are not a codeword */
     CODER_REFUSED_UNSHAPED = 9,       /* strict reading: the frame is not the one that is sent for its message */
-    CODER_REFUSED_ACCOUNT_FULL = 11,  /* sending with an account: the count is 1,000,000 or more */
+    CODER_REFUSED_ACCOUNT_FULL = 11,  /* sending with an account: the count is 1,000,000 or more; a queue: has become so */
     CODER_REFUSED_BROKEN_LEVEL_2 = 13 /* reading, kind 6: the coordinates' bits of weight 4 are not a codeword */
 };
 
-/* The name of the refusal that an answer tells, in the words of the trade; "none" for an energy. */
+/* The name of the refusal that an answer tells, in the words of the trade; "none" for an answer of 0 or more. */
 CODER_INLINE const char *coder_refusal_name(int64_t answer)
 {
     if (answer >= 0)
@@ -168,6 +178,14 @@ int64_t coder_read_strict(uint8_t kind, uint8_t grade, const int32_t *frame, siz
 int64_t coder_send_counted(uint8_t kind, uint8_t grade, const uint8_t *message, size_t message_len, int32_t *frame, size_t frame_len,
                            uint32_t *count, double *sum, uint64_t *largest);
 
+/* Sends a queue with an account: does what coder_send_counted would do with each message and frame in turn, up to the first message
+ * that is refused. Answers 0 where all are sent, or minus the number of the refusal. In every call it leaves the number of messages
+ * sent in `sent`, and the account grown by them in the other three, which is as it came where none is sent. The refused message is
+ * the one behind those sent: it writes nothing and adds nothing, and what is behind it is not looked at. The refusals 1 to 4 are of
+ * the whole queue, and none is sent. A queue of no messages is answered 0, also with a full account. */
+int64_t coder_send_queue(uint8_t kind, uint8_t grade, const uint8_t *messages, size_t messages_len, int32_t *frames,
+                         size_t frames_len, uint32_t *count, double *sum, uint64_t *largest, size_t *sent);
+
 /* An account: the count of the frames that were sent, the sum of their powers, and the largest energy of their blocks. */
 struct coder_account {
     uint32_t count;
@@ -191,6 +209,19 @@ CODER_INLINE int64_t coder_account_send(struct coder_account *account, int kind,
         return -CODER_REFUSED_GRADE;
     return coder_send_counted((uint8_t)kind, (uint8_t)grade, message, message_len, frame, frame_len, &account->count, &account->sum,
                               &account->largest);
+}
+
+/* The same for coder_send_queue; where kind or grade is refused, `sent` is 0. */
+CODER_INLINE int64_t coder_account_send_queue(struct coder_account *account, int kind, int grade, const uint8_t *messages,
+                                              size_t messages_len, int32_t *frames, size_t frames_len, size_t *sent)
+{
+    *sent = 0;
+    if (coder_frame_length(kind) == 0)
+        return -CODER_REFUSED_KIND;
+    if (coder_message_length(kind, grade) == 0)
+        return -CODER_REFUSED_GRADE;
+    return coder_send_queue((uint8_t)kind, (uint8_t)grade, messages, messages_len, frames, frames_len, &account->count,
+                            &account->sum, &account->largest, sent);
 }
 
 #ifdef __cplusplus

@@ -1,5 +1,6 @@
 /* Measures the most stack that a call of each function uses: the call is made on a stack that was filled with one byte, and the
- * lowest place that differs afterwards is looked up. Random messages of every kind and grade, 4000 of each; x86-64 Linux.
+ * lowest place that differs afterwards is looked up. Random messages of every kind and grade, 4000 of each, and with each two more
+ * behind it as a queue; x86-64 Linux.
  *
  *     cc -I crates/frame_coder tools/c/stack.c target/staticlib/libframe_coder.a -o target/stack && target/stack
  */
@@ -10,31 +11,37 @@
 #include <ucontext.h>
 #include "frame_coder.h"
 
-enum { TURNS = 4000, ROOM = 65536, FILL = 0xA7 };
+enum { TURNS = 4000, ROOM = 65536, FILL = 0xA7, QUEUE = 3 };
 
-static const char *const names[] = {"coder_send", "coder_send_counted", "coder_read_open", "coder_read_strict"};
+static const char *const names[] = {"coder_send", "coder_send_counted", "coder_send_queue", "coder_read_open", "coder_read_strict"};
+enum { FUNCTIONS = sizeof names / sizeof names[0] };
 
 static unsigned char stack[ROOM];
 static ucontext_t here, there;
-static uint8_t kind, grade, message[CODER_MAX_MESSAGE_LENGTH];
-static int32_t frame[CODER_MAX_FRAME_LENGTH];
-static size_t bytes, coordinates;
+static uint8_t kind, grade, messages[QUEUE * CODER_MAX_MESSAGE_LENGTH];
+static int32_t frames[QUEUE * CODER_MAX_FRAME_LENGTH];
+static size_t bytes, coordinates, sent;
 static int function;
 static int64_t answer;
 static struct coder_account account;
 static unsigned char *top;
 
-/* The call alone; `top` is the stack pointer before it. */
+/* The call alone, of the queue or of its first message; `top` is the stack pointer before it. */
 static void call(void)
 {
     __asm__ volatile("mov %%rsp, %0" : "=r"(top));
     switch (function) {
-    case 0: answer = coder_send(kind, grade, message, bytes, frame, coordinates); break;
+    case 0: answer = coder_send(kind, grade, messages, bytes, frames, coordinates); break;
     case 1:
-        answer = coder_send_counted(kind, grade, message, bytes, frame, coordinates, &account.count, &account.sum, &account.largest);
+        answer = coder_send_counted(kind, grade, messages, bytes, frames, coordinates, &account.count, &account.sum,
+                                    &account.largest);
         break;
-    case 2: answer = coder_read_open(kind, grade, frame, coordinates, message, bytes); break;
-    default: answer = coder_read_strict(kind, grade, frame, coordinates, message, bytes); break;
+    case 2:
+        answer = coder_send_queue(kind, grade, messages, QUEUE * bytes, frames, QUEUE * coordinates, &account.count, &account.sum,
+                                  &account.largest, &sent);
+        break;
+    case 3: answer = coder_read_open(kind, grade, frames, coordinates, messages, bytes); break;
+    default: answer = coder_read_strict(kind, grade, frames, coordinates, messages, bytes); break;
     }
 }
 
@@ -56,18 +63,19 @@ static size_t used(void)
 
 int main(void)
 {
-    size_t most[4] = {0, 0, 0, 0};
+    size_t most[FUNCTIONS] = {0};
     for (int turn = 0; turn < TURNS; turn++)
         for (kind = 3; kind <= 6; kind++)
             for (grade = 1; grade <= 4; grade++) {
                 bytes = coder_message_length(kind, grade);
                 coordinates = coder_frame_length(kind);
-                for (size_t i = 0; i < bytes; i++)
-                    message[i] = (uint8_t)(rand() >> 7);
-                if (kind < 5)
-                    message[bytes - 1] &= 0x0F; /* spare bits */
+                for (size_t i = 0; i < QUEUE * bytes; i++) {
+                    messages[i] = (uint8_t)(rand() >> 7);
+                    if (kind < 5 && i % bytes == bytes - 1)
+                        messages[i] &= 0x0F; /* spare bits */
+                }
                 account = coder_account_begin();
-                for (function = 0; function < 4; function++) {
+                for (function = 0; function < FUNCTIONS; function++) {
                     size_t now = used();
                     if (answer < 0) {
                         printf("refused %" PRId64 " (%s)\n", -answer, coder_refusal_name(answer));
@@ -77,7 +85,7 @@ int main(void)
                         most[function] = now;
                 }
             }
-    for (function = 0; function < 4; function++)
+    for (function = 0; function < FUNCTIONS; function++)
         printf("%s %lu\n", names[function], (unsigned long)most[function]);
     return 0;
 }

@@ -12,6 +12,7 @@ use Rattle.frames.specs.Sending.{sendRefusal, frameAfter}
 use Rattle.frames.specs.Reading.{openRefusal, strictRefusal, messageAfter}
 use Rattle.account.specs.declared.Account.{Account}
 use Rattle.account.specs.Counted.{countedRefusal, countedAccount}
+use Rattle.queue.specs.Queue.{queueOutcome}
 
 -- the energy, or minus the refusal number
 unfoldable pub answerOf : ℕ → ℕ → ℤ
@@ -61,3 +62,10 @@ countedFrame k b bytes f a = frameAfter (countedRefusal k b bytes (length f) a) 
 -- the account that the lent numbers hold afterwards: grown by the sent frame, or as it came where sending is refused
 abbrev pub countedHeld : ℕ → ℕ → List ℕ → ℕ → Account → Account
 countedHeld k b bytes n a = countedAccount (countedRefusal k b bytes n a) k b bytes a
+
+-- ---- sending a queue with an account a; queueOutcome and queueFrames of queue say the rest
+
+-- 0, or minus the refusal number; n coordinates are lent
+unfoldable pub queueAnswer : ℕ → ℕ → List ℕ → ℕ → Account → ℤ
+unfolding answerOf
+queueAnswer k b bytes n a = answerOf (queueOutcome k b bytes n a .number) 0

@@ -3,7 +3,8 @@ ghost use mathlib.Core.Path.{_≡_};
 ghost use Prim.Native.Nat.{_≤_, _^_};
 ghost use lib.ListN.{length};
 ghost use Rattle.frame_coder.specs.Answer.{answerOf, sendAnswer, sendFrame, openAnswer, openBytes, strictAnswer, strictBytes};
-ghost use Rattle.frame_coder.specs.Answer.{accountOf, countedAnswer, countedFrame, countedHeld};
+ghost use Rattle.frame_coder.specs.Answer.{accountOf, countedAnswer, countedFrame, countedHeld, queueAnswer};
+ghost use Rattle.queue.specs.Queue.{queueOutcome, queueFrames};
 
 // The energy, or minus the refusal number.
 pub fn answer(number: u8, energy: u64) -> i64
@@ -79,4 +80,41 @@ pub extern "C" fn coder_send_counted(
     *sum = after.sum;
     *largest = after.largest;
     answer(0, r.energy)
+}
+
+// Sending a queue with an account that is held in three lent numbers: 0, or minus the refusal number. The number of messages sent goes to
+// `sent`, also where a message is refused, and the account grown by them to the three.
+#[no_mangle]
+pub extern "C" fn coder_send_queue(
+    kind: u8,
+    grade: u8,
+    messages: &[u8],
+    frames: &mut [i32],
+    count: &mut u32,
+    sum: &mut f64,
+    largest: &mut u64,
+    sent: &mut usize,
+) -> i64
+    ensures answer { λ r. ⌜ r ≡ queueAnswer kind grade (now (messages .entry)) (length (now (frames .entry)))
+        (accountOf (now (count .entry)) (now (sum .entry)) (now (largest .entry))) ⌝ }
+    ensures frames { λ r. ⌜ now (frames .exit) ≡ queueFrames kind grade (now (messages .entry)) (now (frames .entry))
+        (accountOf (now (count .entry)) (now (sum .entry)) (now (largest .entry))) ⌝ }
+    ensures account { λ r. ⌜ accountOf (now (count .exit)) (now (sum .exit)) (now (largest .exit))
+        ≡ queueOutcome kind grade (now (messages .entry)) (length (now (frames .entry)))
+        (accountOf (now (count .entry)) (now (sum .entry)) (now (largest .entry))) .account ⌝ }
+    ensures sent { λ r. ⌜ now (sent .exit) ≡ queueOutcome kind grade (now (messages .entry)) (length (now (frames .entry)))
+        (accountOf (now (count .entry)) (now (sum .entry)) (now (largest .entry))) .sent ⌝ }
+{
+    let before = account::Account {
+        count: *count,
+        sum: *sum,
+        largest: *largest,
+    };
+    let r = queue::send_queue(kind, grade, messages, frames, before);
+    let grown = r.account;
+    *count = grown.count;
+    *sum = grown.sum;
+    *largest = grown.largest;
+    *sent = r.sent;
+    answer(r.number, 0)
 }

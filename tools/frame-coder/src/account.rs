@@ -1,6 +1,6 @@
 //! The account.
 
-use crate::{by_number, Grade, Kind, Refusal};
+use crate::{by_number, message_length, Grade, Kind, Refusal, Stopped};
 
 /// An account: the count of the frames that were sent with it, the sum of their powers, and the
 /// largest energy of their blocks.
@@ -93,5 +93,74 @@ impl Account {
         let mut frame = vec![0; kind.frame_length()];
         let energy = self.send(kind, grade, message, &mut frame)?;
         Ok((frame, energy))
+    }
+
+    /// Sends a queue: messages of one kind and grade that stand end to end, whose frames go end to end into
+    /// `frames`. It gives the number of messages, which are then all sent.
+    ///
+    /// It does what [`Account::send`] would do with each in turn, and stops at the first that is refused. The
+    /// frames before it are written, and the account has grown by them; the refused message writes nothing
+    /// and adds nothing, and the coordinates behind those written keep their values.
+    ///
+    /// For N messages lend N times [`message_length`] bytes and N times [`Kind::frame_length`] coordinates. A
+    /// queue of no messages is good, also with a full account.
+    ///
+    /// ```
+    /// use frame_coder::{Account, Grade, Kind, Refusal, Stopped};
+    ///
+    /// let (kind, grade) = (Kind::Three, Grade::One);
+    /// let mut account = Account::begin();
+    /// let mut frames = [0; 2 * Kind::Three.frame_length()];
+    /// assert_eq!(account.send_queue(kind, grade, &[0x00, 0x08, 0x02, 0x00], &mut frames), Ok(2));
+    /// assert_eq!(frames, [-4, 0, 0, 0, 0, 0, 0, 0, 0, 1, 0, 1, 0, 1, 0, 1]);
+    /// assert_eq!(account, Account::from_parts(2, 2.5, 16));
+    ///
+    /// // A spare bit of the second message is set: the first is sent and stands.
+    /// let stopped = account.send_queue(kind, grade, &[0x01, 0x00, 0x00, 0x10], &mut frames);
+    /// assert_eq!(stopped, Err(Stopped { sent: 1, refusal: Refusal::SpareBits }));
+    /// assert_eq!(frames, [-1, -1, -1, -1, -1, -1, -1, -1, 0, 1, 0, 1, 0, 1, 0, 1]);
+    /// assert_eq!(account, Account::from_parts(3, 3.5, 16));
+    /// ```
+    ///
+    /// # Errors
+    ///
+    /// [`Stopped`], which has the refusal and the number of messages that were sent before it. In this order:
+    /// bytes that are not whole messages ([`Refusal::MessageLength`]), coordinates that are not as many frames
+    /// ([`Refusal::FrameLength`]), neither of which sends a message; then of each message in its turn
+    /// [`Refusal::SpareBits`] and [`Refusal::AccountFull`].
+    pub fn send_queue(
+        &mut self,
+        kind: Kind,
+        grade: Grade,
+        messages: &[u8],
+        frames: &mut [i32],
+    ) -> Result<usize, Stopped> {
+        by_number::send_queue(kind.number(), grade.number(), messages, frames, self)
+    }
+
+    /// The same with frames of its own: gives those that were sent, end to end, also where the queue stopped,
+    /// and beside them what [`Account::send_queue`] gives. `chunks_exact` takes them apart.
+    ///
+    /// ```
+    /// use frame_coder::{Account, Grade, Kind};
+    ///
+    /// let mut account = Account::begin();
+    /// let messages = [0x02, 0x00, 0x10, 0x00, 0x00, 0x10, 0x01, 0x00];
+    /// let (frames, queued) = account.send_queue_to_vec(Kind::Three, Grade::One, &messages);
+    /// let frames: Vec<&[i32]> = frames.chunks_exact(Kind::Three.frame_length()).collect();
+    /// assert_eq!(frames, [[0, 1, 0, 1, 0, 1, 0, 1], [0, 2, 0, 0, 0, 0, 0, 0]]);
+    /// let stopped = queued.unwrap_err();
+    /// assert_eq!(stopped.to_string(), "2 sent, then refused 5: a spare bit of the message is set");
+    /// ```
+    pub fn send_queue_to_vec(
+        &mut self,
+        kind: Kind,
+        grade: Grade,
+        messages: &[u8],
+    ) -> (Vec<i32>, Result<usize, Stopped>) {
+        let mut frames = vec![0; messages.len() / message_length(kind, grade) * kind.frame_length()];
+        let queued = self.send_queue(kind, grade, messages, &mut frames);
+        frames.truncate(queued.unwrap_or_else(|stopped| stopped.sent) * kind.frame_length());
+        (frames, queued)
     }
 }

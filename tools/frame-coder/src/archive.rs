@@ -1,5 +1,5 @@
 //! The archive's functions, as `crates/frame_coder/frame_coder.h` has them: a slice is a pointer and
-//! a length; the answer is the energy, or minus the number of the refusal.
+//! a length; the answer is the energy, and of a queue 0, or minus the number of the refusal.
 
 extern "C" {
     pub fn coder_send(
@@ -36,5 +36,17 @@ extern "C" {
         count: *mut u32,
         sum: *mut f64,
         largest: *mut u64,
+    ) -> i64;
+    pub fn coder_send_queue(
+        kind: u8,
+        grade: u8,
+        messages: *const u8,
+        messages_len: usize,
+        frames: *mut i32,
+        frames_len: usize,
+        count: *mut u32,
+        sum: *mut f64,
+        largest: *mut u64,
+        sent: *mut usize,
     ) -> i64;
 }

@@ -11,7 +11,7 @@
 //! assert_eq!(frame, [0, 1, 0, 1, 0, 1, 0, 1]);
 //! ```
 
-use crate::{archive, Account, Refusal};
+use crate::{archive, Account, Refusal, Stopped};
 
 /// The energy, or the refusal that a negative answer tells.
 fn answer(number: i64) -> Result<u64, Refusal> {
@@ -88,4 +88,37 @@ pub fn send_counted(
             &mut account.largest,
         )
     })
+}
+
+/// As [`Account::send_queue`].
+///
+/// # Errors
+///
+/// In this order: kind, grade, the messages' bytes, the coordinates, none of which sends a message; then
+/// of each message in its turn spare bits, and an account that is full.
+pub fn send_queue(
+    kind: u8,
+    grade: u8,
+    messages: &[u8],
+    frames: &mut [i32],
+    account: &mut Account,
+) -> Result<usize, Stopped> {
+    let mut sent = 0;
+    // SAFETY: all is lent for the call, the frames, the account's three parts and the number sent each
+    // alone; the lengths are the slices'.
+    let queued = answer(unsafe {
+        archive::coder_send_queue(
+            kind,
+            grade,
+            messages.as_ptr(),
+            messages.len(),
+            frames.as_mut_ptr(),
+            frames.len(),
+            &mut account.count,
+            &mut account.sum,
+            &mut account.largest,
+            &mut sent,
+        )
+    });
+    queued.map(|_| sent).map_err(|refusal| Stopped { sent, refusal })
 }

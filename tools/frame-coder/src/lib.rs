@@ -4,7 +4,7 @@
 //! gives the message back: [`read_open`] of any frame of the coding set, [`read_strict`] of the one
 //! that is sent alone. Each gives the frame's energy, the sum of the squares of its coordinates. The
 //! power of a frame is its energy divided by the number of coordinates; an [`Account`] adds it up, and
-//! keeps the largest energy of a block.
+//! keeps the largest energy of a block. [`Account::send_queue`] sends many messages in one call.
 //!
 //! ```
 //! use frame_coder::{read_open_to_vec, read_strict_to_vec, send_to_vec, Grade, Kind, Refusal};
@@ -27,7 +27,8 @@
 //! ([`message_bits`]) are spare and must be 0. Among frames of least energy the first in reading
 //! order is sent: at the first coordinate where two differ, the smaller comes first.
 //!
-//! Bad input is refused with a [`Refusal`], and what was lent is then as it was.
+//! Bad input is refused with a [`Refusal`], and what was lent is then as it was. A queue keeps what was
+//! sent before the refused message, and says how many they are ([`Stopped`]).
 //!
 //! # Panics
 //!
@@ -42,7 +43,7 @@ mod refusal;
 
 pub use account::Account;
 pub use kinds::{message_bits, message_length, Grade, Kind, MAX_FRAME_LENGTH, MAX_MESSAGE_LENGTH};
-pub use refusal::{Refusal, UnknownNumber};
+pub use refusal::{Refusal, Stopped, UnknownNumber};
 
 /// The version, which `frame_coder.h` has too.
 pub const VERSION: &str = env!("CARGO_PKG_VERSION");

@@ -22,9 +22,11 @@ pub enum Refusal {
     Kind = 1,
     /// The grade is not 1 to 4.
     Grade = 2,
-    /// The message bytes differ from [`message_length`](crate::message_length).
+    /// The message bytes differ from [`message_length`](crate::message_length); those of a queue are not
+    /// whole messages.
     MessageLength = 3,
-    /// The coordinates differ from [`Kind::frame_length`](crate::Kind::frame_length).
+    /// The coordinates differ from [`Kind::frame_length`](crate::Kind::frame_length); those of a queue from
+    /// that times its messages.
     FrameLength = 4,
     /// Sending: a spare bit of the message is set.
     SpareBits = 5,
@@ -71,8 +73,8 @@ impl Refusal {
         match self {
             Refusal::Kind => "the kind is not 3 to 6",
             Refusal::Grade => "the grade is not 1 to 4",
-            Refusal::MessageLength => "the message has not the length of its kind and grade",
-            Refusal::FrameLength => "the frame has not the length of its kind",
+            Refusal::MessageLength => "the message bytes are too few or too many for the kind and grade",
+            Refusal::FrameLength => "the coordinates are too few or too many",
             Refusal::SpareBits => "a spare bit of the message is set",
             Refusal::OverRange => "a coordinate is outside -1048576 to 1048576",
             Refusal::BrokenLevel0 => "level 0 of the frame is not a codeword",
@@ -91,6 +93,31 @@ impl Display for Refusal {
 }
 
 impl Error for Refusal {}
+
+/// A queue that stopped at a refusal, with what was sent before it.
+///
+/// ```
+/// use frame_coder::{Refusal, Stopped};
+///
+/// let stopped = Stopped { sent: 12, refusal: Refusal::AccountFull };
+/// assert_eq!(stopped.to_string(), "12 sent, then refused 11: the account is full");
+/// ```
+#[derive(Clone, Copy, Debug, PartialEq, Eq, Hash)]
+pub struct Stopped {
+    /// The messages that were sent: their frames are written, and the account has grown by them. Where one
+    /// message is refused, it is the one at this place, counted from 0.
+    pub sent: usize,
+    /// Why no more were sent.
+    pub refusal: Refusal,
+}
+
+impl Display for Stopped {
+    fn fmt(&self, out: &mut Formatter<'_>) -> std::fmt::Result {
+        write!(out, "{} sent, then {}", self.sent, self.refusal)
+    }
+}
+
+impl Error for Stopped {}
 
 /// A number that no refusal here has.
 #[derive(Clone, Copy, Debug, PartialEq, Eq, Hash)]

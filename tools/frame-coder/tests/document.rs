@@ -1,8 +1,8 @@
-//! The cases of document 01, through the static library.
+//! The cases of document 01 and of the requests of document 02, through the static library.
 
 use frame_coder::{
     by_number, message_bits, message_length, read_open, read_open_to_vec, read_strict, read_strict_to_vec, send,
-    send_to_vec, Account, Grade, Kind, Refusal, MAX_COORDINATE, MAX_FRAME_LENGTH, MAX_MESSAGE_LENGTH,
+    send_to_vec, Account, Grade, Kind, Refusal, Stopped, MAX_COORDINATE, MAX_FRAME_LENGTH, MAX_MESSAGE_LENGTH,
 };
 
 #[test]
@@ -199,6 +199,119 @@ fn largest_block() {
         assert_eq!(sent(Kind::Six, &bits, 0), (576, 128));
         assert_eq!(sent(Kind::Six, &bits[block..=block], 63), (64, 64));
     }
+}
+
+/// Every message of one bit as one queue, and the same one by one.
+#[test]
+fn queue_is_one_by_one() {
+    for (&kind, &grade) in Kind::ALL.iter().flat_map(|kind| Grade::ALL.iter().map(move |grade| (kind, grade))) {
+        let (length, bytes, number) = (kind.frame_length(), message_length(kind, grade), message_bits(kind, grade));
+        let mut messages = vec![0; number * bytes];
+        for (k, message) in messages.chunks_exact_mut(bytes).enumerate() {
+            message[k / 8] = 1 << (k % 8);
+        }
+        let (mut one, mut account) = (vec![99; number * length], Account::begin());
+        for (message, frame) in messages.chunks_exact(bytes).zip(one.chunks_exact_mut(length)) {
+            account.send(kind, grade, message, frame).unwrap();
+        }
+        assert_eq!(account.count() as usize, number);
+
+        let (mut frames, mut queue) = (vec![99; number * length], Account::begin());
+        assert_eq!(queue.send_queue(kind, grade, &messages, &mut frames), Ok(number));
+        assert_eq!((&frames, queue), (&one, account));
+        queue = Account::begin();
+        assert_eq!(queue.send_queue_to_vec(kind, grade, &messages), (one, Ok(number)));
+        assert_eq!(queue, account);
+    }
+}
+
+/// Four messages of kind 3, grade 1, with the powers 2, 0.5, 1 and 0.5; each place refused for its spare bits, and for an account that
+/// is full there.
+#[test]
+fn queue_stops() {
+    let (kind, grade) = (Kind::Three, Grade::One);
+    let good = [0x00, 0x08, 0x02, 0x00, 0x01, 0x00, 0x10, 0x00];
+    let whole = [[-4, 0, 0, 0, 0, 0, 0, 0], [0, 1, 0, 1, 0, 1, 0, 1], [-1; 8], [0, 2, 0, 0, 0, 0, 0, 0]].concat();
+    let sums = [0.0, 2.0, 2.5, 3.5, 4.0];
+    let check = |messages: &[u8], count: u32, stopped: Stopped| {
+        let Stopped { sent, .. } = stopped;
+        let before = Account::from_parts(count, 0.25, 3);
+        let after = Account::from_parts(count + sent as u32, 0.25 + sums[sent], if sent == 0 { 3 } else { 16 });
+        let (mut frames, mut account) = (vec![99; 32], before);
+        assert_eq!(account.send_queue(kind, grade, messages, &mut frames), Err(stopped));
+        assert_eq!((&frames[..8 * sent], &frames[8 * sent..]), (&whole[..8 * sent], &[99; 32][8 * sent..]));
+        assert_eq!(account, after);
+        account = before;
+        assert_eq!(account.send_queue_to_vec(kind, grade, messages), (whole[..8 * sent].to_vec(), Err(stopped)));
+        assert_eq!(account, after);
+    };
+    for sent in 0..4 {
+        let full = Account::MAX_COUNT - sent as u32;
+        check(&good, full, Stopped { sent, refusal: Refusal::AccountFull });
+        for bit in 4..8 {
+            let mut bad = good;
+            bad[2 * sent + 1] |= 1 << bit;
+            check(&bad, 7, Stopped { sent, refusal: Refusal::SpareBits });
+            // A spare bit comes before the account at one message, and is not looked at behind the place where it is full.
+            check(&bad, full, Stopped { sent, refusal: Refusal::SpareBits });
+            if sent > 0 {
+                check(&bad, full + 1, Stopped { sent: sent - 1, refusal: Refusal::AccountFull });
+            }
+        }
+    }
+    let mut account = Account::from_parts(Account::MAX_COUNT - 4, 0.25, 3);
+    assert_eq!(account.send_queue_to_vec(kind, grade, &good), (whole, Ok(4)));
+    assert_eq!(account, Account::from_parts(Account::MAX_COUNT, 4.25, 16));
+}
+
+/// The tests of a whole queue, each with all that is tested later wrong too.
+#[test]
+fn queue_refusals_in_order() {
+    let full = Account::from_parts(Account::MAX_COUNT, -0.0, 3);
+    let check = |kind, grade, bytes: usize, coordinates: usize, expected: Result<usize, Refusal>| {
+        let (mut frames, mut account) = (vec![99; coordinates], full);
+        let queued = by_number::send_queue(kind, grade, &vec![255; bytes], &mut frames, &mut account);
+        assert_eq!(queued, expected.map_err(|refusal| Stopped { sent: 0, refusal }));
+        assert_eq!(frames, vec![99; coordinates]);
+        assert_eq!((account, account.sum().to_bits()), (full, full.sum().to_bits()));
+    };
+    for (kind, grade) in [(0, 0), (2, 1), (7, 9), (255, 255)] {
+        check(kind, grade, 1, 1, Err(Refusal::Kind));
+        check(kind, grade, 0, 0, Err(Refusal::Kind));
+    }
+    for (kind, grade) in [(3, 0), (4, 5), (5, 255), (6, 0)] {
+        check(kind, grade, 1, 1, Err(Refusal::Grade));
+        check(kind, grade, 0, 0, Err(Refusal::Grade));
+    }
+    for (&k, &g) in Kind::ALL.iter().flat_map(|kind| Grade::ALL.iter().map(move |grade| (kind, grade))) {
+        let (kind, grade, n, m) = (k.number(), g.number(), k.frame_length(), message_length(k, g));
+        check(kind, grade, 1, 0, Err(Refusal::MessageLength));
+        check(kind, grade, 3 * m - 1, 3 * n, Err(Refusal::MessageLength));
+        check(kind, grade, 3 * m + 1, 3 * n + 1, Err(Refusal::MessageLength));
+        for coordinates in [0, 1, n, 2 * n - 1, 2 * n + 1, 3 * n] {
+            check(kind, grade, 2 * m, coordinates, Err(Refusal::FrameLength));
+        }
+        check(kind, grade, 0, n, Err(Refusal::FrameLength));
+        let last = if message_bits(k, g) == 8 * m { Refusal::AccountFull } else { Refusal::SpareBits };
+        check(kind, grade, 2 * m, 2 * n, Err(last));
+        check(kind, grade, 0, 0, Ok(0));
+    }
+}
+
+/// More messages than an account takes, from its beginning: all 4096 messages of kind 3, grade 1, over and over.
+#[test]
+fn queue_of_a_million() {
+    let full = Account::MAX_COUNT as usize;
+    let messages: Vec<u8> = (0..=full).flat_map(|i| ((i % 4096) as u16).to_le_bytes()).collect();
+    let (mut frames, mut account) = (vec![99; 8 * (full + 1)], Account::begin());
+    let queued = account.send_queue(Kind::Three, Grade::One, &messages, &mut frames);
+    assert_eq!(queued, Err(Stopped { sent: full, refusal: Refusal::AccountFull }));
+    let (sent, kept) = frames.split_at(8 * full);
+    assert_eq!(kept, [99; 8]);
+    let energies = sent.chunks_exact(8).map(|frame| frame.iter().map(|x| (x * x) as u64).sum::<u64>());
+    let (energy, largest) = energies.fold((0, 0), |(sum, most), energy| (sum + energy, energy.max(most)));
+    // A whole number of eighths, and so exact.
+    assert_eq!(account, Account::from_parts(Account::MAX_COUNT, energy as f64 / 8.0, largest));
 }
 
 #[test]

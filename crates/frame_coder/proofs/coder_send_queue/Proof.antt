@@ -1,0 +1,28 @@
+-- `coder_send_queue` meets its contract: what sending a queue ensures, in one number and the four lent ones. Assumes nothing.
+use mathlib.Core.Path.{ap, _∙_}
+use mir.Facts.{toZ-ofZ}
+use borrow.Author.Needs.{needs}
+use Rattle.queue.specs.declared.Queued.{Queued}
+use Rattle.frame_coder.specs.Answer.{answerOf, queueAnswer}
+use Rattle.frame_coder.proofs.coder_send_queue.Statement.{statement}
+use Rattle.frame_coder.proofs.coder_send_queue.Tie as tie
+
+send-queue-requires : tie.Need-send-queue-requires
+send-queue-requires c κs = search needs
+
+answer-requires : tie.Need-answer-requires
+answer-requires c κs = search needs
+
+same-length : tie.Need-same-length
+same-length c = search needs
+
+returns : tie.Need-returns
+unfolding queueAnswer
+returns c =
+    let e = c .before .before .before .send-queue .ensures in (
+      toZ-ofZ (record { sfits = c .answer .ok }) ∙ c .answer .ensures ∙ ap (λ (q : Queued). answerOf (q .number) 0) (e .0),
+      (e .1 .0, (ap (λ (q : Queued). q .account) (e .0), ap (λ (q : Queued). q .sent) (e .0))),
+    )
+
+pub coder-send-queue-spec : {M : Type 1} → statement M
+coder-send-queue-spec = tie.close (tie.spec send-queue-requires answer-requires same-length returns)
