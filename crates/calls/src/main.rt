@@ -2,7 +2,6 @@
 // functions and of the exported ones, and holds each to the answer that stands there and to all that it leaves in what it is lent. It
 // prints how many calls of each function passed, after a line for each that did not.
 mod exported;
-mod float;
 mod library;
 mod record;
 mod tally;

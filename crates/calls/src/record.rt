@@ -1,11 +1,11 @@
 // A record of the data: the call, what it is lent, and what it has to answer and to leave (tools/second-coder/README.md).
 use super::exported;
-use super::float;
 use super::library;
 use super::tally;
 use super::tally::judge;
 use account::Account;
 use account::Counted;
+use fields::account_in;
 use fields::fill;
 use fields::number;
 use fields::size;
@@ -19,31 +19,6 @@ struct Call {
     coordinates: usize,
 }
 
-fn count_of(x: u64) -> u32 {
-    if x < 4294967296 {
-        return x as u32;
-    }
-    0
-}
-
-fn account_of(count: u64, sum: u64, largest: u64) -> Account {
-    Account {
-        count: count_of(count),
-        sum: float::of_bits(sum),
-        largest,
-    }
-}
-
-fn same_account(a: Account, b: Account) -> bool {
-    if a.count != b.count {
-        return false;
-    }
-    if a.largest != b.largest {
-        return false;
-    }
-    float::bits_of(a.sum) == float::bits_of(b.sum)
-}
-
 fn same_answer(a: Counted, b: Counted) -> bool {
     if a.number != b.number {
         return false;
@@ -51,7 +26,7 @@ fn same_answer(a: Counted, b: Counted) -> bool {
     if a.energy != b.energy {
         return false;
     }
-    same_account(a.account, b.account)
+    fields::same_account(a.account, b.account)
 }
 
 // Makes the call, of the library or of an exported function.
@@ -147,11 +122,7 @@ fn take_answer(fd: i32, refusal: u8) -> Counted {
     Counted {
         number: refusal,
         energy: number(&numbers[0..8]),
-        account: account_of(
-            number(&numbers[8..12]),
-            number(&numbers[12..20]),
-            number(&numbers[20..28]),
-        ),
+        account: account_in(&numbers[8..28]),
     }
 }
 
@@ -207,10 +178,6 @@ pub fn take(fd: i32, v: u64, tally: &mut [u64; 7]) -> bool {
         coordinates: size(head[4]),
     };
     let refusal = head[5];
-    let account = account_of(
-        number(&head[8..12]),
-        number(&head[12..20]),
-        number(&head[20..28]),
-    );
+    let account = account_in(&head[8..28]);
     take_rest(fd, v, c, account, refusal, tally)
 }

@@ -1,4 +1,7 @@
 // Fields of the data files that the test programs read, and what they print. Numbers stand lowest byte first.
+mod float;
+
+use account::Account;
 use libc::STDOUT_FILENO;
 ghost use Prim.Native.Nat.{_≤_};
 
@@ -47,6 +50,36 @@ pub fn coordinates(bytes: &[u8], frame: &mut [i32]) {
         a = e;
         p += 1;
     }
+}
+
+fn count(x: u64) -> u32 {
+    if x < 4294967296 {
+        return x as u32;
+    }
+    0
+}
+
+// The account that 20 bytes hold: its count of 4 bytes, the bits of its sum and its largest block.
+pub fn account_in(bytes: &[u8]) -> Account {
+    if bytes.len() < 20 {
+        return account::begin();
+    }
+    Account {
+        count: count(number(&bytes[0..4])),
+        sum: float::of_bits(number(&bytes[4..12])),
+        largest: number(&bytes[12..20]),
+    }
+}
+
+// Whether two accounts have the same figures, the sum by its bits.
+pub fn same_account(a: Account, b: Account) -> bool {
+    if a.count != b.count {
+        return false;
+    }
+    if a.largest != b.largest {
+        return false;
+    }
+    float::bits_of(a.sum) == float::bits_of(b.sum)
 }
 
 // Fills the first n bytes, where there is room for them, and answers whether the file has as many.

@@ -1,7 +1,7 @@
-//! The account: a count of frames, the sum of their powers, and the largest energy of their blocks.
+//! The account: a count of frames, the sum of their powers, and the largest energy of their blocks. Sending with it, one message or a queue.
 
 use crate::class;
-use crate::frame::{send_into, Sent};
+use crate::frame::{send_into, Format, Sent};
 use crate::refusal;
 
 #[derive(Clone, Copy, Debug)]
@@ -36,10 +36,47 @@ pub fn send_counted(
     Ok((sent, Account { count: account.count + 1, sum: account.sum + power, largest }))
 }
 
+/// What sending a queue gives: the refusal number, 0 where no message is refused, the number of messages sent, and the account.
+#[derive(Clone, Copy, Debug)]
+pub struct Queued {
+    pub number: u8,
+    pub sent: usize,
+    pub account: Account,
+}
+
+/// Sending a queue: messages of one kind and grade end to end, each sent as with an account, and their frames end to end in
+/// the coordinates that the caller lends. It stops at the first message refused.
+pub fn send_queue(kind: u8, grade: u8, messages: &[u8], frames: &mut [i64], account: Account) -> Queued {
+    let mut queued = Queued { number: 0, sent: 0, account };
+    if let Err(number) = send_each(kind, grade, messages, frames, &mut queued) {
+        queued.number = number;
+    }
+    queued
+}
+
+/// Sends each message in turn, as far as it goes.
+fn send_each(kind: u8, grade: u8, messages: &[u8], frames: &mut [i64], queued: &mut Queued) -> Result<(), u8> {
+    let format = Format::new(kind, grade)?;
+    let (m, n) = (format.message_bytes(), format.length());
+    let messages = messages.chunks_exact(m);
+    if !messages.remainder().is_empty() {
+        return Err(refusal::MESSAGE_LENGTH);
+    }
+    if frames.len() != messages.len() * n {
+        return Err(refusal::FRAME_LENGTH);
+    }
+    for (message, frame) in messages.zip(frames.chunks_exact_mut(n)) {
+        let (sent, grown) = send_counted(kind, grade, message, n, queued.account)?;
+        frame.copy_from_slice(&sent.frame);
+        queued.sent += 1;
+        queued.account = grown;
+    }
+    Ok(())
+}
+
 #[cfg(test)]
 mod tests {
     use super::*;
-    use crate::frame::Format;
     use crate::vectors::with_bits;
 
     #[test]
@@ -100,5 +137,72 @@ mod tests {
         assert_eq!(full(u32::MAX), Some(refusal::ACCOUNT_FULL));
         let account = Account { count: FULL, ..BEGUN };
         assert_eq!(send_counted(3, 1, &[0, 0x10], 8, account).err(), Some(refusal::SPARE_BITS));
+    }
+
+    /// What a queue gives: number, messages sent, the account's figures, and the coordinates, which were 9.
+    type Given = (u8, usize, (u32, f64, u64), Vec<i64>);
+
+    fn queue_of(kind: u8, grade: u8, messages: &[u8], coordinates: usize, account: Account) -> Given {
+        let mut frames = vec![9; coordinates];
+        let Queued { number, sent, account } = send_queue(kind, grade, messages, &mut frames, account);
+        (number, sent, (account.count, account.sum, account.largest), frames)
+    }
+
+    /// The same of kind 3, grade 1.
+    fn queue(messages: &[u8], coordinates: usize, account: Account) -> Given {
+        queue_of(3, 1, messages, coordinates, account)
+    }
+
+    /// The frames of 00 08 and 02 00, of energies 16 and 4.
+    const FIRST: [i64; 8] = [-4, 0, 0, 0, 0, 0, 0, 0];
+    const SECOND: [i64; 8] = [0, 1, 0, 1, 0, 1, 0, 1];
+
+    #[test]
+    fn a_queue_is_sent_up_to_the_first_message_refused() {
+        // 00 10 has a spare bit set.
+        let whole = queue(&[0x00, 0x08, 0x02, 0x00], 16, BEGUN);
+        assert_eq!(whole, (0, 2, (2, 2.5, 16), [FIRST, SECOND].concat()));
+        let stopped = queue(&[0x00, 0x08, 0x02, 0x00, 0x00, 0x10, 0x01, 0x00], 32, BEGUN);
+        assert_eq!(stopped, (refusal::SPARE_BITS, 2, (2, 2.5, 16), [FIRST, SECOND, [9; 8], [9; 8]].concat()));
+        let at_once = queue(&[0x00, 0x10, 0x00, 0x08], 16, Account { count: 7, sum: 0.25, largest: 3 });
+        assert_eq!(at_once, (refusal::SPARE_BITS, 0, (7, 0.25, 3), vec![9; 16]));
+    }
+
+    #[test]
+    fn an_account_is_full_in_the_middle_of_a_queue() {
+        let account = Account { count: FULL - 1, sum: 3.0, largest: 5 };
+        let stopped = queue(&[0x02, 0x00, 0x00, 0x08, 0x00, 0x10], 24, account);
+        assert_eq!(stopped, (refusal::ACCOUNT_FULL, 1, (FULL, 3.5, 5), [SECOND, [9; 8], [9; 8]].concat()));
+        // The full account's message has a spare bit set: that is tested first.
+        let spare = queue(&[0x02, 0x00, 0x00, 0x10, 0x00, 0x08], 24, account);
+        assert_eq!(spare, (refusal::SPARE_BITS, 1, (FULL, 3.5, 5), [SECOND, [9; 8], [9; 8]].concat()));
+        let last = queue(&[0x00, 0x08], 8, account);
+        assert_eq!(last, (0, 1, (FULL, 5.0, 16), FIRST.to_vec()));
+    }
+
+    #[test]
+    fn an_empty_queue_sends_none() {
+        for count in [0, 1, FULL - 1, FULL, u32::MAX] {
+            assert_eq!(queue(&[], 0, Account { count, sum: -0.5, largest: 9 }), (0, 0, (count, -0.5, 9), vec![]));
+        }
+    }
+
+    #[test]
+    fn lengths_of_a_queue_before_anything_is_sent() {
+        let account = Account { count: FULL, sum: 1.0, largest: 2 };
+        let number = |kind, grade, bytes: usize, coordinates: usize| {
+            let (number, sent, figures, frames) = queue_of(kind, grade, &vec![0xFF; bytes], coordinates, account);
+            assert_eq!((sent, figures, frames), (0, (FULL, 1.0, 2), vec![9; coordinates]));
+            number
+        };
+        // Kind 4, grade 1: messages of 5 bytes, frames of 16 coordinates.
+        assert_eq!([number(2, 0, 9, 9), number(7, 1, 10, 32), number(2, 1, 0, 0)], [refusal::KIND; 3]);
+        assert_eq!([number(4, 0, 9, 9), number(4, 5, 10, 32), number(4, 0, 0, 0)], [refusal::GRADE; 3]);
+        assert_eq!([number(4, 1, 9, 32), number(4, 1, 11, 32), number(4, 1, 4, 0)], [refusal::MESSAGE_LENGTH; 3]);
+        assert_eq!([number(4, 1, 9, 31), number(4, 1, 12, 33), number(4, 1, 1, 16)], [refusal::MESSAGE_LENGTH; 3]);
+        assert_eq!([number(4, 1, 10, 31), number(4, 1, 10, 33), number(4, 1, 10, 0)], [refusal::FRAME_LENGTH; 3]);
+        assert_eq!([number(4, 1, 10, 16), number(4, 1, 10, 48), number(4, 1, 0, 16)], [refusal::FRAME_LENGTH; 3]);
+        assert_eq!(number(4, 1, 10, 32), refusal::SPARE_BITS);
+        assert_eq!(number(5, 1, 16, 64), refusal::ACCOUNT_FULL);
     }
 }

@@ -21,7 +21,7 @@ const BYTES: usize = 48;
 const COORDINATES: usize = 68;
 
 /// The NaN that a sum is written as: its bits say nothing more.
-const NAN: f64 = f64::from_bits(0x7FF8_0000_0000_0000);
+pub const NAN: f64 = f64::from_bits(0x7FF8_0000_0000_0000);
 
 /// What a call is lent, and what it leaves.
 #[derive(Clone)]
@@ -84,12 +84,17 @@ impl Call {
     }
 }
 
+/// The figures of an account, in 20 bytes.
+pub fn write_account(account: Account, record: &mut Vec<u8>) {
+    record.extend(account.count.to_le_bytes());
+    let sum = if account.sum.is_nan() { NAN } else { account.sum };
+    record.extend(sum.to_bits().to_le_bytes());
+    record.extend(account.largest.to_le_bytes());
+}
+
 impl Lent {
     fn write(&self, record: &mut Vec<u8>) {
-        record.extend(self.account.count.to_le_bytes());
-        let sum = if self.account.sum.is_nan() { NAN } else { self.account.sum };
-        record.extend(sum.to_bits().to_le_bytes());
-        record.extend(self.account.largest.to_le_bytes());
+        write_account(self.account, record);
         let mut message = self.message.clone();
         message.resize(BYTES, MARK_BYTE);
         record.extend(message);
@@ -103,7 +108,7 @@ impl Lent {
 struct Calls(Vec<Call>);
 
 /// An account that a call does not change.
-const NONE: Account = Account { count: 17, sum: -2.5, largest: 3 };
+pub const NONE: Account = Account { count: 17, sum: -2.5, largest: 3 };
 
 impl Calls {
     fn send(&mut self, kind: u8, grade: u8, message: &[u8], n: usize) {
@@ -254,7 +259,7 @@ fn wrong(calls: &mut Calls) {
 
 /// Figures for the largest block of an account from elsewhere, before a frame that has this one: none, small, beside the frame's,
 /// and past what 32 bits, an i64 and an exact f64 hold.
-fn figures(block: u64) -> [u64; 9] {
+pub fn figures(block: u64) -> [u64; 9] {
     [0, 1, block - 1, block, block + 1, 1 << 32, (1 << 53) + 1, 1 << 63, u64::MAX]
 }
 
@@ -314,19 +319,23 @@ fn largest(calls: &mut Calls, kind: u8, grade: u8, random: &mut Random) {
     }
 }
 
+/// The bits that add M/2 to the second number of block j and to the eighth: the highest of s2, the next to highest of s8.
+/// A block with the first alone has energy (M/2)², and with both twice that.
+pub fn halves(format: &Format, j: usize) -> (usize, usize) {
+    let first = format.message_bits() - format.length() * format.grade + 8 * format.grade * j;
+    (first + 2 * format.grade - 2, first + 8 * format.grade - 2)
+}
+
 /// Each block in turn as the largest of its frame, in an account from the beginning: all blocks of energy q, where q is
 /// (M/2)²; one of 2q among them; that one alone; all of q once more; a frame that is refused.
 fn blocks(calls: &mut Calls, kind: u8, grade: u8) {
     let format = Format::new(kind, grade).unwrap();
     let count = format.length() / 8;
-    // Where the highest bit of s2 and the next to highest of s8 stand: each adds M/2.
-    let first = format.message_bits() - format.length() * format.grade;
-    let second = |j: usize| first + 8 * format.grade * j + 2 * format.grade - 2;
-    let eighth = |j: usize| first + 8 * format.grade * (j + 1) - 2;
-    let level: Vec<usize> = (0..count).map(second).collect();
+    let level: Vec<usize> = (0..count).map(|j| halves(&format, j).0).collect();
     for j in 0..count {
         let mut account = BEGUN;
-        for bits in [level.clone(), [&level[..], &[eighth(j)]].concat(), vec![second(j), eighth(j)], level.clone()] {
+        let (second, eighth) = halves(&format, j);
+        for bits in [level.clone(), [&level[..], &[eighth]].concat(), vec![second, eighth], level.clone()] {
             account = calls.count(kind, grade, &with_bits(&format, &bits), format.length(), account);
         }
         calls.count(kind, grade, &with_bits(&format, &level)[1..], format.length(), account);

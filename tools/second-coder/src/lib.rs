@@ -8,6 +8,7 @@ pub mod calls;
 pub mod class;
 pub mod code;
 pub mod frame;
+pub mod queues;
 pub mod random;
 pub mod sheet;
 pub mod vectors;

@@ -4,7 +4,7 @@ use std::io::{Read, Write};
 use std::path::{Path, PathBuf};
 use std::process::{Command, ExitCode, Stdio};
 
-use second_coder::{calls, random::Random, sheet, vectors};
+use second_coder::{calls, queues, random::Random, sheet, vectors};
 
 /// Where a file for a crate stands: beside the program that holds the library to it.
 fn crates(name: &str) -> PathBuf {
@@ -67,6 +67,13 @@ fn write_files() -> std::io::Result<()> {
     // Every call but the beginning of an account is made of an exported function too.
     printed += &format!("exported {}\ndifferent 0\n", functions[..4].iter().sum::<usize>());
     std::fs::write(crates("calls/stdout"), printed)?;
+    let (queues, sorts, numbers) = queues::queue_file();
+    std::fs::write(crates("queues/data/queues.bin"), &queues)?;
+    println!("queues.bin: {sorts:?}, {numbers:?} answered by each number, {} bytes", queues.len());
+    // A queue is sent one by one where nothing is refused before it.
+    let (count, one_by_one) = (numbers.iter().sum::<usize>(), numbers[0] + numbers[5] + numbers[11]);
+    let printed = format!("in one call {count}\nexported {count}\none by one {one_by_one}\ndifferent 0\n");
+    std::fs::write(crates("queues/stdout"), printed)?;
     let sheet = vectors::program_sheet();
     let listing = sheet::listing(&sheet);
     std::fs::write(crates("sheet/stdin"), &sheet)?;

@@ -144,7 +144,7 @@ fn messages(kind: u8, grade: u8, random: &mut Random) -> Vec<Sorted> {
 /// The messages of every kind and grade, the same on every run.
 pub fn all_messages() -> Vec<Sorted> {
     let mut random = Random::new(1);
-    let formats = KINDS.into_iter().flat_map(|kind| GRADES.into_iter().map(move |grade| (kind, grade)));
+    let formats = KINDS.flat_map(|kind| GRADES.map(move |grade| (kind, grade)));
     formats.flat_map(|(kind, grade)| messages(kind, grade, &mut random)).collect()
 }
 

@@ -6,8 +6,8 @@ use lib.Ieee.{binary64}
 use lib.Ieee.Bits.{nanBits-above}
 use borrow.Author.Needs.{needs}
 use borrow.Author.Tests.{le-ltb}
-use Rattle.calls.proofs.float.of_bits.Statement.{statement}
-use Rattle.calls.proofs.float.of_bits.Tie as tie
+use Rattle.fields.proofs.float.of_bits.Statement.{statement}
+use Rattle.fields.proofs.float.of_bits.Tie as tie
 
 returns : tie.Need-returns
 returns c = search needs

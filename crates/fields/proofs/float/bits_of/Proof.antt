@@ -4,8 +4,8 @@ use mathlib.Core.Bool.{false, not, true≢false}
 use lib.Dec.{T}
 use lib.Ieee.{Float, nan, inf, fin, eq, ne, isNan}
 use borrow.Author.Needs.{needs}
-use Rattle.calls.proofs.float.bits_of.Statement.{statement}
-use Rattle.calls.proofs.float.bits_of.Tie as tie
+use Rattle.fields.proofs.float.bits_of.Statement.{statement}
+use Rattle.fields.proofs.float.bits_of.Tie as tie
 
 no-nan : (x : Float) → ne x x ≡ false → T (not (isNan x))
 unfolding ne eq isNan

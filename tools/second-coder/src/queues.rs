@@ -1,0 +1,466 @@
+//! Queues of messages for the library to send, with what they must answer and leave, the same on every run.
+
+use crate::account::{largest_block, send_queue, Account, Queued, BEGUN, FULL};
+use crate::calls::{figures, halves, write_account, NAN, NONE};
+use crate::frame::{send, Format, GRADES, KINDS};
+use crate::random::Random;
+use crate::vectors::{dense, edge, with_bits};
+
+/// The places that the program has for message bytes and for coordinates.
+const BYTES: usize = 288;
+const COORDINATES: usize = 392;
+
+/// How many coordinates past those that are lent stand in a record.
+const PAST: usize = 8;
+
+/// The coordinate at a place before the call: another one at each place, and none that a frame has.
+fn before(place: usize) -> i64 {
+    77_777 + place as i64
+}
+
+struct Queue {
+    kind: u8,
+    grade: u8,
+    messages: Vec<u8>,
+    coordinates: usize,
+    account: Account,
+}
+
+impl Queue {
+    /// The coordinates that are lent, and more.
+    fn frames(&self) -> Vec<i64> {
+        (0..self.coordinates + PAST).map(before).collect()
+    }
+
+    /// What sending it gives, and the coordinates that it leaves.
+    fn answer(&self) -> (Queued, Vec<i64>) {
+        let mut frames = self.frames();
+        let lent = &mut frames[..self.coordinates];
+        (send_queue(self.kind, self.grade, &self.messages, lent, self.account), frames)
+    }
+
+    /// The record of README.md, with this answer.
+    fn record(&self, (queued, frames): &(Queued, Vec<i64>)) -> Vec<u8> {
+        assert!(self.messages.len() <= BYTES && frames.len() <= COORDINATES);
+        let mut record = vec![self.kind, self.grade];
+        record.extend((self.messages.len() as u16).to_le_bytes());
+        record.extend((self.coordinates as u16).to_le_bytes());
+        record.extend([queued.number, queued.sent as u8]);
+        write_account(self.account, &mut record);
+        write_account(queued.account, &mut record);
+        record.extend(&self.messages);
+        record.extend(frames.iter().flat_map(|x| (*x as i32).to_le_bytes()));
+        record
+    }
+}
+
+/// The queues as they are collected.
+struct Queues(Vec<Queue>);
+
+impl Queues {
+    fn lend(&mut self, kind: u8, grade: u8, messages: &[u8], coordinates: usize, account: Account) {
+        self.0.push(Queue { kind, grade, messages: messages.to_vec(), coordinates, account });
+    }
+
+    /// With as many coordinates as the messages need.
+    fn put(&mut self, kind: u8, grade: u8, messages: &[Vec<u8>], account: Account) {
+        self.lend(kind, grade, &messages.concat(), messages.len() << kind, account);
+    }
+}
+
+/// An account with room for so many frames.
+fn room(frames: u32) -> Account {
+    Account { count: FULL - frames, ..NONE }
+}
+
+/// Messages of random bits.
+fn several(format: &Format, count: usize, random: &mut Random) -> Vec<Vec<u8>> {
+    (0..count).map(|_| dense(format, random)).collect()
+}
+
+/// The exam messages of document 01: from the first on, backwards, and with the refused one among them.
+fn document(queues: &mut Queues) {
+    let messages = [[0, 0], [1, 0], [2, 0], [0x10, 0], [0, 4], [0x10, 4], [0, 8], [0xF0, 7]].map(Vec::from);
+    for count in 1..=8 {
+        queues.put(3, 1, &messages[..count], BEGUN);
+    }
+    let mut backwards = messages.clone();
+    backwards.reverse();
+    queues.put(3, 1, &backwards, NONE);
+    let spare = vec![0x00, 0x10];
+    for place in 0..=8 {
+        let mut messages = messages.to_vec();
+        messages.insert(place, spare.clone());
+        queues.put(3, 1, &messages, BEGUN);
+    }
+    queues.put(3, 1, &[vec![0, 8], vec![2, 0], spare.clone(), vec![1, 0]], BEGUN);
+    queues.put(3, 1, &[spare], BEGUN);
+    let messages = [vec![1, 0, 0, 0, 0], vec![0x20, 0, 0, 0, 0]];
+    queues.put(4, 1, &messages, BEGUN);
+    queues.put(4, 1, &[messages[1].clone(), messages[0].clone()], BEGUN);
+}
+
+/// No message, with accounts of all sorts.
+fn empty(queues: &mut Queues, kind: u8, grade: u8) {
+    for count in [FULL - 1, FULL, FULL + 1, u32::MAX] {
+        queues.put(kind, grade, &[], Account { count, ..NONE });
+    }
+    for sum in [NAN, f64::INFINITY, -0.0] {
+        queues.put(kind, grade, &[], Account { sum, largest: u64::MAX, ..NONE });
+    }
+    queues.put(kind, grade, &[], BEGUN);
+}
+
+/// Good queues of 1 to 6 messages, and one of as many as there is room for.
+fn good(queues: &mut Queues, kind: u8, grade: u8, random: &mut Random) {
+    let format = Format::new(kind, grade).unwrap();
+    for count in 1..=6 {
+        queues.put(kind, grade, &several(&format, count, random), BEGUN);
+        let any = |_| if random.one_in(2) { edge(&format, random) } else { dense(&format, random) };
+        let messages: Vec<_> = (0..count).map(any).collect();
+        queues.put(kind, grade, &messages, NONE);
+    }
+    queues.put(kind, grade, &several(&format, (COORDINATES - PAST) / format.length(), random), BEGUN);
+}
+
+/// Each spare bit at each place of a queue; those after it are good, or have spare bits set too.
+fn spare(queues: &mut Queues, kind: u8, grade: u8, random: &mut Random) {
+    let format = Format::new(kind, grade).unwrap();
+    for bit in format.message_bits()..8 * format.message_bytes() {
+        for place in 0..4 {
+            let mut messages = several(&format, 4, random);
+            messages[place][bit / 8] |= 1 << (bit % 8);
+            if bit % 2 == 1 {
+                messages[place + 1..].iter_mut().for_each(|message| message[bit / 8] |= 0xF0);
+            }
+            queues.put(kind, grade, &messages, NONE);
+        }
+    }
+}
+
+/// An account that becomes full at each place of a queue, behind it, not at all, or was full before.
+fn full(queues: &mut Queues, kind: u8, grade: u8, random: &mut Random) {
+    let format = Format::new(kind, grade).unwrap();
+    let messages = several(&format, 4, random);
+    for frames in 0..=5 {
+        queues.put(kind, grade, &messages, room(frames));
+    }
+    for count in [FULL + 1, u32::MAX] {
+        queues.put(kind, grade, &messages, Account { count, ..NONE });
+    }
+}
+
+/// Both: a spare bit at each place, and room for each number of frames before it, up to it or past it.
+fn spare_and_full(queues: &mut Queues, kind: u8, grade: u8, random: &mut Random) {
+    let format = Format::new(kind, grade).unwrap();
+    if format.message_bits() == 8 * format.message_bytes() {
+        return;
+    }
+    for place in 0..4 {
+        let mut messages = several(&format, 4, random);
+        *messages[place].last_mut().unwrap() |= 0x80;
+        for frames in 0..4 {
+            queues.put(kind, grade, &messages, room(frames));
+        }
+    }
+}
+
+/// Lengths that do not fit, with everything that is tested later wrong, and with nothing else wrong.
+fn lengths(queues: &mut Queues, kind: u8, grade: u8) {
+    let format = Format::new(kind, grade).unwrap();
+    let (m, n) = (format.message_bytes(), format.length());
+    let mut all = vec![(0, 1), (0, n - 1), (0, n), (0, n + 1), (0, 4 * n)];
+    for q in [1, 3] {
+        for bytes in [m * q - 1, m * q + 1, m * q + m / 2] {
+            all.extend([n * q, n * q - 1, n * q + n / 2, n * (q + 1), 0].map(|coordinates| (bytes, coordinates)));
+        }
+        for coordinates in [n * q - 1, n * q + 1, n * q + n / 2, n * (q - 1), n * (q + 1), 0] {
+            all.push((m * q, coordinates));
+        }
+    }
+    for (i, (bytes, coordinates)) in all.into_iter().enumerate() {
+        if i % 2 == grade as usize % 2 {
+            queues.lend(kind, grade, &vec![0xFF; bytes], coordinates, Account { count: FULL, ..NONE });
+        } else {
+            queues.lend(kind, grade, &vec![0; bytes], coordinates, BEGUN);
+        }
+    }
+}
+
+/// Wrong kinds and grades, with everything that is tested later wrong too, with nothing else wrong, and with no message.
+fn wrong(queues: &mut Queues) {
+    // A kind and grade that there are, whose lengths a wrong one is tried with, stand behind it.
+    let mut all = Vec::new();
+    for kind in [0, 1, 2, 7, 8, 131, 134, 255] {
+        all.extend([0, 1, 4, 5].map(|grade| (kind, grade, (kind & 3) + 3, 1)));
+    }
+    for kind in KINDS {
+        all.extend([0, 5, 6, 129, 255].map(|grade| (kind, grade, kind, 4)));
+    }
+    for (kind, grade, good_kind, good_grade) in all {
+        let over = Account { count: u32::MAX, sum: 0.1, largest: u64::MAX };
+        queues.lend(kind, grade, &[0xFF; 7], 15, over);
+        let format = Format::new(good_kind, good_grade).unwrap();
+        queues.lend(kind, grade, &vec![0; 3 * format.message_bytes()], 3 * format.length(), NONE);
+        queues.lend(kind, grade, &[], 0, over);
+    }
+}
+
+/// Accounts from elsewhere: each sum with each figure for the largest block, over queues that are sent whole or are refused.
+fn elsewhere(queues: &mut Queues, random: &mut Random) {
+    let sums = [NAN, f64::INFINITY, f64::NEG_INFINITY, -0.0, 0.1, 9_007_199_254_740_992.0, f64::MAX, f64::from_bits(1)];
+    for (i, sum) in sums.into_iter().enumerate() {
+        for j in 0..9 {
+            let (kind, grade) = (3 + ((i + j) % 4) as u8, 1 + (i % 4) as u8);
+            let format = Format::new(kind, grade).unwrap();
+            let mut messages = several(&format, 3, random);
+            let block = |message: &Vec<u8>| largest_block(&send(kind, grade, message).unwrap().frame);
+            let largest = figures(messages.iter().map(block).max().unwrap())[j];
+            let count = [0, 1, 12_345, FULL - 3, FULL - 2, FULL - 1, FULL][(i + 2 * j) % 7];
+            queues.put(kind, grade, &messages, Account { count, sum, largest });
+            // Of kinds 3 and 4 again with a spare bit set.
+            if kind < 5 {
+                *messages[j % 3].last_mut().unwrap() |= 0x10;
+                queues.put(kind, grade, &messages, Account { count, sum, largest });
+            }
+        }
+    }
+}
+
+/// The largest block in each message of a queue in turn, sent and refused by a full account. With q for (M/2)² the largest
+/// of the others is q, and its own 2q.
+fn largest(queues: &mut Queues, kind: u8, grade: u8) {
+    let format = Format::new(kind, grade).unwrap();
+    for place in 0..4 {
+        let (second, eighth) = halves(&format, place % (format.length() / 8));
+        let mut messages = vec![with_bits(&format, &[second]); 4];
+        messages[place] = with_bits(&format, &[second, eighth]);
+        queues.put(kind, grade, &messages, BEGUN);
+        queues.put(kind, grade, &messages, Account { count: FULL - place as u32, ..BEGUN });
+    }
+}
+
+/// The queues that are put in.
+fn once(put: impl FnOnce(&mut Queues)) -> Vec<Queue> {
+    let mut queues = Queues(Vec::new());
+    put(&mut queues);
+    queues.0
+}
+
+/// The queues that are put in for each kind and grade.
+fn each(mut put: impl FnMut(&mut Queues, u8, u8)) -> Vec<Queue> {
+    once(|queues| KINDS.for_each(|kind| GRADES.for_each(|grade| put(queues, kind, grade))))
+}
+
+/// The queues of each sort.
+fn sorts() -> [(&'static str, Vec<Queue>); 10] {
+    let mut random = Random::new(5);
+    let random = &mut random;
+    [
+        ("exam messages", once(document)),
+        ("empty", each(empty)),
+        ("good", each(|queues, kind, grade| good(queues, kind, grade, random))),
+        ("spare bits", each(|queues, kind, grade| spare(queues, kind, grade, random))),
+        ("full accounts", each(|queues, kind, grade| full(queues, kind, grade, random))),
+        ("both", each(|queues, kind, grade| spare_and_full(queues, kind, grade, random))),
+        ("lengths", each(lengths)),
+        ("kinds and grades", once(wrong)),
+        ("accounts from elsewhere", once(|queues| elsewhere(queues, random))),
+        ("largest blocks", each(largest)),
+    ]
+}
+
+/// All queues in the format of README.md, how many there are of each sort, and how many are answered by each number.
+pub fn queue_file() -> (Vec<u8>, Vec<(&'static str, usize)>, [usize; 14]) {
+    let sorts = sorts();
+    let counts = sorts.iter().map(|(name, queues)| (*name, queues.len())).collect();
+    let (mut file, mut numbers) = (Vec::new(), [0; 14]);
+    for queue in sorts.iter().flat_map(|(_, queues)| queues) {
+        let answer = queue.answer();
+        numbers[answer.0.number as usize] += 1;
+        file.extend(queue.record(&answer));
+    }
+    (file, counts, numbers)
+}
+
+#[cfg(test)]
+mod tests {
+    use super::*;
+    use crate::account::send_counted;
+
+    type Answer = (Queued, Vec<i64>);
+
+    /// What someone could answer who does it wrong, from the queue and the right answer.
+    type Wrong = fn(&Queue, Answer) -> Answer;
+
+    fn format(queue: &Queue) -> Format {
+        Format::new(queue.kind, queue.grade).unwrap()
+    }
+
+    /// Whether a message was refused, after the lengths.
+    fn stopped(answer: &Answer) -> bool {
+        [5, 11].contains(&answer.0.number)
+    }
+
+    /// The answer with another account lent.
+    fn with_account(queue: &Queue, account: Account) -> Answer {
+        Queue { messages: queue.messages.clone(), account, ..*queue }.answer()
+    }
+
+    /// The refused message sent all the same, without its spare bits, and with an account that is not full.
+    fn refused_sent(queue: &Queue, answer: &Answer) -> (Vec<i64>, Account) {
+        let (m, n) = (format(queue).message_bytes(), format(queue).length());
+        let mut message = queue.messages[m * answer.0.sent..][..m].to_vec();
+        if queue.kind < 5 {
+            message[m - 1] &= 0x0F;
+        }
+        let count = answer.0.account.count;
+        let account = Account { count: 0, ..answer.0.account };
+        let (sent, grown) = send_counted(queue.kind, queue.grade, &message, n, account).unwrap();
+        (sent.frame, Account { count: count.wrapping_add(1), ..grown })
+    }
+
+    const ALL: [(&str, Wrong); 18] = [
+        ("all or nothing", |queue, right| match right.0.number {
+            0 => right,
+            number => (Queued { number, sent: 0, account: queue.account }, queue.frames()),
+        }),
+        ("a refusal gives the account as it came", |queue, mut right| {
+            if right.0.number != 0 {
+                right.0.account = queue.account;
+            }
+            right
+        }),
+        ("a refusal gives no number sent", |_, mut right| {
+            if right.0.number != 0 {
+                right.0.sent = 0;
+            }
+            right
+        }),
+        ("the refused message counted as sent", |_, mut right| {
+            right.0.sent += stopped(&right) as usize;
+            right
+        }),
+        ("the refused message added", |queue, mut right| {
+            if stopped(&right) {
+                right.0.account = refused_sent(queue, &right).1;
+            }
+            right
+        }),
+        ("the refused message written", |queue, mut right| {
+            if stopped(&right) {
+                let frame = refused_sent(queue, &right).0;
+                right.1[frame.len() * right.0.sent..][..frame.len()].copy_from_slice(&frame);
+            }
+            right
+        }),
+        ("the rest cleared", |queue, mut right| {
+            if stopped(&right) {
+                right.1[format(queue).length() * right.0.sent..queue.coordinates].fill(0);
+            }
+            right
+        }),
+        ("on past the refused", |queue, mut right| {
+            if right.0.number == 5 {
+                let (m, n) = (format(queue).message_bytes(), format(queue).length());
+                let next = right.0.sent + 1;
+                let rest = &mut right.1[n * next..queue.coordinates];
+                let on = send_queue(queue.kind, queue.grade, &queue.messages[m * next..], rest, right.0.account);
+                right.0 = Queued { number: 5, sent: right.0.sent + on.sent, account: on.account };
+            }
+            right
+        }),
+        ("a full account before spare bits", |_, mut right| {
+            if right.0.number == 5 && right.0.account.count >= FULL {
+                right.0.number = 11;
+            }
+            right
+        }),
+        ("a full account tested once", |queue, right| match right.0.number {
+            11 if right.0.sent > 0 => {
+                let (mut queued, frames) = with_account(queue, Account { count: 0, ..queue.account });
+                queued.account.count += queue.account.count;
+                (queued, frames)
+            }
+            _ => right,
+        }),
+        ("an empty queue with a full account is 11", |queue, mut right| {
+            if queue.messages.is_empty() && right.0.number == 0 && queue.account.count >= FULL {
+                right.0.number = 11;
+            }
+            right
+        }),
+        ("an empty queue is 3", |queue, mut right| {
+            if queue.messages.is_empty() && right.0.number == 0 {
+                right.0.number = 3;
+            }
+            right
+        }),
+        ("an empty queue is not tested", |queue, mut right| {
+            if queue.messages.is_empty() && queue.coordinates == 0 {
+                right.0.number = 0;
+            }
+            right
+        }),
+        ("bytes past the last message left out", |queue, right| match right.0.number {
+            3 => {
+                let m = format(queue).message_bytes();
+                let messages = queue.messages[..queue.messages.len() / m * m].to_vec();
+                Queue { messages, ..*queue }.answer()
+            }
+            _ => right,
+        }),
+        ("coordinates past the last frame left out", |queue, mut right| {
+            let needed = |format: Format| queue.messages.len() / format.message_bytes() * format.length();
+            if right.0.number == 4 && needed(format(queue)) < queue.coordinates {
+                let lent = &mut right.1[..needed(format(queue))];
+                right.0 = send_queue(queue.kind, queue.grade, &queue.messages, lent, queue.account);
+            }
+            right
+        }),
+        ("4 before 3", |queue, mut right| {
+            if right.0.number == 3 {
+                let (m, n) = (format(queue).message_bytes(), format(queue).length());
+                right.0.number = if queue.coordinates == queue.messages.len() / m * n { 3 } else { 4 };
+            }
+            right
+        }),
+        ("the sum of the powers added at the end", |queue, mut right| {
+            let powers = with_account(queue, Account { sum: 0.0, ..queue.account }).0.account.sum;
+            right.0.account.sum = queue.account.sum + powers;
+            right
+        }),
+        ("the largest block forgotten", |queue, mut right| {
+            if right.0.sent > 0 {
+                right.0.account.largest =
+                    with_account(queue, Account { largest: 0, ..queue.account }).0.account.largest;
+            }
+            right
+        }),
+    ];
+
+    /// Each wrong answer is told apart at each kind that can have it: kinds 5 and 6 have no spare bits.
+    #[test]
+    fn wrong_answers_are_told_apart() {
+        let queues: Vec<Queue> = sorts().into_iter().flat_map(|(_, queues)| queues).collect();
+        for (name, wrong) in ALL {
+            for kind in KINDS {
+                let told = |queue: &Queue| {
+                    let right = queue.answer();
+                    queue.record(&wrong(queue, right.clone())) != queue.record(&right)
+                };
+                let spare = ["on past the refused", "a full account before spare bits"].contains(&name);
+                let any = queues.iter().any(|queue| queue.kind == kind && told(queue));
+                assert_eq!(any, !(spare && kind >= 5), "kind {kind}, {name}");
+            }
+        }
+    }
+
+    #[test]
+    fn every_number_of_a_queue_comes() {
+        let (file, sorts, numbers) = queue_file();
+        assert!((0..14).all(|number| (numbers[number] > 0) == [0, 1, 2, 3, 4, 5, 11].contains(&number)));
+        assert_eq!(sorts.iter().map(|(_, count)| count).sum::<usize>(), numbers.iter().sum());
+        assert!(file == queue_file().0);
+    }
+}
