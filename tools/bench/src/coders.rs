@@ -1,5 +1,6 @@
 //! The coders that are compared, with one form of call: each fills what it is lent and gives the
-//! energy, or gives the number of a refusal and leaves what it is lent as it was.
+//! energy, or gives the number of a refusal and leaves what it is lent as it was. Of a queue each gives
+//! how many are sent, and the number of the refusal, 0 where all are.
 
 use bench::hand;
 use frame_coder::{by_number, Account, Refusal};
@@ -11,12 +12,14 @@ pub type Figures = (u32, f64, u64);
 type Answer = Result<u64, u8>;
 type Sending = fn(u8, u8, &[u8], &mut [i32]) -> Answer;
 type Counting = fn(u8, u8, &[u8], &mut [i32], &mut Figures) -> Answer;
+type Queueing = fn(u8, u8, &[u8], &mut [i32], &mut Figures) -> (usize, u8);
 type Reading = fn(u8, u8, &[i32], &mut [u8]) -> Answer;
 
 pub struct Coder {
     pub name: &'static str,
     pub send: Sending,
     pub send_counted: Counting,
+    pub send_queue: Queueing,
     pub read_open: Reading,
     pub read_strict: Reading,
 }
@@ -31,6 +34,12 @@ pub const CODERS: [Coder; 3] = [
             let answer = by_number::send_counted(kind, grade, message, frame, &mut account);
             *figures = (account.count(), account.sum(), account.largest());
             answer.map_err(Refusal::number)
+        },
+        send_queue: |kind, grade, messages, frames, figures| {
+            let mut account = Account::from_parts(figures.0, figures.1, figures.2);
+            let queued = by_number::send_queue(kind, grade, messages, frames, &mut account);
+            *figures = (account.count(), account.sum(), account.largest());
+            queued.map_or_else(|stopped| (stopped.sent, stopped.refusal.number()), |sent| (sent, 0))
         },
         read_open: |kind, grade, frame, message| {
             by_number::read_open(kind, grade, frame, message).map_err(Refusal::number)
@@ -48,6 +57,12 @@ pub const CODERS: [Coder; 3] = [
             *figures = (account.count, account.sum, account.largest);
             answer
         },
+        send_queue: |kind, grade, messages, frames, figures| {
+            let mut account = hand::Account { count: figures.0, sum: figures.1, largest: figures.2 };
+            let queued = hand::send_queue(kind, grade, messages, frames, &mut account);
+            *figures = (account.count, account.sum, account.largest);
+            queued
+        },
         read_open: hand::read_open,
         read_strict: hand::read_strict,
     },
@@ -64,6 +79,14 @@ pub const CODERS: [Coder; 3] = [
             narrow(&sent.frame, frame);
             *figures = (account.count, account.sum, account.largest);
             Ok(sent.energy)
+        },
+        send_queue: |kind, grade, messages, frames, figures| {
+            let before = account::Account { count: figures.0, sum: figures.1, largest: figures.2 };
+            let mut left = wide(frames);
+            let queued = account::send_queue(kind, grade, messages, &mut left, before);
+            narrow(&left, frames);
+            *figures = (queued.account.count, queued.account.sum, queued.account.largest);
+            (queued.sent, queued.number)
         },
         read_open: |kind, grade, frame, message| {
             let (read, energy) = frame::read_open_into(kind, grade, &wide(frame), message.len())?;

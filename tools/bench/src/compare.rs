@@ -19,10 +19,12 @@ pub struct Plan {
 }
 
 /// The comparisons made, by answer (0 for success; for a block alone, refused and shaped), those of
-/// sending both ways, and those that differ.
+/// queues among them and the messages sent in these, those of sending both ways, and those that differ.
 struct Tally {
     coders: &'static [Coder],
     answers: [u64; 14],
+    queues: u64,
+    queued: u64,
     blocks: [u64; 2],
     ways: u64,
     different: u64,
@@ -42,21 +44,25 @@ impl Tally {
         }
     }
 
-    /// Asks every coder, and counts one comparison of what they answer and of what they leave.
+    /// Asks every coder, and counts one comparison of what they answer and of what they leave; gives what
+    /// the hand-tuned coder leaves.
     fn ask<T: PartialEq + Debug>(
         &mut self,
         what: &str,
         input: &dyn Debug,
         call: impl Fn(&Coder) -> (Result<u64, u8>, T),
-    ) {
-        let answers: Vec<_> = self.coders.iter().map(call).collect();
+    ) -> T {
+        let mut answers: Vec<_> = self.coders.iter().map(call).collect();
         self.answers[answers[1].0.err().unwrap_or(0) as usize] += 1;
         self.compare(what, input, &answers);
+        answers.swap_remove(1).1
     }
 
     fn add(&mut self, other: &Tally) {
         self.answers.iter_mut().zip(other.answers).for_each(|(sum, count)| *sum += count);
         self.blocks.iter_mut().zip(other.blocks).for_each(|(sum, count)| *sum += count);
+        self.queues += other.queues;
+        self.queued += other.queued;
         self.ways += other.ways;
         self.different += other.different;
     }
@@ -149,17 +155,21 @@ fn largest(kind: u8, grade: u8, message: &[u8], length: usize, random: &mut Rand
     }
 }
 
+/// A sum as it grows, or one from elsewhere.
+fn sum(random: &mut Random) -> f64 {
+    match random.below(4) {
+        0 => f64::from_bits(random.word() & !(1 << 62)),
+        _ => random.below(1 << 40) as f64 / 64.0,
+    }
+}
+
 fn sendings(kind: u8, grade: u8, message: &[u8], length: usize, random: &mut Random, tally: &mut Tally) {
     tally.ask("send", &(kind, grade, message), |coder| {
         let mut frame = vec![77; length];
         ((coder.send)(kind, grade, message, &mut frame), frame)
     });
     let count = [0, 5, 999_998, 999_999, 1_000_000, 1_000_001, u32::MAX][random.below(7) as usize];
-    // A sum as it grows, or one from elsewhere.
-    let sum = match random.below(4) {
-        0 => f64::from_bits(random.word() & !(1 << 62)),
-        _ => random.below(1 << 40) as f64 / 64.0,
-    };
+    let sum = sum(random);
     let largest = largest(kind, grade, message, length, random);
     tally.ask("send_counted", &(kind, grade, message, count, sum, largest), |coder| {
         let (mut frame, mut figures) = (vec![77; length], (count, sum, largest));
@@ -244,10 +254,63 @@ fn both_ways(kind: u8, grade: u8, message: &[u8], length: usize, tally: &mut Tal
     tally.compare("both ways", &(kind, grade, message), &answers);
 }
 
-/// One message, its frame, and the frame damaged in three ways.
-fn frame(plan: &Plan, random: &mut Random, tally: &mut Tally) {
+/// A kind and a grade of the plan.
+fn format(plan: &Plan, random: &mut Random) -> (u8, u8) {
     let kinds = (plan.kinds.end() - plan.kinds.start() + 1) as u64;
-    let (kind, grade) = (plan.kinds.start() + random.below(kinds) as u8, 1 + random.below(4) as u8);
+    (plan.kinds.start() + random.below(kinds) as u8, 1 + random.below(4) as u8)
+}
+
+/// A queue of up to 12 messages: at times with a spare bit set at one of them, an account that is full on the way or
+/// before it, bytes or coordinates too few or too many, or a wrong kind or grade. Every coordinate lent is another
+/// number, so that one that is moved shows.
+fn queue(plan: &Plan, random: &mut Random, tally: &mut Tally) {
+    let (mut kind, mut grade) = format(plan, random);
+    let (length, bytes) = lengths(kind, grade);
+    let number = random.below(13);
+    let mut messages = Vec::new();
+    for _ in 0..number {
+        let make = [dense, dense, dense, edge][random.below(4) as usize];
+        messages.extend(make(kind, grade, random));
+    }
+    if number > 0 && kind < 5 && random.below(4) == 0 {
+        messages[bytes * (1 + random.below(number) as usize) - 1] |= 0x10 << random.below(4);
+    }
+    let largest = largest(kind, grade, &messages[..bytes.min(messages.len())], length, random);
+    let count = match random.below(8) {
+        0..=3 => random.below(999_000) as u32,
+        4..=6 => 1_000_000 - random.below(number + 2) as u32,
+        _ => [1_000_001, u32::MAX][random.below(2) as usize],
+    };
+    let sum = sum(random);
+    let mut coordinates = length * number as usize;
+    let mut beside = |x: usize| (x + random.below(7) as usize).saturating_sub(3);
+    let (more_bytes, more_coordinates) = (beside(messages.len()), beside(coordinates));
+    match random.below(32) {
+        0 => messages.resize(more_bytes, 0),
+        1 => coordinates = more_coordinates,
+        2 => {
+            messages.resize(more_bytes, 0);
+            coordinates = more_coordinates;
+        }
+        3 => coordinates = length * random.below(14) as usize,
+        4 => kind = random.below(256) as u8,
+        5 => grade = random.below(256) as u8,
+        _ => {}
+    }
+    tally.queues += 1;
+    let input = (kind, grade, &messages, coordinates, (count, sum, largest));
+    let (sent, ..) = tally.ask("send_queue", &input, |coder| {
+        let (mut frames, mut figures) = ((1000..).take(coordinates).collect::<Vec<i32>>(), (count, sum, largest));
+        let (sent, number) = (coder.send_queue)(kind, grade, &messages, &mut frames, &mut figures);
+        let answer = if number == 0 { Ok(0) } else { Err(number) };
+        (answer, (sent, frames, figures.0, figures.1.to_bits(), figures.2))
+    });
+    tally.queued += sent as u64;
+}
+
+/// One message, its frame, and the frame damaged in three ways; at times calls that do not fit, and a queue.
+fn frame(plan: &Plan, random: &mut Random, tally: &mut Tally) {
+    let (kind, grade) = format(plan, random);
     let (length, bytes) = lengths(kind, grade);
     let message = message(kind, grade, random);
     sendings(kind, grade, &message, length, random, tally);
@@ -260,6 +323,9 @@ fn frame(plan: &Plan, random: &mut Random, tally: &mut Tally) {
     }
     if random.below(8) == 0 {
         misfits(random, tally);
+    }
+    if random.below(4) == 0 {
+        queue(plan, random, tally);
     }
     if !plan.all {
         both_ways(kind, grade, &message, length, tally);
@@ -290,7 +356,7 @@ fn take_parts(plan: &Plan, next: &AtomicU64, tally: &mut Tally) {
 pub fn run(plan: &Plan) -> u64 {
     let tally = || {
         let coders = if plan.all { &CODERS[..] } else { &CODERS[..2] };
-        Tally { coders, answers: [0; 14], blocks: [0; 2], ways: 0, different: 0 }
+        Tally { coders, answers: [0; 14], queues: 0, queued: 0, blocks: [0; 2], ways: 0, different: 0 }
     };
     let next = AtomicU64::new(0);
     let mut sum = tally();
@@ -313,6 +379,7 @@ pub fn run(plan: &Plan) -> u64 {
             (_, Err(unknown)) => println!("{unknown}: {count}"),
         }
     }
+    println!("queues: {}, with {} messages sent", sum.queues, sum.queued);
     let [refused, shaped] = sum.blocks;
     if !plan.all {
         println!("sent both ways: {}\nblocks shaped: {shaped}\nblocks refused: {refused}", sum.ways);

@@ -19,6 +19,18 @@ mod archive {
             sum: *mut f64,
             largest: *mut u64,
         ) -> i64;
+        pub fn coder_send_queue(
+            k: u8,
+            b: u8,
+            messages: *const u8,
+            bytes: usize,
+            frames: *mut i32,
+            length: usize,
+            count: *mut u32,
+            sum: *mut f64,
+            largest: *mut u64,
+            sent: *mut usize,
+        ) -> i64;
         pub fn plain_send(k: u8, b: u8, message: *const u8, bytes: usize, frame: *mut i32, length: usize) -> i64;
         pub fn block_least(k: u32, block: *const i32, block_len: usize, least: *mut i32, least_len: usize) -> bool;
     }
@@ -50,6 +62,21 @@ pub fn send_counted(
     let (message, bytes, frame, length) = (message.as_ptr(), message.len(), frame.as_mut_ptr(), frame.len());
     // SAFETY: as in `send`; the three numbers are lent for the call alone.
     unsafe { archive::coder_send_counted(kind, grade, message, bytes, frame, length, count, sum, largest) }
+}
+
+/// Sends a queue with the same: 0, or minus the number of a refusal; `sent` is how many are sent.
+#[inline(always)]
+pub fn send_queue(
+    kind: u8,
+    grade: u8,
+    messages: &[u8],
+    frames: &mut [i32],
+    (count, sum, largest): &mut (u32, f64, u64),
+    sent: &mut usize,
+) -> i64 {
+    let (messages, bytes, frames, length) = (messages.as_ptr(), messages.len(), frames.as_mut_ptr(), frames.len());
+    // SAFETY: as in `send_counted`; `sent` too is lent for the call alone.
+    unsafe { archive::coder_send_queue(kind, grade, messages, bytes, frames, length, count, sum, largest, sent) }
 }
 
 /// Reads openly: the energy, or minus the number of a refusal.

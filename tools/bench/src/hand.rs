@@ -319,6 +319,7 @@ impl<const KIND: usize, const B: usize> Format<KIND, B> {
         Ok(Self::fill(message, frame, |_| ()))
     }
 
+    #[inline(always)]
     fn send_counted(message: &[u8], frame: &mut [i32], account: &mut Account) -> Result<u64, u8> {
         Self::test(message, frame.len())?;
         if account.count >= FULL {
@@ -330,6 +331,23 @@ impl<const KIND: usize, const B: usize> Format<KIND, B> {
         account.sum += energy as f64 / Self::N as f64;
         account.largest = account.largest.max(largest as u64);
         Ok(energy)
+    }
+
+    fn send_queue(messages: &[u8], frames: &mut [i32], account: &mut Account) -> Result<(usize, u8), u8> {
+        let count = messages.len() / Self::BYTES;
+        if messages.len() != count * Self::BYTES {
+            return Err(refusal::MESSAGE_LENGTH);
+        }
+        if frames.len() != count * Self::N {
+            return Err(refusal::FRAME_LENGTH);
+        }
+        let turns = messages.chunks_exact(Self::BYTES).zip(frames.chunks_exact_mut(Self::N));
+        for (sent, (message, frame)) in turns.enumerate() {
+            if let Err(number) = Self::send_counted(message, frame, account) {
+                return Ok((sent, number));
+            }
+        }
+        Ok((count, 0))
     }
 
     fn read<const STRICT: bool>(frame: &[i32], message: &mut [u8]) -> Result<u64, u8> {
@@ -512,6 +530,12 @@ pub struct Account {
 /// Sends with an account, which grows by the frame. Only a message that would be sent is refused for a full account.
 pub fn send_counted(kind: u8, grade: u8, message: &[u8], frame: &mut [i32], account: &mut Account) -> Result<u64, u8> {
     by_format!(kind, grade, send_counted(message, frame, account))
+}
+
+/// Sends messages that stand end to end with an account, each in its turn, up to the first refused. Gives how many are sent, and
+/// the refusal, 0 where all are.
+pub fn send_queue(kind: u8, grade: u8, messages: &[u8], frames: &mut [i32], account: &mut Account) -> (usize, u8) {
+    by_format!(kind, grade, send_queue(messages, frames, account)).unwrap_or_else(|number| (0, number))
 }
 
 #[cfg(test)]

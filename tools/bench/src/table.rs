@@ -1,6 +1,7 @@
 //! The tables of times: library and hand-tuned coder on the same messages, in one run.
 
 use std::array::from_fn;
+use std::cell::RefCell;
 use std::hint::black_box;
 use std::time::{Duration, Instant};
 
@@ -9,7 +10,7 @@ use bench::random::Random;
 use bench::{exported, hand};
 
 const FRAMES: usize = 1024;
-/// The grades of the first table: the lowest and the highest.
+/// The grades of the tables of frames and of queues: the lowest and the highest.
 const GRADES: [u8; 2] = [1, 4];
 const TURNS: usize = 200;
 const TURN: Duration = Duration::from_millis(1);
@@ -24,16 +25,24 @@ fn turn(pass: &mut dyn FnMut()) -> f64 {
     start.elapsed().as_nanos() as f64 / (passes * FRAMES) as f64
 }
 
-/// The least time of each, measured turn and turn about, after one turn that does not count.
-fn measure<const N: usize>(mut passes: [&mut dyn FnMut(); N]) -> [f64; N] {
+/// The times of each, measured turn and turn about, after one turn that does not count.
+fn turns<const N: usize>(mut passes: [&mut dyn FnMut(); N]) -> Vec<[f64; N]> {
     turn(passes[0]);
-    let mut least = [f64::INFINITY; N];
-    for _ in 0..TURNS {
-        for (least, pass) in least.iter_mut().zip(&mut passes) {
-            *least = least.min(turn(pass));
-        }
-    }
-    least
+    (0..TURNS).map(|_| from_fn(|i| turn(passes[i]))).collect()
+}
+
+fn least<const N: usize>(turns: &[[f64; N]]) -> [f64; N] {
+    from_fn(|i| turns.iter().map(|times| times[i]).fold(f64::INFINITY, f64::min))
+}
+
+/// The least time of each.
+fn measure<const N: usize>(passes: [&mut dyn FnMut(); N]) -> [f64; N] {
+    least(&turns(passes))
+}
+
+fn median(mut numbers: Vec<f64>) -> f64 {
+    numbers.sort_by(f64::total_cmp);
+    numbers[numbers.len() / 2]
 }
 
 fn line(what: &str, library: f64, hand: f64) {
@@ -121,6 +130,45 @@ fn ways(random: &mut Random) {
     }
 }
 
+/// A queue, and the same messages one by one with an account, to the same places of one buffer; and the queue by hand.
+fn queues(random: &mut Random) {
+    println!(
+        "| kind | grade | one by one, million frames a second | queue, million frames a second | time, queue to one by one \
+         | queue by hand, million frames a second |"
+    );
+    println!("|---|---|---|---|---|---|");
+    for kind in 3..=6 {
+        for grade in GRADES {
+            let (length, bytes) = lengths(kind, grade);
+            let messages: Vec<u8> = (0..FRAMES).flat_map(|_| dense(kind, grade, random)).collect();
+            let buffer = RefCell::new(vec![0; FRAMES * length]);
+            let turns = turns([
+                &mut || {
+                    let (kind, grade, mut account) = (black_box(kind), black_box(grade), (0, 0.0, 0));
+                    let mut frames = buffer.borrow_mut();
+                    for (message, frame) in messages.chunks_exact(bytes).zip(frames.chunks_exact_mut(length)) {
+                        exported::send_counted(kind, grade, message, frame, &mut account);
+                    }
+                    black_box(account);
+                },
+                &mut || {
+                    let (kind, grade, mut account, mut sent) = (black_box(kind), black_box(grade), (0, 0.0, 0), 0);
+                    exported::send_queue(kind, grade, &messages, &mut buffer.borrow_mut(), &mut account, &mut sent);
+                    assert_eq!(sent, FRAMES);
+                },
+                &mut || {
+                    let (kind, grade, mut account) = (black_box(kind), black_box(grade), hand::Account::default());
+                    let queued = hand::send_queue(kind, grade, &messages, &mut buffer.borrow_mut(), &mut account);
+                    assert_eq!(queued, (FRAMES, 0));
+                },
+            ]);
+            let ratio = median(turns.iter().map(|[one, queue, _]| queue / one).collect());
+            let [one, queue, hand] = least(&turns).map(|time| 1000.0 / time);
+            println!("| {kind} | {grade} | {one:.2} | {queue:.2} | {ratio:.3} | {hand:.2} |");
+        }
+    }
+}
+
 /// One block, each coder called by itself. The library's call includes its tests of scale, lengths
 /// and range.
 fn blocks(random: &mut Random) {
@@ -150,6 +198,8 @@ pub fn print() {
     frames(&mut random);
     println!();
     ways(&mut random);
+    println!();
+    queues(&mut random);
     println!();
     blocks(&mut random);
 }

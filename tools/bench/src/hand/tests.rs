@@ -254,6 +254,35 @@ fn accounts() {
     assert_eq!((frame, account), ([1; 64], Account { count: 1, sum: 1.0, largest: 8 }));
 }
 
+#[test]
+fn queues() {
+    // Two good messages, one with a spare bit set, a good one.
+    let messages = [0x00, 0x08, 0x02, 0x00, 0x00, 0x10, 0x01, 0x00];
+    let frames = [[-4, 0, 0, 0, 0, 0, 0, 0], [0, 1, 0, 1, 0, 1, 0, 1], [77; 8], [77; 8]].concat();
+    let check = |(kind, grade), bytes, length, count, expected: (usize, u8)| {
+        let mut account = Account { count, sum: 0.25, largest: 3 };
+        let mut sent = vec![77; length];
+        assert_eq!(send_queue(kind, grade, &messages[..bytes], &mut sent, &mut account), expected);
+        let (sum, largest) = [(0.25, 3), (2.25, 16), (2.75, 16)][expected.0];
+        assert_eq!(account, Account { count: count + expected.0 as u32, sum, largest });
+        let mut left = vec![77; length];
+        left[..8 * expected.0].copy_from_slice(&frames[..8 * expected.0]);
+        assert_eq!(sent, left);
+    };
+    check((3, 1), 4, 16, 0, (2, 0));
+    check((3, 1), 8, 32, 0, (2, refusal::SPARE_BITS));
+    check((3, 1), 8, 32, FULL - 2, (2, refusal::SPARE_BITS));
+    check((3, 1), 8, 32, FULL - 1, (1, refusal::ACCOUNT_FULL));
+    check((3, 1), 4, 16, u32::MAX, (0, refusal::ACCOUNT_FULL));
+    check((3, 1), 0, 0, FULL, (0, 0));
+    check((3, 1), 3, 9, FULL, (0, refusal::MESSAGE_LENGTH));
+    for length in [0, 8, 15, 17, 24] {
+        check((3, 1), 4, length, FULL, (0, refusal::FRAME_LENGTH));
+    }
+    check((3, 5), 3, 9, FULL, (0, refusal::GRADE));
+    check((7, 5), 0, 0, 0, (0, refusal::KIND));
+}
+
 /// The vectors that the second coder wrote, by the format of its README.
 #[test]
 fn written_vectors() {
