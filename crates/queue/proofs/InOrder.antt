@@ -4,6 +4,7 @@ use Prim.Native.Nat.{ℕ, zero, suc, _+_, _*_, _^_, _<_, _≤_}
 use mathlib.Core.Path.{_≡_, refl, sym, ap, ap₂, _∙_, subst}
 use mathlib.Core.Bool.{Bool, true, false}
 use mathlib.Core.List.{List, [], _∷_, _++_}
+use native.Mathlib.Nat.{zero-mod, zero-div}
 use native.Mathlib.Omega.{arith}
 use lib.Dec.{eqb}
 use lib.IntN.{ℤ}
@@ -11,7 +12,7 @@ use lib.ListN.{length, take, drop, getD, length-append, length-drop}
 use lib.Seq.{take-at, drop-at, drop-drop}
 use borrow.Author.Tests.{eq-eqb, ne-eqb, eqb-true, eqb-false}
 use Rattle.e8.specs.Energy.{energy}
-use Rattle.frames.specs.Kind.{messageBytes}
+use Rattle.frames.specs.Kind.{isKind, isGrade, messageBytes}
 use Rattle.frames.specs.Frame.{sentFrame}
 use Rattle.frames.proofs.Rows.{grade-low}
 use Rattle.frames.proofs.Demands.{least-energy}
@@ -23,7 +24,7 @@ use Rattle.account.proofs.History.{tests, after-refused, by-sent, by-refused, c
 use Rattle.queue.specs.declared.Queued.{Queued}
 use Rattle.queue.specs.Queue.{queueRefusal, messagesIn, callsFor, callsOf, oneMore, inTurn, framesInTurn, queueOutcome, queueFrames, piece, EachLeast}
 use Rattle.queue.specs.InTurn.{accountAt, answerAt, callsMade, InTurn}
-use Rattle.queue.proofs.Tests.{fits}
+use Rattle.queue.proofs.Tests.{fits, all-fit}
 use Rattle.queue.proofs.Turns.{frame-of, frame-length, sent-answer, sent-frames, refused-answer, refused-frames}
 
 -- ---- pieces, from the first
@@ -214,3 +215,13 @@ module _ (k b : ℕ) (bytes : List ℕ) (f : List ℤ) (a : Account) where
     -- and each frame written has the least energy
     pub queue-least : {q : Queued} {g : List ℤ} → q ≡ queueOutcome k b bytes (length f) a → g ≡ queueFrames k b bytes f a → EachLeast k b (q .sent) g
     queue-least {q} {g} e d = rw (e, d) (each-least queue-in-turn)
+
+-- an empty queue sends none, whatever the account
+pub empty-queue : (k b : ℕ) (a : Account) → isKind k ≡ true → isGrade b ≡ true
+    → (queueOutcome k b [] 0 a ≡ record { number = 0; sent = 0; account = a }) × (queueFrames k b [] [] a ≡ [])
+unfolding inTurn framesInTurn callsFor
+empty-queue k b a kind grade =
+    let B = messageBytes k b in
+    let z = sym (all-fit k b 0 0 (kind, grade) (zero-mod B) (zero-mod (2 ^ k)) (zero-div (2 ^ k) ∙ sym (zero-div B))) in
+    let s = sent-queue k b [] [] a z in
+    (s .0 ∙ ap (λ (m : ℕ). inTurn a (callsFor m k b [])) (zero-div B), s .1 ∙ ap (λ (m : ℕ). framesInTurn a (callsFor m k b []) []) (zero-div B))
