@@ -53,12 +53,12 @@
  *     Measured on the archive of this version, A=target/staticlib/libframe_coder.a:
  *
  *       nm -u $A        no undefined symbols: it prints the name of the member and nothing more
- *       size $A         text 17015 (code and constants), data 0, bss 0
- *       size -A $A      a section for each function, so that -Wl,--gc-sections leaves out what is not called: of 16479 bytes of
+ *       size $A         text 17005 (code and constants), data 0, bss 0
+ *       size -A $A      a section for each function, so that -Wl,--gc-sections leaves out what is not called: of 16469 bytes of
  *                       code coder_send alone needs 8925, both readings 9842
  *       cc -I crates/frame_coder tools/c/stack.c $A -o target/stack && target/stack
  *                       the most stack that a call used, in bytes, with its return address and the arguments on the stack:
- *                       coder_send 784, coder_send_counted 848, coder_send_queue 976, coder_read_open 592, coder_read_strict 1072
+ *                       coder_send 784, coder_send_counted 848, coder_send_queue 944, coder_read_open 592, coder_read_strict 1072
  *       objdump -dr $A | grep -E '>:$|push|sub .*,%rsp|-0x[0-9a-f]*\(%rsp\)|PLT32'
  *                       where it goes: the frames on the way down add up to the same, nothing recurs, and 128 of the bytes of
  *                       sending and of the strict reading, and 8 of those of the open reading, lie below the stack pointer, in the
