@@ -19,9 +19,9 @@
 extern "C" {
 #endif
 
-/* Writes the least member of the block's class for the scale 2^(k + 1), and answers true;
- * or answers false and writes nothing, where k is over 6, a length is not 8, or a coordinate
- * is outside -16777216 .. 16777216. */
+/* Writes the least member of the block's class for the scale 2^(k + 1), of several the first in
+ * reading order, as under an even number, and answers true; or answers false and writes nothing,
+ * where k is over 6, a length is not 8, or a coordinate is outside -16777216 .. 16777216. */
 bool block_least(uint32_t k, const int32_t *block, size_t block_len, int32_t *least, size_t least_len);
 
 #ifdef __cplusplus

@@ -2,9 +2,9 @@
  *
  * A message is bytes, a frame is 8, 16, 32 or 64 whole numbers (int32_t). Sending makes the frame of a message, or the frames of a
  * queue of messages; reading makes the message of a frame. Each is lent as a pointer and a length. An answer is the energy of the
- * frame, 0 or more (for a queue 0), or minus the number of a refusal. Bad input is refused, and a refusal changes nothing that was
- * lent; in a queue this is true of the refused message, and what was sent before it stands. docs/GUIDE.md explains the words,
- * docs/example.c shows the calls.
+ * frame, 0 or more (for a queue, and for the opening of an account, 0), or minus the number of a refusal. Bad input is refused, and a
+ * refusal changes nothing that was lent; in a queue this is true of the refused message, and what was sent before it stands; an
+ * account whose opening is refused is zero. docs/GUIDE.md explains the words, docs/example.c shows the calls.
  *
  * LENGTHS, by kind (3 to 6) and grade (1 to 4). A lent length must be exactly the table's; for a queue see QUEUES.
  *
@@ -22,43 +22,62 @@
  *     read can have an energy of 2^46: an answer is printed with PRId64. A block is 8 coordinates that begin at a position which
  *     8 divides; its energy is the sum of their squares.
  *
- * TIES. The sent frame is the one of least energy in the class of the message. Among frames of least energy it is the first in
- *     reading order: at the first coordinate where two differ, the smaller comes first.
+ * NUMBERS AND TIES. A frame carries a number, 0 to 4294967295. The sent frame is one of least energy in the class of the message;
+ *     where several have it, an even number is sent as the first of them in reading order, an odd number as the last: at the first
+ *     coordinate where two differ, the smaller comes first. Their energy is the same, so that the number changes no answer of
+ *     sending, and all even numbers have one frame, all odd numbers one. Without ties both are the same frame. A strict reading takes
+ *     the frame of its number alone. Over all messages of a kind and grade, the frames of an even and those of an odd number add up
+ *     to zero in every coordinate.
+ *
+ * ACCOUNTS AND THE CHANGEOVER. An account is opened with a changeover, a count from 0 to 1,000,000. With an account the number of a
+ *     frame is the count before the send; but the frames below the changeover follow the old rule, which is that of number 0. So
+ *     the frame that was sent at a count is judged, by coder_read_strict, under
+ *
+ *         count < changeover ? 0 : count               (coder_number_at)
+ *
+ *     Opened with 0, every frame follows the rule of its number; with 1,000,000 none does, and all are sent as by versions up to
+ *     0.6.0. The changeover stays as it is, and the other figures of an account do not depend on it.
  *
  * QUEUES. Messages of one kind and grade stand end to end, and so do their frames: for N messages lend
  *     N * coder_message_length(kind, grade) bytes and N * coder_frame_length(kind) coordinates. They are sent in turn, with an
- *     account, up to the first that is refused: the frames before it are written, the account is grown by them, `sent` is their
- *     number, and the coordinates behind them keep their values. A queue of no messages is good: 0 bytes and 0 coordinates.
+ *     account, up to the first that is refused: the frames before it are written, the account is grown by them, `sent` says how
+ *     many they are, and the coordinates behind them keep their values. Message i, counted from 0, is sent at the count before the
+ *     queue plus i. A queue of no messages is good: 0 bytes and 0 coordinates.
  *
  * WHAT A CALLER HAS TO SEE TO, since nothing here can test it:
  *   - a pointer is valid for as many elements as its length says, and aligned for its type. Where the length is 0 it may be
  *     anything, null too, and is not looked at: no message and no frame has length 0, so that the call is refused, unless it is a
  *     queue of no messages, which has nothing to read and nothing to write;
- *   - `count`, `sum`, `largest` and `sent`, or `account`, are valid in every call that takes them, and never null, also where the
- *     call is refused (coder_send_queue stores to all four in every call);
+ *   - `count`, `sum`, `largest`, `kept` and `sent`, or `account`, are valid in every call that takes them, and never null, also where
+ *     the call is refused (coder_send_queue and coder_open store to all four of theirs in every call);
+ *   - a frame is read strictly under its own number, and an account goes on with its own changeover: nothing in a frame tells its
+ *     number, and coder_send_counted and coder_send_queue take any changeover, as they take any count;
  *   - what is lent to one call does not overlap, and nobody else writes to it during the call.
- * What is lent to be written (a sender's frames, `sent`, a reading's message) need not be set before: nothing of it is loaded that
- *     the call has not stored (tested under valgrind).
+ * What is lent to be written (a sender's frames, `sent`, an account to be opened, a reading's message) need not be set before:
+ *     nothing of it is loaded that the call has not stored (tested under valgrind).
  *
  * KIND AND GRADE ARE uint8_t in the archive's functions. C and C++ narrow an int to that in silence: kind 259 arrives as 3. The
  *     functions that are written out in this header take an int and test it before they narrow it. Where kind and grade come
- *     from outside as ints, ask coder_message_length(kind, grade) first: it is 0 where there is no such kind or grade.
+ *     from outside as ints, ask coder_message_length(kind, grade) first: it is 0 where there is no such kind or grade. A wider number
+ *     or changeover is narrowed to uint32_t likewise: a number keeps its parity and so its rule; a changeover is tested by
+ *     coder_account_open before that, and not by coder_open.
  *
  * FOR FIRMWARE. The archive is for x86-64, ELF and the System V calling convention (Linux); there is none for other processors
  *     today. It needs nothing beyond the base of x86-64 (SSE2), and links into fixed and position-independent programs. It calls
  *     nothing (no libc, no allocation, no system call) and has no data that is written, so it is reentrant and safe in threads.
- *     Only coder_send_counted and coder_send_queue compute in floating point; but every function uses the vector registers (xmm),
- *     which whoever interrupts a thread must save. A call ends on every input; its time depends on the input (docs/BENCHMARKS.md),
- *     that of a queue on the number of its messages above all.
+ *     Only coder_send_counted and coder_send_queue compute in floating point; but every function save coder_open uses the vector
+ *     registers (xmm), which whoever interrupts a thread must save. A call ends on every input; its time depends on the input
+ *     (docs/BENCHMARKS.md), that of a queue on the number of its messages above all.
  *     Measured on the archive of this version, A=target/staticlib/libframe_coder.a:
  *
  *       nm -u $A        no undefined symbols: it prints the name of the member and nothing more
- *       size $A         text 17005 (code and constants), data 0, bss 0
- *       size -A $A      a section for each function, so that -Wl,--gc-sections leaves out what is not called: of 16469 bytes of
- *                       code coder_send alone needs 8925, both readings 9842
+ *       size $A         text 17311 (code and constants), data 0, bss 0
+ *       size -A $A      a section for each function, so that -Wl,--gc-sections leaves out what is not called: of 16775 bytes of
+ *                       code coder_send alone needs 9165, both readings 10044
  *       cc -I crates/frame_coder tools/c/stack.c $A -o target/stack && target/stack
  *                       the most stack that a call used, in bytes, with its return address and the arguments on the stack:
- *                       coder_send 784, coder_send_counted 848, coder_send_queue 944, coder_read_open 592, coder_read_strict 1072
+ *                       coder_open 8, coder_send 816, coder_send_counted 864, coder_send_queue 960, coder_read_open 576,
+ *                       coder_read_strict 1072
  *       objdump -dr $A | grep -E '>:$|push|sub .*,%rsp|-0x[0-9a-f]*\(%rsp\)|PLT32'
  *                       where it goes: the frames on the way down add up to the same, nothing recurs, and 128 of the bytes of
  *                       sending and of the strict reading, and 8 of those of the open reading, lie below the stack pointer, in the
@@ -74,7 +93,7 @@
 #include <stddef.h>
 #include <stdint.h>
 
-#define FRAME_CODER_VERSION "0.6.0"
+#define FRAME_CODER_VERSION "0.7.0"
 
 #ifdef __cplusplus
 extern "C" {
@@ -94,7 +113,7 @@ extern "C" {
 /* A reading takes coordinates from minus this to this. */
 #define CODER_MAX_COORDINATE 1048576
 
-/* An account with so many frames is full. */
+/* An account with so many frames is full, and no account is opened with a changeover above it. */
 #define CODER_MAX_COUNT 1000000
 
 /* The coordinates of a kind, the message bits and the message bytes of a kind and grade, as constants where kind and grade are;
@@ -126,19 +145,20 @@ CODER_INLINE size_t coder_message_length(int kind, int grade)
 
 /* The numbers of the refusals. Sending tests 1, 2, 3, 4, 5, and with an account 11; sending a queue tests 1, 2, 3, 4 before any
  * message is sent, then 5 and 11 of each message in its turn; reading tests 1, 2, 4, 3, then 6 over all coordinates, then 7, 8, 13,
- * and if it is strict 9. The first that holds is answered. (10 and 12 are refusals of a sheet.) */
+ * and if it is strict 9; opening an account tests 14 alone. The first that holds is answered. (10 and 12 are refusals of a sheet.) */
 enum coder_refusal {
-    CODER_REFUSED_KIND = 1,           /* the kind is not 3 to 6 */
-    CODER_REFUSED_GRADE = 2,          /* the grade is not 1 to 4 */
-    CODER_REFUSED_MESSAGE_LENGTH = 3, /* the message bytes lent differ from the kind's and grade's; a queue: are no whole messages */
-    CODER_REFUSED_FRAME_LENGTH = 4,   /* the coordinates lent differ from the kind's; a queue: from the kind's times its messages */
-    CODER_REFUSED_SPARE_BITS = 5,     /* sending: a spare bit of the message is set; a queue: of the first one not sent */
-    CODER_REFUSED_OVER_RANGE = 6,     /* reading: a coordinate is outside -1048576 .. 1048576 */
-    CODER_REFUSED_BROKEN_LEVEL_0 = 7, /* reading: the coordinates' bits of weight 1 are not a codeword */
-    CODER_REFUSED_BROKEN_LEVEL_1 = 8, /* reading, kinds 4 to 6: the coordinates' bits of weight 2 are not a codeword */
-    CODER_REFUSED_UNSHAPED = 9,       /* strict reading: the frame is not the one that is sent for its message */
-    CODER_REFUSED_ACCOUNT_FULL = 11,  /* sending with an account: the count is 1,000,000 or more; a queue: has become so */
-    CODER_REFUSED_BROKEN_LEVEL_2 = 13 /* reading, kind 6: the coordinates' bits of weight 4 are not a codeword */
+    CODER_REFUSED_KIND = 1,            /* the kind is not 3 to 6 */
+    CODER_REFUSED_GRADE = 2,           /* the grade is not 1 to 4 */
+    CODER_REFUSED_MESSAGE_LENGTH = 3,  /* the message bytes lent differ from the kind's and grade's; a queue: are no whole messages */
+    CODER_REFUSED_FRAME_LENGTH = 4,    /* the coordinates lent differ from the kind's; a queue: from the kind's times its messages */
+    CODER_REFUSED_SPARE_BITS = 5,      /* sending: a spare bit of the message is set; a queue: of the first one not sent */
+    CODER_REFUSED_OVER_RANGE = 6,      /* reading: a coordinate is outside -1048576 .. 1048576 */
+    CODER_REFUSED_BROKEN_LEVEL_0 = 7,  /* reading: the coordinates' bits of weight 1 are not a codeword */
+    CODER_REFUSED_BROKEN_LEVEL_1 = 8,  /* reading, kinds 4 to 6: the coordinates' bits of weight 2 are not a codeword */
+    CODER_REFUSED_UNSHAPED = 9,        /* strict reading: the frame is not the one that is sent for its message under the number */
+    CODER_REFUSED_ACCOUNT_FULL = 11,   /* sending with an account: the count is 1,000,000 or more; a queue: has become so */
+    CODER_REFUSED_BROKEN_LEVEL_2 = 13, /* reading, kind 6: the coordinates' bits of weight 4 are not a codeword */
+    CODER_REFUSED_CHANGEOVER = 14      /* opening an account: the changeover is above 1,000,000 */
 };
 
 /* The name of the refusal that an answer tells, in the words of the trade; "none" for an answer of 0 or more. */
@@ -158,25 +178,35 @@ CODER_INLINE const char *coder_refusal_name(int64_t answer)
     case CODER_REFUSED_UNSHAPED: return "unshaped";
     case CODER_REFUSED_ACCOUNT_FULL: return "account full";
     case CODER_REFUSED_BROKEN_LEVEL_2: return "broken level 2";
+    case CODER_REFUSED_CHANGEOVER: return "changeover";
     default: return "not known";
     }
 }
 
-/* Sends a message: writes every coordinate of its frame. */
-int64_t coder_send(uint8_t kind, uint8_t grade, const uint8_t *message, size_t message_len, int32_t *frame, size_t frame_len);
+/* Sends a message under a number: writes every coordinate of its frame, the first in reading order among the least where the number
+ * is even, the last where it is odd. */
+int64_t coder_send(uint8_t kind, uint8_t grade, uint32_t number, const uint8_t *message, size_t message_len, int32_t *frame,
+                   size_t frame_len);
 
-/* The open reading: takes any frame of the coding set with coordinates in range, and writes every byte of its message. */
+/* The open reading: takes any frame of the coding set with coordinates in range, and writes every byte of its message. It takes no
+ * number: the frames of a message under all numbers are read as the message. */
 int64_t coder_read_open(uint8_t kind, uint8_t grade, const int32_t *frame, size_t frame_len, uint8_t *message, size_t message_len);
 
-/* The strict reading: takes a sent frame alone, and writes every byte of its message. */
-int64_t coder_read_strict(uint8_t kind, uint8_t grade, const int32_t *frame, size_t frame_len, uint8_t *message, size_t message_len);
+/* The strict reading under a number: takes the frame alone that coder_send writes under it, and writes every byte of its message. */
+int64_t coder_read_strict(uint8_t kind, uint8_t grade, uint32_t number, const int32_t *frame, size_t frame_len, uint8_t *message,
+                          size_t message_len);
 
-/* Sends, and on success adds 1 to the count of frames and the frame's power to the sum of powers, and leaves in `largest` the larger
- * of what stood there and the largest energy of the frame's blocks, by which an output stage is sized. A refusal changes none of the
- * three. An account begins at 0, 0.0 and 0; the sum of one that grew from there is exact, and its `largest` is the largest block
- * energy among the frames counted. One from elsewhere is taken as it comes, with any count, sum and `largest`. */
+/* Opens an account with a changeover: leaves 0, 0.0 and 0 in the count of frames, the sum of powers and `largest`, and the changeover
+ * in `kept`, and answers 0. For a changeover above 1,000,000 it answers -14, and leaves zero in each of the four. */
+int64_t coder_open(uint32_t changeover, uint32_t *count, double *sum, uint64_t *largest, uint32_t *kept);
+
+/* Sends, under the number coder_number_at(changeover, *count), and on success adds 1 to the count of frames and the frame's power to
+ * the sum of powers, and leaves in `largest` the larger of what stood there and the largest energy of the frame's blocks, by which an
+ * output stage is sized. A refusal changes none of the three. The changeover is the one that coder_open left in `kept`, in every call
+ * with the account. The sum of an account that grew from its opening is exact, and its `largest` is the largest block energy among
+ * the frames counted. One from elsewhere is taken as it comes, with any count, sum, `largest` and changeover. */
 int64_t coder_send_counted(uint8_t kind, uint8_t grade, const uint8_t *message, size_t message_len, int32_t *frame, size_t frame_len,
-                           uint32_t *count, double *sum, uint64_t *largest);
+                           uint32_t *count, double *sum, uint64_t *largest, uint32_t changeover);
 
 /* Sends a queue with an account: does what coder_send_counted would do with each message and frame in turn, up to the first message
  * that is refused. Answers 0 where all are sent, or minus the number of the refusal. In every call it leaves the number of messages
@@ -184,19 +214,35 @@ int64_t coder_send_counted(uint8_t kind, uint8_t grade, const uint8_t *message, 
  * the one behind those sent: it writes nothing and adds nothing, and what is behind it is not looked at. The refusals 1 to 4 are of
  * the whole queue, and none is sent. A queue of no messages is answered 0, also with a full account. */
 int64_t coder_send_queue(uint8_t kind, uint8_t grade, const uint8_t *messages, size_t messages_len, int32_t *frames,
-                         size_t frames_len, uint32_t *count, double *sum, uint64_t *largest, size_t *sent);
+                         size_t frames_len, uint32_t *count, double *sum, uint64_t *largest, uint32_t changeover, size_t *sent);
 
-/* An account: the count of the frames that were sent, the sum of their powers, and the largest energy of their blocks. */
+/* The number under which a frame is judged that was sent with an account of this changeover, at this count before the send. */
+CODER_INLINE uint32_t coder_number_at(uint32_t changeover, uint32_t count)
+{
+    return count < changeover ? 0 : count;
+}
+
+/* An account: the count of the frames that were sent, the sum of their powers, and the largest energy of their blocks; and the
+ * changeover that it was opened with. */
 struct coder_account {
     uint32_t count;
     double sum;
     uint64_t largest;
+    uint32_t changeover;
 };
 
-CODER_INLINE struct coder_account coder_account_begin(void)
+/* coder_open with the account as a struct, and with the changeover tested before it is narrowed: 0; or -14 for a changeover that is
+ * not 0 to 1,000,000, and the account is zero. */
+CODER_INLINE int64_t coder_account_open(struct coder_account *account, int64_t changeover)
 {
-    struct coder_account account = {0, 0.0, 0};
-    return account;
+    const uint32_t narrowed = changeover < 0 || changeover > CODER_MAX_COUNT ? UINT32_MAX : (uint32_t)changeover;
+    return coder_open(narrowed, &account->count, &account->sum, &account->largest, &account->changeover);
+}
+
+/* The number of the next frame that is sent with the account, by which it is judged: ask before the send. */
+CODER_INLINE uint32_t coder_account_number(const struct coder_account *account)
+{
+    return coder_number_at(account->changeover, account->count);
 }
 
 /* coder_send_counted with the account as a struct, and with kind and grade tested before they are narrowed. */
@@ -208,7 +254,7 @@ CODER_INLINE int64_t coder_account_send(struct coder_account *account, int kind,
     if (coder_message_length(kind, grade) == 0)
         return -CODER_REFUSED_GRADE;
     return coder_send_counted((uint8_t)kind, (uint8_t)grade, message, message_len, frame, frame_len, &account->count, &account->sum,
-                              &account->largest);
+                              &account->largest, account->changeover);
 }
 
 /* The same for coder_send_queue; where kind or grade is refused, `sent` is 0. */
@@ -221,7 +267,7 @@ CODER_INLINE int64_t coder_account_send_queue(struct coder_account *account, int
     if (coder_message_length(kind, grade) == 0)
         return -CODER_REFUSED_GRADE;
     return coder_send_queue((uint8_t)kind, (uint8_t)grade, messages, messages_len, frames, frames_len, &account->count,
-                            &account->sum, &account->largest, sent);
+                            &account->sum, &account->largest, account->changeover, sent);
 }
 
 #ifdef __cplusplus

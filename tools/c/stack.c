@@ -1,6 +1,6 @@
 /* Measures the most stack that a call of each function uses: the call is made on a stack that was filled with one byte, and the
- * lowest place that differs afterwards is looked up. Random messages of every kind and grade, 4000 of each, and with each two more
- * behind it as a queue; x86-64 Linux.
+ * lowest place that differs afterwards is looked up. Random messages of every kind and grade, 4000 of each, under even and odd numbers
+ * by turns, and with each two more behind it as a queue; x86-64 Linux.
  *
  *     cc -I crates/frame_coder tools/c/stack.c target/staticlib/libframe_coder.a -o target/stack && target/stack
  */
@@ -13,13 +13,15 @@
 
 enum { TURNS = 4000, ROOM = 65536, FILL = 0xA7, QUEUE = 3 };
 
-static const char *const names[] = {"coder_send", "coder_send_counted", "coder_send_queue", "coder_read_open", "coder_read_strict"};
+static const char *const names[] = {"coder_open", "coder_send", "coder_send_counted", "coder_send_queue", "coder_read_open",
+                                    "coder_read_strict"};
 enum { FUNCTIONS = sizeof names / sizeof names[0] };
 
 static unsigned char stack[ROOM];
 static ucontext_t here, there;
 static uint8_t kind, grade, messages[QUEUE * CODER_MAX_MESSAGE_LENGTH];
 static int32_t frames[QUEUE * CODER_MAX_FRAME_LENGTH];
+static uint32_t number;
 static size_t bytes, coordinates, sent;
 static int function;
 static int64_t answer;
@@ -31,17 +33,18 @@ static void call(void)
 {
     __asm__ volatile("mov %%rsp, %0" : "=r"(top));
     switch (function) {
-    case 0: answer = coder_send(kind, grade, messages, bytes, frames, coordinates); break;
-    case 1:
-        answer = coder_send_counted(kind, grade, messages, bytes, frames, coordinates, &account.count, &account.sum,
-                                    &account.largest);
-        break;
+    case 0: answer = coder_open(0, &account.count, &account.sum, &account.largest, &account.changeover); break;
+    case 1: answer = coder_send(kind, grade, number, messages, bytes, frames, coordinates); break;
     case 2:
-        answer = coder_send_queue(kind, grade, messages, QUEUE * bytes, frames, QUEUE * coordinates, &account.count, &account.sum,
-                                  &account.largest, &sent);
+        answer = coder_send_counted(kind, grade, messages, bytes, frames, coordinates, &account.count, &account.sum,
+                                    &account.largest, account.changeover);
         break;
-    case 3: answer = coder_read_open(kind, grade, frames, coordinates, messages, bytes); break;
-    default: answer = coder_read_strict(kind, grade, frames, coordinates, messages, bytes); break;
+    case 3:
+        answer = coder_send_queue(kind, grade, messages, QUEUE * bytes, frames, QUEUE * coordinates, &account.count, &account.sum,
+                                  &account.largest, account.changeover, &sent);
+        break;
+    case 4: answer = coder_read_open(kind, grade, frames, coordinates, messages, bytes); break;
+    default: answer = coder_read_strict(kind, grade, number, frames, coordinates, messages, bytes); break;
     }
 }
 
@@ -74,8 +77,9 @@ int main(void)
                     if (kind < 5 && i % bytes == bytes - 1)
                         messages[i] &= 0x0F; /* spare bits */
                 }
-                account = coder_account_begin();
+                number = (uint32_t)turn;
                 for (function = 0; function < FUNCTIONS; function++) {
+                    account.count = number; /* its next frame has this number: the account was opened with 0 */
                     size_t now = used();
                     if (answer < 0) {
                         printf("refused %" PRId64 " (%s)\n", -answer, coder_refusal_name(answer));

@@ -87,10 +87,10 @@ module _ (m : ℕ) (h : m < 53) where
   total-small [] c = omega arith
   total-small (f ∷ fs) c = omega (arith, total-small fs (c .1), part-small m f (c .0))
 
--- an account grown from the beginning by at most 1,000,000 frames: their number, and the sum of their powers, exactly
-pub grown-exactly : (m : ℕ) (fs : List (List ℤ)) → m < 53 → length fs ≤ 1000000 → AllCountable m fs
-    → (grownBy begun fs .count ≡ length fs) × HasValue (grownBy begun fs .sum) false (powersIn (2 ^ m) fs) (2 ^ m)
-grown-exactly m fs h k c =
+-- an account grown from the beginning by at most 1,000,000 frames, whatever its changeover: their number, and the sum of their powers, exactly
+pub grown-exactly : (m changeover : ℕ) (fs : List (List ℤ)) → m < 53 → length fs ≤ 1000000 → AllCountable m fs
+    → (grownBy (begun changeover) fs .count ≡ length fs) × HasValue (grownBy (begun changeover) fs .sum) false (powersIn (2 ^ m) fs) (2 ^ m)
+grown-exactly m changeover fs h k c =
     let l : powersIn (2 ^ m) fs < 2 ^ 53 = omega (arith, total-small m h fs c) in
-    let r = grows m h fs begun 0 c (refl, omega arith) (omega arith) in
+    let r = grows m h fs (begun changeover) 0 c (refl, omega arith) (omega arith) in
     (omega (arith, r .0), rw zero-add at (r .1))

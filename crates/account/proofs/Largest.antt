@@ -1,4 +1,4 @@
--- An account grown by frames from the beginning holds the largest block energy among them. Assumes nothing.
+-- An account grown by frames from the beginning, of any changeover t, holds the largest block energy among them. Assumes nothing.
 use Prim.Native.Nat.{ℕ, zero, suc, max, _<_, _≤_}
 use mathlib.Core.Path.{_≡_, refl, sym, _∙_}
 use mathlib.Core.Logic.{_⊎_, inl, inr}
@@ -58,22 +58,22 @@ module _ (m : ℕ) where
       go (inr s) o = inr (behind f fs r s)
 
   -- from the beginning, where a frame was sent, some block has it
-  found : (fs : List (List ℤ)) → AllCountable m fs → 0 < length fs → SomeBlock fs (grownBy begun fs .largest)
+  found : (t : ℕ) (fs : List (List ℤ)) → AllCountable m fs → 0 < length fs → SomeBlock fs (grownBy (begun t) fs .largest)
   unfolding grownBy
-  found [] c h = absurd (omega arith)
-  found (f ∷ fs) c h = go (old-or-new fs (grown begun f) (c .1))
+  found t [] c h = absurd (omega arith)
+  found t (f ∷ fs) c h = go (old-or-new fs (grown (begun t) f) (c .1))
     where
       r : ℕ
-      r = grownBy (grown begun f) fs .largest
+      r = grownBy (grown (begun t) f) fs .largest
 
       go : (r ≡ max 0 (largestBlock f)) ⊎ SomeBlock fs r → SomeBlock (f ∷ fs) r
       go (inl e) = first f fs r (c .0) (e ∙ zero-max (largestBlock f))
       go (inr s) = behind f fs r s
 
-  nothing : (fs : List (List ℤ)) → length fs ≡ 0 → grownBy begun fs .largest ≡ 0
+  nothing : (t : ℕ) (fs : List (List ℤ)) → length fs ≡ 0 → grownBy (begun t) fs .largest ≡ 0
   unfolding grownBy
-  nothing [] e = refl
-  nothing (f ∷ fs) e = absurd (omega arith)
+  nothing t [] e = refl
+  nothing t (f ∷ fs) e = absurd (omega arith)
 
-  pub grown-largest : (fs : List (List ℤ)) → AllCountable m fs → LargestOf fs (grownBy begun fs .largest)
-  grown-largest fs c = record { most = no-more fs begun c; some = found fs c; none = nothing fs }
+  pub grown-largest : (t : ℕ) (fs : List (List ℤ)) → AllCountable m fs → LargestOf fs (grownBy (begun t) fs .largest)
+  grown-largest t fs c = record { most = no-more fs (begun t) c; some = found t fs c; none = nothing t fs }

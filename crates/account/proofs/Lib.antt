@@ -3,4 +3,6 @@ pub mod Answers
 pub mod Grown
 pub mod Largest
 pub mod History
+pub mod Changeover
+pub mod Opening
 pub mod Worked

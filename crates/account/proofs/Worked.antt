@@ -9,16 +9,19 @@ use Rattle.e8.specs.Energy.{sq, energy}
 use Rattle.e8.specs.Order.{before}
 use Rattle.e8.specs.Largest.{largestTo}
 use Rattle.e8.specs.Least.{cent, better, best, leastBlock, leastFrame}
+use Rattle.e8.specs.Ties.{leastFrameBy}
 use Rattle.frames.specs.Kind.{kinds, isKind, isGrade, degrees, levels, levelBits, messageBits, messageBytes}
 use Rattle.frames.specs.Message.{numbers, blockNumbers, stacked, coordinate, leader}
-use Rattle.frames.specs.Frame.{half, sentFrame}
+use Rattle.frames.specs.Frame.{half, isOdd, numberedFrame}
 use Rattle.frames.specs.Sending.{anySet, spareSet, sendRefusal}
 use Rattle.account.specs.Power.{powerOf}
+use Rattle.account.specs.Opening.{openingRefusal, openedWith}
 use Rattle.account.specs.Counted.{countedRefusal, countedAccount}
+use Rattle.account.specs.History.{sentBy}
 use Rattle.account.specs.Worked.{AsWorked}
 
 pub as-worked : AsWorked
-unfolding countedRefusal countedAccount sendRefusal isGrade isKind kinds spareSet anySet messageBytes messageBits levelBits sentFrame half
-    leastFrame leastBlock best better cent before energy sq leader coordinate stacked blockNumbers numbers degrees levels sumTo codeword
-    order dimension masks ofWeight table messageBit ones largestTo powerOf add sum div ofInt
-as-worked = record { grown = refl; taken = refl }
+unfolding countedRefusal countedAccount sendRefusal isGrade isKind kinds spareSet anySet messageBytes messageBits levelBits numberedFrame isOdd half
+    leastFrameBy leastFrame leastBlock best better cent before energy sq leader coordinate stacked blockNumbers numbers degrees levels sumTo codeword
+    order dimension masks ofWeight table messageBit ones largestTo powerOf add sum div ofInt sentBy openedWith openingRefusal
+as-worked = record { grown = refl; taken = refl; changed = refl; opened = refl }

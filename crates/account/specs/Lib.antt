@@ -1,4 +1,5 @@
 pub mod Power
+pub mod Opening
 pub mod Counted
 pub mod History
 pub mod Worked

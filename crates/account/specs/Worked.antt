@@ -1,17 +1,24 @@
--- Accounts worked by hand, to be met by the definitions (request E2): after calls one after the other from the beginning, and from
--- elsewhere. Assumes nothing.
+-- Accounts worked by hand, to be met by the definitions (requests E2 and E5): after calls one after the other from the beginning, and from
+-- elsewhere; the frames before and after a changeover; opening. Assumes nothing.
 use Prim.Native.Nat.{ℕ, _^_, _-_}
 use mathlib.Core.Path.{_≡_}
 use mathlib.Core.List.{List, [], _∷_, map}
-use lib.IntN.{pos}
+use lib.IntN.{ℤ, pos, negsuc}
+use lib.ListN.{getD}
 use lib.Ieee.{binary64, ofInt}
 use Rattle.account.specs.declared.Account.{Account}
+use Rattle.account.specs.declared.Opened.{Opened}
 use Rattle.account.specs.Power.{begun}
-use Rattle.account.specs.History.{Call, after}
+use Rattle.account.specs.Opening.{openedWith}
+use Rattle.account.specs.History.{Call, after, sentBy}
 
--- an account of these figures, the sum being a whole number
+-- an account of these figures, the sum being a whole number, and of a changeover
+abbrev pub heldWith : ℕ → ℕ → ℕ → ℕ → Account
+heldWith changeover count sum largest = record { count = count; sum = ofInt binary64 (pos sum); largest = largest; changeover = changeover }
+
+-- by the old rule throughout
 abbrev pub held : ℕ → ℕ → ℕ → Account
-held count sum largest = record { count = count; sum = ofInt binary64 (pos sum); largest = largest }
+held = heldWith 1000000
 
 -- a call at grade 1 that lends as many coordinates as the kind has
 abbrev pub callOf : ℕ → List ℕ → Call
@@ -56,7 +63,67 @@ elsewhere =
 abbrev pub leftBy : Elsewhere → ℕ
 leftBy e = after (held 5 0 (e .before)) (callOf 4 (32 ∷ 0 ∷ 0 ∷ 0 ∷ 0 ∷ [])) .largest
 
+-- 00 08 at kind 3, grade 1, is sent as −4 and zeros by the old rule and under even numbers, as 4 and zeros under odd ones
+abbrev pub tied : Call
+tied = callOf 3 (0 ∷ 8 ∷ [])
+
+-- the first coordinates of the frames that five such calls send with an account
+abbrev pub firsts : Account → List ℤ
+firsts a = map (λ (f : List ℤ). getD f 0 (pos 0)) (sentBy a (tied ∷ tied ∷ tied ∷ tied ∷ tied ∷ []))
+
+-- changeovers, with the count at the start, and these coordinates: 0 is the new rule throughout, 3 makes frame 3 the first one by the new rule, 4 the
+-- fourth; past the count it changes nothing until it is reached
+pub record Change : Type 0 where
+  pub changeover : ℕ
+  pub count : ℕ
+  pub firsts : List ℤ
+
+abbrev pub low : ℤ
+low = negsuc 3
+
+abbrev pub high : ℤ
+high = pos 4
+
+abbrev pub changes : List Change
+changes =
+    record { changeover = 0; count = 0; firsts = low ∷ high ∷ low ∷ high ∷ low ∷ [] }
+    ∷ record { changeover = 1; count = 0; firsts = low ∷ high ∷ low ∷ high ∷ low ∷ [] }
+    ∷ record { changeover = 2; count = 0; firsts = low ∷ low ∷ low ∷ high ∷ low ∷ [] }
+    ∷ record { changeover = 3; count = 0; firsts = low ∷ low ∷ low ∷ high ∷ low ∷ [] }
+    ∷ record { changeover = 4; count = 0; firsts = low ∷ low ∷ low ∷ low ∷ low ∷ [] }
+    ∷ record { changeover = 4; count = 1; firsts = low ∷ low ∷ low ∷ low ∷ high ∷ [] }
+    ∷ record { changeover = 4294967295; count = 1; firsts = low ∷ low ∷ low ∷ low ∷ low ∷ [] }
+    ∷ record { changeover = 999997; count = 999995; firsts = low ∷ low ∷ high ∷ low ∷ high ∷ [] }
+    ∷ record { changeover = 1000000; count = 999998; firsts = low ∷ low ∷ [] }
+    ∷ record { changeover = 0; count = 999998; firsts = low ∷ high ∷ [] }
+    ∷ []
+
+-- the coordinates that the definitions give
+abbrev pub firstsBy : Change → List ℤ
+firstsBy e = firsts (heldWith (e .changeover) (e .count) 0 0)
+
+-- an account opened with a changeover: the number, and what is handed out
+pub record Opening : Type 0 where
+  pub changeover : ℕ
+  pub number : ℕ
+  pub kept : ℕ
+
+abbrev pub openings : List Opening
+openings =
+    record { changeover = 0; number = 0; kept = 0 }
+    ∷ record { changeover = 1; number = 0; kept = 1 }
+    ∷ record { changeover = 1000000; number = 0; kept = 1000000 }
+    ∷ record { changeover = 1000001; number = 14; kept = 0 }
+    ∷ record { changeover = 4294967295; number = 14; kept = 0 }
+    ∷ []
+
+-- so handed out, with zero in the other figures
+abbrev pub handedOut : Opening → Opened
+handedOut o = record { number = o .number; account = heldWith (o .kept) 0 0 0 }
+
 -- the definitions give what is worked by hand
 pub record AsWorked : Type 0 where
-  pub grown : lefts begun steps ≡ map (λ (c : Case). c .left) steps
+  pub grown : lefts (begun 1000000) steps ≡ map (λ (c : Case). c .left) steps
   pub taken : map leftBy elsewhere ≡ map (λ (e : Elsewhere). e .left) elsewhere
+  pub changed : map firstsBy changes ≡ map (λ (e : Change). e .firsts) changes
+  pub opened : map (λ (o : Opening). openedWith (o .changeover)) openings ≡ map handedOut openings

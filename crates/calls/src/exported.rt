@@ -26,6 +26,24 @@ fn answer(r: i64, account: Account) -> Counted {
     }
 }
 
+// Opens an account over the figures that are lent.
+fn open(changeover: u32, account: Account) -> Counted {
+    let mut count = account.count;
+    let mut sum = account.sum;
+    let mut largest = account.largest;
+    let mut kept = account.changeover;
+    let r = frame_coder::coder_open(changeover, &mut count, &mut sum, &mut largest, &mut kept);
+    answer(
+        r,
+        Account {
+            count,
+            sum,
+            largest,
+            changeover: kept,
+        },
+    )
+}
+
 fn send_counted(
     kind: u8,
     grade: u8,
@@ -44,6 +62,7 @@ fn send_counted(
         &mut count,
         &mut sum,
         &mut largest,
+        account.changeover,
     );
     answer(
         r,
@@ -51,6 +70,7 @@ fn send_counted(
             count,
             sum,
             largest,
+            changeover: account.changeover,
         },
     )
 }
@@ -59,13 +79,14 @@ pub fn call(
     function: usize,
     kind: u8,
     grade: u8,
+    number: u32,
     message: &mut [u8],
     frame: &mut [i32],
     account: Account,
 ) -> Counted {
     if function == tally::SEND {
         return answer(
-            frame_coder::coder_send(kind, grade, message, frame),
+            frame_coder::coder_send(kind, grade, number, message, frame),
             account,
         );
     }
@@ -77,9 +98,12 @@ pub fn call(
     }
     if function == tally::READ_STRICT {
         return answer(
-            frame_coder::coder_read_strict(kind, grade, frame, message),
+            frame_coder::coder_read_strict(kind, grade, number, frame, message),
             account,
         );
     }
-    send_counted(kind, grade, message, frame, account)
+    if function == tally::SEND_COUNTED {
+        return send_counted(kind, grade, message, frame, account);
+    }
+    open(number, account)
 }

@@ -12,16 +12,24 @@ pub fn answer(number: u8, energy: u64, account: Account) -> Counted {
     }
 }
 
+// Opens an account, whatever stands in the one that is lent.
+fn open(changeover: u32) -> Counted {
+    let r = account::open(changeover);
+    answer(r.number, 0, r.account)
+}
+
+// The number is that of the frame, or the changeover that an account is opened with.
 pub fn call(
     function: usize,
     kind: u8,
     grade: u8,
+    number: u32,
     message: &mut [u8],
     frame: &mut [i32],
     account: Account,
 ) -> Counted {
     if function == tally::SEND {
-        let r = sending::send(kind, grade, message, frame);
+        let r = sending::send(kind, grade, number, message, frame);
         return answer(r.number, r.energy, account);
     }
     if function == tally::READ_OPEN {
@@ -29,11 +37,11 @@ pub fn call(
         return answer(r.number, r.energy, account);
     }
     if function == tally::READ_STRICT {
-        let r = reading::read_strict(kind, grade, frame, message);
+        let r = reading::read_strict(kind, grade, number, frame, message);
         return answer(r.number, r.energy, account);
     }
     if function == tally::SEND_COUNTED {
         return account::send_counted(kind, grade, message, frame, account);
     }
-    answer(0, 0, account::begin())
+    open(number)
 }

@@ -6,15 +6,18 @@ use super::tally::judge;
 use account::Account;
 use account::Counted;
 use fields::account_in;
+use fields::count;
 use fields::fill;
 use fields::number;
 use fields::size;
 
-// A call: the number of its function, and how many bytes and coordinates of what is there are lent.
+// A call: the number of its function; the frame's number, or the changeover that an account is opened with; and how many bytes and
+// coordinates of what is there are lent.
 struct Call {
     function: usize,
     kind: u8,
     grade: u8,
+    number: u32,
     bytes: usize,
     coordinates: usize,
 }
@@ -50,6 +53,7 @@ fn make(
             c.function,
             c.kind,
             c.grade,
+            c.number,
             &mut message[0..m],
             &mut frame[0..n],
             account,
@@ -59,6 +63,7 @@ fn make(
         c.function,
         c.kind,
         c.grade,
+        c.number,
         &mut message[0..m],
         &mut frame[0..n],
         account,
@@ -117,12 +122,12 @@ fn take_lent(fd: i32) -> Lent {
 
 // Takes the energy and the account that have to be answered.
 fn take_answer(fd: i32, refusal: u8) -> Counted {
-    let mut numbers = [0u8; 28];
-    fill(fd, 28, &mut numbers);
+    let mut numbers = [0u8; 32];
+    fill(fd, 32, &mut numbers);
     Counted {
         number: refusal,
         energy: number(&numbers[0..8]),
-        account: account_in(&numbers[8..28]),
+        account: account_in(&numbers[8..32]),
     }
 }
 
@@ -148,25 +153,23 @@ fn take_rest(
         c.function,
         holds(false, c, lent, account, answer, left),
     );
-    if c.function != tally::BEGIN {
-        judge(
-            tally,
-            v,
-            tally::EXPORTED,
-            holds(true, c, lent, account, answer, left),
-        );
-    }
+    judge(
+        tally,
+        v,
+        tally::EXPORTED,
+        holds(true, c, lent, account, answer, left),
+    );
     true
 }
 
 // Takes record v, and answers whether there was one. One that is cut short is a difference, and the last one taken.
 pub fn take(fd: i32, v: u64, tally: &mut [u64; 7]) -> bool {
-    let mut head = [0u8; 28];
+    let mut head = [0u8; 36];
     let got = io::read_full(fd, &mut head);
     if got == 0 {
         return false;
     }
-    if got < 28 {
+    if got < 36 {
         tally::file_differs(tally);
         return false;
     }
@@ -174,10 +177,11 @@ pub fn take(fd: i32, v: u64, tally: &mut [u64; 7]) -> bool {
         function: size(head[0]),
         kind: head[1],
         grade: head[2],
+        number: count(&head[8..12]),
         bytes: size(head[3]),
         coordinates: size(head[4]),
     };
     let refusal = head[5];
-    let account = account_in(&head[8..28]);
+    let account = account_in(&head[12..36]);
     take_rest(fd, v, c, account, refusal, tally)
 }

@@ -10,7 +10,7 @@ pub const READ_STRICT: usize = 2;
 
 pub const SEND_COUNTED: usize = 3;
 
-pub const BEGIN: usize = 4;
+pub const OPEN: usize = 4;
 
 pub const EXPORTED: usize = 5;
 
@@ -26,7 +26,7 @@ fn write_name(check: usize) {
         READ_OPEN => write(b"open reading"),
         READ_STRICT => write(b"strict reading"),
         SEND_COUNTED => write(b"sending with an account"),
-        BEGIN => write(b"beginning of an account"),
+        OPEN => write(b"opening of an account"),
         EXPORTED => write(b"exported"),
         _ => write(b"different"),
     }
@@ -75,7 +75,7 @@ pub fn print(tally: &[u64; 7]) {
     print_one(tally, READ_OPEN);
     print_one(tally, READ_STRICT);
     print_one(tally, SEND_COUNTED);
-    print_one(tally, BEGIN);
+    print_one(tally, OPEN);
     print_one(tally, EXPORTED);
     print_one(tally, DIFFERENT);
 }

@@ -1,16 +1,17 @@
--- Frames of n blocks: to differ by a point of the shaping lattice is an equivalence, and leastFrame is what the rule asks, and the only one
+-- Frames of n blocks: to differ by a point of the shaping lattice is an equivalence, and leastFrame is what the rule of the first among the least asks
 use mathlib.Core.Path.{_≡_, refl, sym, _∙_, ap, subst, subst₂}
 use mathlib.Core.Logic.{inl, inr}
+use mathlib.Core.Bool.{false}
 use mathlib.Core.List.{List, [], _∷_, _++_, append-nil, append-assoc}
 use Prim.Native.Nat.{ℕ, zero, suc, _+_, _*_, _-_, _<_}
 use native.Mathlib.Omega.{arith}
 use lib.ListN.{length, take, drop, length-take, length-drop, length-append, take-append-drop}
 use lib.Seq.{drop-drop, take-at, drop-at}
 use lib.IntN.{ℤ}
-use Rattle.e8.specs.Energy.{energy, Within}
+use Rattle.e8.specs.Energy.{Within}
 use Rattle.e8.specs.Lattice.{InBlock, part, Differ}
 use Rattle.e8.specs.Least.{IsLeast, leastBlock, leastFrame}
-use Rattle.e8.proofs.Order.{_≼_, reads-antisym, append-mono}
+use Rattle.e8.proofs.Order.{_≼_, append-mono}
 use Rattle.e8.proofs.Cent.{Range, range-abs}
 use Rattle.e8.proofs.Best.{All}
 use Rattle.e8.proofs.Group.{block-refl, block-sym, block-trans, block-length}
@@ -104,19 +105,12 @@ module _ (H : ℕ) (pos-H : 0 < H) where
       (append-mono (leastBlock H (take 8 x)) (take 8 t) (leastFrame H n (drop 8 x)) (drop 8 t) (block-size (take 8 x) la ∙ sym lt)
       (block-least H pos-H 1 (take 8 x) (take 8 t) la (differ-first H n x t d)) (frame-least n (drop 8 x) (drop 8 t) lb (differ-rest H n x t d)))
 
-  pub leastFrame-is : (n : ℕ) (x : List ℤ) → length x ≡ 8 * n → IsLeast H n x (leastFrame H n x)
+  pub leastFrame-is : (n : ℕ) (x : List ℤ) → length x ≡ 8 * n → IsLeast false H n x (leastFrame H n x)
   leastFrame-is n x l = record {
     member = frame-in n x l;
     least = λ t d. elim (frame-least n x t l d) [ inl h ↦ omega arith | inr h ↦ omega (arith, h .0) ];
-    first = λ t d e. elim (frame-least n x t l d) [ inl h ↦ absurd (omega arith) | inr h ↦ h .1 ];
+    tie = λ t d e. elim (frame-least n x t l d) [ inl h ↦ absurd (omega arith) | inr h ↦ h .1 ];
   }
-
-  -- exactly one frame is least
-  pub least-only : (n : ℕ) (x z : List ℤ) → length x ≡ 8 * n → IsLeast H n x z → z ≡ leastFrame H n x
-  least-only n x z l i =
-      let f : IsLeast H n x (leastFrame H n x) = leastFrame-is n x l in
-      let e : energy (leastFrame H n x) ≡ energy z = omega (arith, i .least (leastFrame H n x) (f .member), f .least z (i .member)) in
-      reads-antisym z (leastFrame H n x) (i .first (leastFrame H n x) (f .member) e) (f .first z (i .member) (sym e))
 
   -- every coordinate is in [−M, M)
   frame-range : (n : ℕ) (x : List ℤ) → All (Range (2 * H)) (leastFrame H n x)
@@ -137,3 +131,15 @@ leastFrame-snoc H zero x = append-nil (leastBlock H (take 8 x))
 leastFrame-snoc H (suc n) x =
     ap (λ l. leastBlock H (take 8 x) ++ l) (leastFrame-snoc H n (drop 8 x) ∙ ap (λ p. leastFrame H n (drop 8 x) ++ leastBlock H p) (part-next n x))
     ∙ sym (append-assoc (leastBlock H (take 8 x)) (leastFrame H n (drop 8 x)) (leastBlock H (part (suc n) x)))
+
+-- block i of the least frame is the least block of block i
+pub leastFrame-part : (H : ℕ) → 0 < H → (n : ℕ) (x : List ℤ) → length x ≡ 8 * n → (i : ℕ) → i < n → part i (leastFrame H n x) ≡ leastBlock H (part i x)
+unfolding leastFrame
+leastFrame-part H pos-H zero x l i h = absurd (omega arith)
+leastFrame-part H pos-H (suc n) x l zero h =
+    take-at (leastBlock H (take 8 x)) (leastFrame H n (drop 8 x)) 8 (block-size H pos-H (take 8 x) (simp length-take (omega arith)))
+leastFrame-part H pos-H (suc n) x l (suc i) h =
+    sym (part-next i (leastBlock H (take 8 x) ++ leastFrame H n (drop 8 x)))
+    ∙ ap (part i) (drop-at (leastBlock H (take 8 x)) (leastFrame H n (drop 8 x)) 8 (block-size H pos-H (take 8 x) (simp length-take (omega arith))))
+    ∙ leastFrame-part H pos-H n (drop 8 x) (simp length-drop (omega arith)) i (omega arith)
+    ∙ ap (leastBlock H) (part-next i x)

@@ -1,6 +1,6 @@
 -- The largest block energy that is computed is the one of the rule, and no other number is. Assumes nothing.
 use Prim.Native.Nat.{ℕ, zero, suc, max, _+_, _<_, _≤_}
-use mathlib.Core.Path.{_≡_, refl, sym, _∙_, subst}
+use mathlib.Core.Path.{_≡_, refl, sym, ap₂, _∙_, subst}
 use mathlib.Core.Logic.{_⊎_, inl, inr}
 use mathlib.Core.List.{List}
 use native.Mathlib.Nat.{le-trans, le-antisymm, le-max-left, le-max-right, max-eq-left, max-eq-right, zero-max}
@@ -67,3 +67,9 @@ largest-only f r is =
 pub largest-more : (n : ℕ) (f : List ℤ) → largestTo (n + 1) f ≡ max (largestTo n f) (energy (part n f))
 unfolding largestTo
 largest-more n f = rw add-one refl
+
+-- frames whose first n blocks have the same energies
+pub largest-same : (n : ℕ) (f g : List ℤ) → ((i : ℕ) → i < n → energy (part i f) ≡ energy (part i g)) → largestTo n f ≡ largestTo n g
+unfolding largestTo
+largest-same zero f g h = refl
+largest-same (suc n) f g h = ap₂ max (largest-same n f g (λ i l. h i (omega arith))) (h n (omega arith))

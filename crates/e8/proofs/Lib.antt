@@ -12,3 +12,5 @@ pub mod Generators
 pub mod Frame
 pub mod Within
 pub mod Largest
+pub mod Negation
+pub mod Ties

@@ -1,5 +1,6 @@
--- The member of a class that is sent: the least energy, and among equals the first in reading order (document 01, "Shaping").
--- Clients cite the rule, IsLeast, and the frame that is computed, leastBlock and leastFrame; the scale is given as H, with M = 2·H. Assumes nothing.
+-- The member of a class that is sent: the least energy, and among equals the first in reading order (document 01, "Shaping"), or the last
+-- (request E5). Clients cite the rule, IsLeast, and the frame that is computed by the old tie rule, leastBlock and leastFrame; the scale is given
+-- as H, with M = 2·H. Assumes nothing.
 use mathlib.Core.Path.{_≡_}
 use mathlib.Core.Bool.{Bool, true, false, not, cond}
 use mathlib.Core.List.{List, [], _∷_, _++_}
@@ -12,11 +13,16 @@ use Rattle.e8.specs.Energy.{energy}
 use Rattle.e8.specs.Order.{Reads, before}
 use Rattle.e8.specs.Lattice.{Differ}
 
--- THE RULE: z is in the class of x, has the least energy of it, and is the first in reading order among its members of that energy
-pub record IsLeast (H n : ℕ) (x z : List ℤ) : Type 0 where
+-- z goes before t by a tie rule, or is t: by the first in reading order (false), or by the last (true)
+abbrev pub GoesBefore : Bool → List ℤ → List ℤ → Type 0
+GoesBefore false z t = Reads z t
+GoesBefore true z t = Reads t z
+
+-- THE RULE: z is in the class of x, has the least energy of it, and is the first in reading order among its members of that energy, or the last
+pub record IsLeast (last : Bool) (H n : ℕ) (x z : List ℤ) : Type 0 where
   pub member : Differ H n x z
   pub least : (t : List ℤ) → Differ H n x t → energy z ≤ energy t
-  pub first : (t : List ℤ) → Differ H n x t → energy t ≡ energy z → Reads z t
+  pub tie : (t : List ℤ) → Differ H n x t → energy t ≡ energy z → GoesBefore last z t
 
 -- one coordinate: of the numbers that differ from x by multiples of 2M the nearest to 0, and of M and −M the latter
 unfoldable pub cent : ℕ → ℤ → ℤ

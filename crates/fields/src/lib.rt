@@ -52,22 +52,34 @@ pub fn coordinates(bytes: &[u8], frame: &mut [i32]) {
     }
 }
 
-fn count(x: u64) -> u32 {
+// A number of 4 bytes as u32.
+fn low_half(x: u64) -> u32 {
     if x < 4294967296 {
         return x as u32;
     }
     0
 }
 
-// The account that 20 bytes hold: its count of 4 bytes, the bits of its sum and its largest block.
+// The u32 that 4 bytes hold: the number of a frame, a count or a changeover.
+pub fn count(bytes: &[u8]) -> u32 {
+    low_half(number(bytes))
+}
+
+// The account that 24 bytes hold: its count of 4 bytes, the bits of its sum, its largest block, and its changeover of 4 bytes.
 pub fn account_in(bytes: &[u8]) -> Account {
-    if bytes.len() < 20 {
-        return account::begin();
+    if bytes.len() < 24 {
+        return Account {
+            count: 0,
+            sum: 0.0,
+            largest: 0,
+            changeover: 0,
+        };
     }
     Account {
-        count: count(number(&bytes[0..4])),
+        count: count(&bytes[0..4]),
         sum: float::of_bits(number(&bytes[4..12])),
         largest: number(&bytes[12..20]),
+        changeover: count(&bytes[20..24]),
     }
 }
 
@@ -77,6 +89,9 @@ pub fn same_account(a: Account, b: Account) -> bool {
         return false;
     }
     if a.largest != b.largest {
+        return false;
+    }
+    if a.changeover != b.changeover {
         return false;
     }
     float::bits_of(a.sum) == float::bits_of(b.sum)

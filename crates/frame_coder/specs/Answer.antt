@@ -7,25 +7,26 @@ use lib.IntN.{ℤ, pos, negℤ}
 use lib.ListN.{length}
 use lib.Ieee.{Float}
 use Rattle.e8.specs.Energy.{energy}
-use Rattle.frames.specs.Frame.{sentFrame}
+use Rattle.frames.specs.Frame.{numberedFrame}
 use Rattle.frames.specs.Sending.{sendRefusal, frameAfter}
 use Rattle.frames.specs.Reading.{openRefusal, strictRefusal, messageAfter}
 use Rattle.account.specs.declared.Account.{Account}
-use Rattle.account.specs.Counted.{countedRefusal, countedAccount}
+use Rattle.account.specs.Opening.{openingRefusal}
+use Rattle.account.specs.Counted.{numberFor, countedRefusal, countedAccount}
 use Rattle.queue.specs.Queue.{queueOutcome}
 
 -- the energy, or minus the refusal number
 unfoldable pub answerOf : ℕ → ℕ → ℤ
 answerOf number energy = cond (eqb number 0) (pos energy) (negℤ (pos number))
 
--- sending: the energy of the sent frame, or minus the refusal number; n coordinates are lent
-unfoldable pub sendAnswer : ℕ → ℕ → List ℕ → ℕ → ℤ
+-- sending under a number: the energy of its frame, or minus the refusal number; n coordinates are lent
+unfoldable pub sendAnswer : ℕ → ℕ → ℕ → List ℕ → ℕ → ℤ
 unfolding answerOf
-sendAnswer k b bytes n = answerOf (sendRefusal k b bytes n) (energy (sentFrame k b bytes))
+sendAnswer k b number bytes n = answerOf (sendRefusal k b bytes n) (energy (numberedFrame k b number bytes))
 
--- the lent frame f afterwards: the sent frame, or as it was where sending is refused
-abbrev pub sendFrame : ℕ → ℕ → List ℕ → List ℤ → List ℤ
-sendFrame k b bytes f = frameAfter (sendRefusal k b bytes (length f)) k b bytes f
+-- the lent frame f afterwards: the frame of the number, or as it was where sending is refused
+abbrev pub sendFrame : ℕ → ℕ → ℕ → List ℕ → List ℤ → List ℤ
+sendFrame k b number bytes f = frameAfter (sendRefusal k b bytes (length f)) k b number bytes f
 
 -- the open reading of a frame f: its energy, or minus the refusal number; n message bytes are lent
 unfoldable pub openAnswer : ℕ → ℕ → List ℤ → ℕ → ℤ
@@ -36,28 +37,35 @@ openAnswer k b f n = answerOf (openRefusal k b f n) (energy f)
 abbrev pub openBytes : ℕ → ℕ → List ℤ → List ℕ → List ℕ
 openBytes k b f bytes = messageAfter (openRefusal k b f (length bytes)) k b f bytes
 
--- the strict reading likewise
-unfoldable pub strictAnswer : ℕ → ℕ → List ℤ → ℕ → ℤ
+-- the strict reading likewise, under a number
+unfoldable pub strictAnswer : ℕ → ℕ → ℕ → List ℤ → ℕ → ℤ
 unfolding answerOf
-strictAnswer k b f n = answerOf (strictRefusal k b f n) (energy f)
+strictAnswer k b number f n = answerOf (strictRefusal k b number f n) (energy f)
 
-abbrev pub strictBytes : ℕ → ℕ → List ℤ → List ℕ → List ℕ
-strictBytes k b f bytes = messageAfter (strictRefusal k b f (length bytes)) k b f bytes
+abbrev pub strictBytes : ℕ → ℕ → ℕ → List ℤ → List ℕ → List ℕ
+strictBytes k b number f bytes = messageAfter (strictRefusal k b number f (length bytes)) k b f bytes
+
+-- ---- opening an account; openedWith of account says the rest
+
+-- the account of four numbers
+abbrev pub accountOf : ℕ → Float → ℕ → ℕ → Account
+accountOf count sum largest changeover = record { count = count; sum = sum; largest = largest; changeover = changeover }
+
+-- 0, or minus the refusal number
+unfoldable pub openingAnswer : ℕ → ℤ
+unfolding answerOf
+openingAnswer changeover = answerOf (openingRefusal changeover) 0
 
 -- ---- sending with an account a, into a lent frame f
-
--- the account that three lent numbers hold
-abbrev pub accountOf : ℕ → Float → ℕ → Account
-accountOf count sum largest = record { count = count; sum = sum; largest = largest }
 
 -- the energy of the sent frame, or minus the refusal number; n coordinates are lent
 unfoldable pub countedAnswer : ℕ → ℕ → List ℕ → ℕ → Account → ℤ
 unfolding answerOf
-countedAnswer k b bytes n a = answerOf (countedRefusal k b bytes n a) (energy (sentFrame k b bytes))
+countedAnswer k b bytes n a = answerOf (countedRefusal k b bytes n a) (energy (numberedFrame k b (numberFor a) bytes))
 
 -- the lent frame afterwards
 abbrev pub countedFrame : ℕ → ℕ → List ℕ → List ℤ → Account → List ℤ
-countedFrame k b bytes f a = frameAfter (countedRefusal k b bytes (length f) a) k b bytes f
+countedFrame k b bytes f a = frameAfter (countedRefusal k b bytes (length f) a) k b (numberFor a) bytes f
 
 -- the account that the lent numbers hold afterwards: grown by the sent frame, or as it came where sending is refused
 abbrev pub countedHeld : ℕ → ℕ → List ℕ → ℕ → Account → Account

@@ -3,7 +3,8 @@ ghost use mathlib.Core.Path.{_≡_};
 ghost use Prim.Native.Nat.{_≤_, _^_};
 ghost use lib.ListN.{length};
 ghost use Rattle.frame_coder.specs.Answer.{answerOf, sendAnswer, sendFrame, openAnswer, openBytes, strictAnswer, strictBytes};
-ghost use Rattle.frame_coder.specs.Answer.{accountOf, countedAnswer, countedFrame, countedHeld, queueAnswer};
+ghost use Rattle.frame_coder.specs.Answer.{accountOf, openingAnswer, countedAnswer, countedFrame, countedHeld, queueAnswer};
+ghost use Rattle.account.specs.Opening.{openedWith};
 ghost use Rattle.queue.specs.Queue.{queueOutcome, queueFrames};
 
 // The energy, or minus the refusal number.
@@ -17,13 +18,19 @@ pub fn answer(number: u8, energy: u64) -> i64
     energy as i64
 }
 
-// Sending: the energy, or minus the refusal number.
+// Sending under a number: the energy, or minus the refusal number.
 #[no_mangle]
-pub extern "C" fn coder_send(kind: u8, grade: u8, message: &[u8], frame: &mut [i32]) -> i64
-    ensures answer { λ r. ⌜ r ≡ sendAnswer kind grade (now (message .entry)) (length (now (frame .entry))) ⌝ }
-    ensures frame { λ r. ⌜ now (frame .exit) ≡ sendFrame kind grade (now (message .entry)) (now (frame .entry)) ⌝ }
+pub extern "C" fn coder_send(
+    kind: u8,
+    grade: u8,
+    number: u32,
+    message: &[u8],
+    frame: &mut [i32],
+) -> i64
+    ensures answer { λ r. ⌜ r ≡ sendAnswer kind grade number (now (message .entry)) (length (now (frame .entry))) ⌝ }
+    ensures frame { λ r. ⌜ now (frame .exit) ≡ sendFrame kind grade number (now (message .entry)) (now (frame .entry)) ⌝ }
 {
-    let r = sending::send(kind, grade, message, frame);
+    let r = sending::send(kind, grade, number, message, frame);
     answer(r.number, r.energy)
 }
 
@@ -37,17 +44,46 @@ pub extern "C" fn coder_read_open(kind: u8, grade: u8, frame: &[i32], message: &
     answer(r.number, r.energy)
 }
 
-// The strict reading: the energy, or minus the refusal number.
+// The strict reading under a number: the energy, or minus the refusal number.
 #[no_mangle]
-pub extern "C" fn coder_read_strict(kind: u8, grade: u8, frame: &[i32], message: &mut [u8]) -> i64
-    ensures answer { λ r. ⌜ r ≡ strictAnswer kind grade (now (frame .entry)) (length (now (message .entry))) ⌝ }
-    ensures message { λ r. ⌜ now (message .exit) ≡ strictBytes kind grade (now (frame .entry)) (now (message .entry)) ⌝ }
+pub extern "C" fn coder_read_strict(
+    kind: u8,
+    grade: u8,
+    number: u32,
+    frame: &[i32],
+    message: &mut [u8],
+) -> i64
+    ensures answer { λ r. ⌜ r ≡ strictAnswer kind grade number (now (frame .entry)) (length (now (message .entry))) ⌝ }
+    ensures message { λ r. ⌜ now (message .exit) ≡ strictBytes kind grade number (now (frame .entry)) (now (message .entry)) ⌝ }
 {
-    let r = reading::read_strict(kind, grade, frame, message);
+    let r = reading::read_strict(kind, grade, number, frame, message);
     answer(r.number, r.energy)
 }
 
-// Sending with an account that is held in three lent numbers, stored to on success only: the energy, or minus the refusal number.
+// Opening an account: 0, or minus the refusal number. The account goes to the four lent numbers, its changeover to `kept`; where it is refused, each is 0.
+#[no_mangle]
+pub extern "C" fn coder_open(
+    changeover: u32,
+    count: &mut u32,
+    sum: &mut f64,
+    largest: &mut u64,
+    kept: &mut u32,
+) -> i64
+    ensures answer { λ r. ⌜ r ≡ openingAnswer changeover ⌝ }
+    ensures account { λ r. ⌜ accountOf (now (count .exit)) (now (sum .exit)) (now (largest .exit)) (now (kept .exit))
+        ≡ openedWith changeover .account ⌝ }
+{
+    let r = account::open(changeover);
+    let begun = r.account;
+    *count = begun.count;
+    *sum = begun.sum;
+    *largest = begun.largest;
+    *kept = begun.changeover;
+    answer(r.number, 0)
+}
+
+// Sending with an account that is held in three lent numbers, stored to on success only, and of a changeover, which stays: the energy, or minus the
+// refusal number.
 #[no_mangle]
 pub extern "C" fn coder_send_counted(
     kind: u8,
@@ -57,19 +93,21 @@ pub extern "C" fn coder_send_counted(
     count: &mut u32,
     sum: &mut f64,
     largest: &mut u64,
+    changeover: u32,
 ) -> i64
     ensures answer { λ r. ⌜ r ≡ countedAnswer kind grade (now (message .entry)) (length (now (frame .entry)))
-        (accountOf (now (count .entry)) (now (sum .entry)) (now (largest .entry))) ⌝ }
+        (accountOf (now (count .entry)) (now (sum .entry)) (now (largest .entry)) changeover) ⌝ }
     ensures frame { λ r. ⌜ now (frame .exit) ≡ countedFrame kind grade (now (message .entry)) (now (frame .entry))
-        (accountOf (now (count .entry)) (now (sum .entry)) (now (largest .entry))) ⌝ }
-    ensures account { λ r. ⌜ accountOf (now (count .exit)) (now (sum .exit)) (now (largest .exit))
+        (accountOf (now (count .entry)) (now (sum .entry)) (now (largest .entry)) changeover) ⌝ }
+    ensures account { λ r. ⌜ accountOf (now (count .exit)) (now (sum .exit)) (now (largest .exit)) changeover
         ≡ countedHeld kind grade (now (message .entry)) (length (now (frame .entry)))
-        (accountOf (now (count .entry)) (now (sum .entry)) (now (largest .entry))) ⌝ }
+        (accountOf (now (count .entry)) (now (sum .entry)) (now (largest .entry)) changeover) ⌝ }
 {
     let before = account::Account {
         count: *count,
         sum: *sum,
         largest: *largest,
+        changeover,
     };
     let r = account::send_counted(kind, grade, message, frame, before);
     if r.number != 0 {
@@ -82,8 +120,8 @@ pub extern "C" fn coder_send_counted(
     answer(0, r.energy)
 }
 
-// Sending a queue with an account that is held in three lent numbers: 0, or minus the refusal number. The number of messages sent goes to
-// `sent`, also where a message is refused, and the account grown by them to the three.
+// Sending a queue with an account that is held in three lent numbers, and of a changeover, which stays: 0, or minus the refusal number. The number of
+// messages sent goes to `sent`, also where a message is refused, and the account grown by them to the three.
 #[no_mangle]
 pub extern "C" fn coder_send_queue(
     kind: u8,
@@ -93,22 +131,24 @@ pub extern "C" fn coder_send_queue(
     count: &mut u32,
     sum: &mut f64,
     largest: &mut u64,
+    changeover: u32,
     sent: &mut usize,
 ) -> i64
     ensures answer { λ r. ⌜ r ≡ queueAnswer kind grade (now (messages .entry)) (length (now (frames .entry)))
-        (accountOf (now (count .entry)) (now (sum .entry)) (now (largest .entry))) ⌝ }
+        (accountOf (now (count .entry)) (now (sum .entry)) (now (largest .entry)) changeover) ⌝ }
     ensures frames { λ r. ⌜ now (frames .exit) ≡ queueFrames kind grade (now (messages .entry)) (now (frames .entry))
-        (accountOf (now (count .entry)) (now (sum .entry)) (now (largest .entry))) ⌝ }
-    ensures account { λ r. ⌜ accountOf (now (count .exit)) (now (sum .exit)) (now (largest .exit))
+        (accountOf (now (count .entry)) (now (sum .entry)) (now (largest .entry)) changeover) ⌝ }
+    ensures account { λ r. ⌜ accountOf (now (count .exit)) (now (sum .exit)) (now (largest .exit)) changeover
         ≡ queueOutcome kind grade (now (messages .entry)) (length (now (frames .entry)))
-        (accountOf (now (count .entry)) (now (sum .entry)) (now (largest .entry))) .account ⌝ }
+        (accountOf (now (count .entry)) (now (sum .entry)) (now (largest .entry)) changeover) .account ⌝ }
     ensures sent { λ r. ⌜ now (sent .exit) ≡ queueOutcome kind grade (now (messages .entry)) (length (now (frames .entry)))
-        (accountOf (now (count .entry)) (now (sum .entry)) (now (largest .entry))) .sent ⌝ }
+        (accountOf (now (count .entry)) (now (sum .entry)) (now (largest .entry)) changeover) .sent ⌝ }
 {
     let before = account::Account {
         count: *count,
         sum: *sum,
         largest: *largest,
+        changeover,
     };
     let r = queue::send_queue(kind, grade, messages, frames, before);
     let grown = r.account;

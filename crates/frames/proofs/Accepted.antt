@@ -14,7 +14,7 @@ use Rattle.bits.proofs.Message.{message-small, bit-past}
 use Rattle.e8.specs.Energy.{energy}
 use Rattle.frames.specs.Kind.{isKind, isGrade, messageBits, messageBytes}
 use Rattle.frames.specs.Message.{Bytes, Message}
-use Rattle.frames.specs.Frame.{sentFrame}
+use Rattle.frames.specs.Frame.{numberedFrame}
 use Rattle.frames.specs.Sending.{anySet, spareSet, sendRefusal, Accepts, frameAfter, energySent}
 use Rattle.frames.specs.Demands.{Sendable, AcceptedExactly}
 use Rattle.frames.proofs.Refusals.{passed}
@@ -121,14 +121,15 @@ accepted-exactly k b bytes n each = record { sendable = back; accepted = sendabl
 pub message-accepted : (k b : ℕ) (bytes : List ℕ) → isKind k ≡ true → isGrade b ≡ true → Message k b bytes → Accepts k b bytes
 message-accepted k b bytes kind grade m = sendable-accepted k b bytes (2 ^ k) (record { kind = kind; grade = grade; message = m; coordinates = refl })
 
--- ---- what sending leaves, by its number
+-- ---- what sending under a number leaves, by its answer
 
-pub sent-leaves : (number k b : ℕ) (bytes : List ℕ) (f : List ℤ) → number ≡ 0
-    → (frameAfter number k b bytes f ≡ sentFrame k b bytes) × (energySent number k b bytes ≡ energy (sentFrame k b bytes))
+pub sent-leaves : (refusal k b number : ℕ) (bytes : List ℕ) (f : List ℤ) → refusal ≡ 0
+    → (frameAfter refusal k b number bytes f ≡ numberedFrame k b number bytes)
+    × (energySent refusal k b number bytes ≡ energy (numberedFrame k b number bytes))
 unfolding frameAfter energySent
-sent-leaves number k b bytes f e = (rw e, rw e)
+sent-leaves refusal k b number bytes f e = (rw e, rw e)
 
-pub refused-leaves : (number k b : ℕ) (bytes : List ℕ) (f : List ℤ) → (number ≡ 0 → ⊥)
-    → (frameAfter number k b bytes f ≡ f) × (energySent number k b bytes ≡ 0)
+pub refused-leaves : (refusal k b number : ℕ) (bytes : List ℕ) (f : List ℤ) → (refusal ≡ 0 → ⊥)
+    → (frameAfter refusal k b number bytes f ≡ f) × (energySent refusal k b number bytes ≡ 0)
 unfolding frameAfter energySent
-refused-leaves number k b bytes f h = (rw (ne-eqb number 0 h), rw (ne-eqb number 0 h))
+refused-leaves refusal k b number bytes f h = (rw (ne-eqb refusal 0 h), rw (ne-eqb refusal 0 h))

@@ -15,15 +15,16 @@ use Rattle.bits.specs.Message.{messageBit, byteOf, bytesOf}
 use Rattle.e8.specs.Energy.{sq, energy, isWithin}
 use Rattle.e8.specs.Order.{before}
 use Rattle.e8.specs.Least.{cent, better, best, leastBlock, leastFrame}
+use Rattle.e8.specs.Ties.{leastFrameBy}
 use Rattle.e8.specs.Rows.{reduced}
 use Rattle.frames.specs.Kind.{kinds, isKind, isGrade, degrees, levels, levelBits, messageBits, messageBytes}
 use Rattle.frames.specs.Message.{numbers, blockNumbers, stacked, coordinate, leader}
-use Rattle.frames.specs.Frame.{weightBit, levelWord, half, sentFrame}
+use Rattle.frames.specs.Frame.{weightBit, levelWord, half, isOdd, numberedFrame, sentFrame}
 use Rattle.frames.specs.Sending.{anySet, spareSet, sendRefusal}
 use Rattle.frames.specs.Reading.{levelMessage, levelMessages, quotients, digits, allDigits, blockMessages, readBits, openMessage}
 use Rattle.frames.specs.Reading.{sameFrame, inRange, broken, openRefusal, isSent, strictRefusal}
-use Rattle.frames.specs.Exam.{printed, AllPrinted, levelAt, numberAt, Leader, exams, sentAs, examined, layout}
-use Rattle.frames.specs.Exam.{SixCodewords, CodingSetOfSix, FurtherCases, SendingTests, ReadingTests, KindSixTests}
+use Rattle.frames.specs.Exam.{printed, AllPrinted, levelAt, numberAt, Leader, exams, sentAs, examined, layout, Numbered, numbered, sentUnder}
+use Rattle.frames.specs.Exam.{SixCodewords, CodingSetOfSix, NumberedTests, FurtherCases, SendingTests, ReadingTests, KindSixTests}
 
 -- the kinds are those printed: 3, 4, 5, 6 and no other
 pub kinds-are : (k : ℕ) → isKind k ≡ (eqb k 3 || (eqb k 4 || (eqb k 5 || eqb k 6)))
@@ -94,10 +95,34 @@ unfolding sentFrame half leastFrame leastBlock best better cent before energy sq
     degrees kinds levels levelBits sumTo codeword order dimension masks ofWeight table messageBit ones
 layout-frames = refl
 
+-- the frames of either tie rule
+pub numbered-frames : map sentUnder numbered ≡ map (λ (e : Numbered). e .frame) numbered
+unfolding numberedFrame isOdd half leastFrameBy leastFrame leastBlock best better cent before energy sq leader coordinate stacked blockNumbers numbers
+    degrees kinds levels levelBits sumTo codeword order dimension masks ofWeight table messageBit ones
+numbered-frames = refl
+
+-- and the strict reading by them
+pub numbered-tests : NumberedTests
+unfolding openRefusal strictRefusal isSent sameFrame openMessage readBits levelMessages levelMessage blockMessages quotients allDigits digits
+    inRange isWithin broken weightBit isKind isGrade sendRefusal spareSet anySet messageBytes messageBits
+    numberedFrame isOdd half leastFrameBy leastFrame leastBlock best better cent before energy sq leader coordinate stacked blockNumbers numbers
+    degrees kinds levels levelBits sumTo codeword order dimension masks ofWeight table messageBit bytesOf byteOf backwards belongs clearAbove reduced ones
+numbered-tests = record {
+  all-2-odd = refl;
+  all-minus-2-odd = refl;
+  all-minus-2-even = refl;
+  mixed-openly = refl;
+  mixed-odd = refl;
+  mixed-even = refl;
+  turned-even = refl;
+  no-tie-even = refl;
+  no-tie-odd = refl;
+}
+
 pub further-cases : FurtherCases
 unfolding openRefusal strictRefusal isSent sameFrame openMessage readBits levelMessages levelMessage blockMessages quotients allDigits digits
     inRange isWithin broken weightBit isKind isGrade sendRefusal spareSet anySet messageBytes messageBits
-    sentFrame half leastFrame leastBlock best better cent before energy sq leader coordinate stacked blockNumbers numbers
+    numberedFrame isOdd half leastFrameBy leastFrame leastBlock best better cent before energy sq leader coordinate stacked blockNumbers numbers
     degrees kinds levels levelBits sumTo codeword order dimension masks ofWeight table messageBit bytesOf byteOf backwards belongs clearAbove reduced ones
 further-cases = record {
   all-2-openly = refl;
@@ -118,7 +143,7 @@ sending-tests = record { kind = refl; grade = refl; bytes = refl; coordinates = 
 pub reading-tests : ReadingTests
 unfolding openRefusal strictRefusal isSent sameFrame openMessage readBits levelMessages levelMessage blockMessages quotients allDigits digits
     inRange isWithin broken weightBit isKind isGrade sendRefusal spareSet anySet messageBytes messageBits
-    sentFrame half leastFrame leastBlock best better cent before energy sq leader coordinate stacked blockNumbers numbers
+    numberedFrame isOdd half leastFrameBy leastFrame leastBlock best better cent before energy sq leader coordinate stacked blockNumbers numbers
     degrees kinds levels levelBits sumTo codeword order dimension masks ofWeight table messageBit bytesOf byteOf backwards belongs clearAbove reduced ones
 reading-tests = record {
   kind = refl;
@@ -135,7 +160,7 @@ reading-tests = record {
 pub kind-six-tests : KindSixTests
 unfolding openRefusal strictRefusal isSent sameFrame openMessage readBits levelMessages levelMessage blockMessages quotients allDigits digits
     inRange isWithin broken weightBit isKind isGrade sendRefusal spareSet anySet messageBytes messageBits
-    sentFrame half leastFrame leastBlock best better cent before energy sq leader coordinate stacked blockNumbers numbers
+    numberedFrame isOdd half leastFrameBy leastFrame leastBlock best better cent before energy sq leader coordinate stacked blockNumbers numbers
     degrees kinds levels levelBits sumTo codeword order dimension masks ofWeight table messageBit bytesOf byteOf backwards belongs clearAbove reduced ones
 kind-six-tests = record {
   kind = refl;

@@ -7,7 +7,7 @@ use mathlib.Core.List.{List, [], _∷_}
 use native.Mathlib.Nat.{le-trans, mul-le-mul, min-le-left, min-le-right}
 use native.Mathlib.Omega.{arith}
 use native.Mathlib.Decide.{ℕ-discrete}
-use lib.IntN.{ℤ, pos, negsuc, negℤ, _-ℤ_, _*ℤ_, natAbs, ℤ-discrete}
+use lib.IntN.{ℤ, pos, negsuc, _-ℤ_, _*ℤ_, natAbs, ℤ-discrete}
 use lib.Signed.{shrZ}
 use Rattle.integers.specs.Integer.{modZ}
 use Rattle.integers.proofs.Zed.{`_, #_, _⊕_, _⊖_, _⊗_, eq!, eq?}
@@ -18,6 +18,7 @@ use Rattle.bits.proofs.Sum.{sum-ext, sum-term, sum-times}
 use Rattle.reed_muller.proofs.Weight.{Odd, look}
 use Rattle.reed_muller.proofs.Belongs.{belongs-distance}
 use Rattle.e8.specs.Energy.{sq}
+use Rattle.e8.proofs.Negation.{abs-neg}
 
 -- every degree is at most m
 abbrev pub Fit : ℕ → List ℕ → Type 0
@@ -43,13 +44,9 @@ sum-le (suc n) f g h = omega (arith, sum-le n f g h, h n)
 
 -- ---- squares
 
-abs-neg : (n : ℕ) → natAbs (negℤ (pos n)) ≡ n
-abs-neg zero = refl
-abs-neg (suc n) = refl
-
 abs-times : (c : ℕ) (z : ℤ) → natAbs (pos c *ℤ z) ≡ c * natAbs z
 abs-times c (pos n) = refl
-abs-times c (negsuc n) = abs-neg (c * suc n)
+abs-times c (negsuc n) = abs-neg (pos (c * suc n))
 
 sq-double : (z : ℤ) → sq (pos 2 *ℤ z) ≡ 4 * sq z
 unfolding sq

@@ -12,6 +12,8 @@ pub mod Refusals
 pub mod Accepted
 pub mod Reached
 pub mod Demands
+pub mod Closure
+pub mod Numbered
 pub mod Bounds
 pub mod Exam
 pub mod Reading

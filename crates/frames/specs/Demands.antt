@@ -9,7 +9,7 @@ use Rattle.reed_muller.specs.Level.{belongs}
 use Rattle.e8.specs.Energy.{distance}
 use Rattle.frames.specs.Kind.{brokenNumber, isKind, isGrade, degrees, levels}
 use Rattle.frames.specs.Message.{Message}
-use Rattle.frames.specs.Frame.{levelWord, SameClass, sentFrame, leastDistance}
+use Rattle.frames.specs.Frame.{levelWord, SameClass, numberedFrame, leastDistance}
 use Rattle.frames.specs.Sending.{sendRefusal, Accepts}
 use Rattle.frames.specs.Reading.{openMessage, openRefusal, strictRefusal}
 
@@ -33,15 +33,15 @@ pub record FirstBroken (k : ℕ) (f : List ℤ) (number : ℕ) : Type 0 where
   pub broken : belongs (getD (degrees k) level 0) k (levelWord level f) ≡ false
   pub given : number ≡ brokenNumber level
 
--- "Each coding-set frame differs so from the sent frame of exactly one message at each grade": the message, for the frame f
-pub record OneMessage (k b : ℕ) (f : List ℤ) : Type 0 where
+-- "Each coding-set frame differs so from the sent frame of exactly one message at each grade": the message, for the frame f and any number
+pub record OneMessage (k b number : ℕ) (f : List ℤ) : Type 0 where
   pub bytes : List ℕ
   pub message : Message k b bytes
   pub accepted : Accepts k b bytes
-  pub class : SameClass k b (sentFrame k b bytes) f
-  pub only : (other : List ℕ) → Message k b other → SameClass k b (sentFrame k b other) f → other ≡ bytes
+  pub class : SameClass k b (numberedFrame k b number bytes) f
+  pub only : (other : List ℕ) → Message k b other → SameClass k b (numberedFrame k b number other) f → other ≡ bytes
 
--- "and at each grade two messages are sent at exactly that": two different messages, and the squared distance of their frames
+-- "and at each grade two messages are sent at exactly that": two different messages, and the squared distance of their frames, whatever their numbers
 pub record Reached (k b : ℕ) : Type 0 where
   pub x : List ℕ
   pub y : List ℕ
@@ -50,18 +50,19 @@ pub record Reached (k b : ℕ) : Type 0 where
   pub accepted-x : Accepts k b x
   pub accepted-y : Accepts k b y
   pub different : x ≡ y → ⊥
-  pub exactly : distance (sentFrame k b x) (sentFrame k b y) ≡ leastDistance k
+  pub exactly : (number other : ℕ) → distance (numberedFrame k b number x) (numberedFrame k b other y) ≡ leastDistance k
 
--- "The strict reading gives it only for the sent frame": f is sent for some message of the kind and grade, and the reading gives that one
-pub record SentFor (k b : ℕ) (f : List ℤ) : Type 0 where
+-- "The strict reading gives it only for the sent frame": f is sent under the number for some message of the kind and grade, and the reading gives
+-- that one
+pub record SentFor (k b number : ℕ) (f : List ℤ) : Type 0 where
   pub bytes : List ℕ
   pub message : Message k b bytes
   pub accepted : Accepts k b bytes
-  pub sent : f ≡ sentFrame k b bytes
+  pub sent : f ≡ numberedFrame k b number bytes
   pub given : openMessage k b f ≡ bytes
 
--- "A frame reads back to its message": both readings take what is sent for the bytes, and give these bytes
-pub record ReadBack (k b : ℕ) (bytes : List ℕ) : Type 0 where
-  pub open-takes : openRefusal k b (sentFrame k b bytes) (length bytes) ≡ 0
-  pub strict-takes : strictRefusal k b (sentFrame k b bytes) (length bytes) ≡ 0
-  pub given : openMessage k b (sentFrame k b bytes) ≡ bytes
+-- "A frame reads back to its message": both readings take what is sent for the bytes under the number, and give these bytes
+pub record ReadBack (k b number : ℕ) (bytes : List ℕ) : Type 0 where
+  pub open-takes : openRefusal k b (numberedFrame k b number bytes) (length bytes) ≡ 0
+  pub strict-takes : strictRefusal k b number (numberedFrame k b number bytes) (length bytes) ≡ 0
+  pub given : openMessage k b (numberedFrame k b number bytes) ≡ bytes

@@ -13,7 +13,7 @@ use Rattle.e8.specs.Energy.{energy}
 use Rattle.e8.specs.Rows.{ints}
 use Rattle.frames.specs.Kind.{degrees, levels, messageBits, messageBytes}
 use Rattle.frames.specs.Message.{widths, numbers, coordinate}
-use Rattle.frames.specs.Frame.{InCodingSet, sentFrame, leastDistance}
+use Rattle.frames.specs.Frame.{InCodingSet, numberedFrame, sentFrame, leastDistance}
 use Rattle.frames.specs.Sending.{sendRefusal}
 use Rattle.frames.specs.Reading.{openMessage, openRefusal, strictRefusal}
 
@@ -169,13 +169,71 @@ layout =
     ∷ record { kind = 6; grade = 4; message = oneByte 46 17 128; frame = minus 128 ∷ replicate 63 (pos 0); energy = 16384 }
     ∷ []
 
+-- ---- the two tie rules
+
+-- a message and a number, and the frame that it is sent as
+pub record Numbered : Type 0 where
+  pub kind : ℕ
+  pub grade : ℕ
+  pub number : ℕ
+  pub message : List ℕ
+  pub frame : List ℤ
+
+-- request E5, by hand, under an even and under an odd number. 00 08: 4 or −4 at any coordinate. 01 00: all 1 or all −1. 02 08: one of four coordinates
+-- is −3, where 1 + 4 would be more, and the frames of the two rules are not each other's negative. 02 00: no tie, the same frame under both.
+-- Kind 4, all 2 or all −2 in either block, and so under an odd number all 2 in both; kind 6, grade 4: 128 or −128 at any coordinate of the first block
+abbrev pub numbered : List Numbered
+numbered =
+    record { kind = 3; grade = 1; number = 0; message = 0 ∷ 8 ∷ []; frame = minus 4 ∷ replicate 7 (pos 0) }
+    ∷ record { kind = 3; grade = 1; number = 1; message = 0 ∷ 8 ∷ []; frame = pos 4 ∷ replicate 7 (pos 0) }
+    ∷ record { kind = 3; grade = 1; number = 4294967294; message = 0 ∷ 8 ∷ []; frame = minus 4 ∷ replicate 7 (pos 0) }
+    ∷ record { kind = 3; grade = 1; number = 4294967295; message = 0 ∷ 8 ∷ []; frame = pos 4 ∷ replicate 7 (pos 0) }
+    ∷ record { kind = 3; grade = 1; number = 2; message = 1 ∷ 0 ∷ []; frame = replicate 8 (minus 1) }
+    ∷ record { kind = 3; grade = 1; number = 3; message = 1 ∷ 0 ∷ []; frame = replicate 8 (pos 1) }
+    ∷ record {
+      kind = 3;
+      grade = 1;
+      number = 10;
+      message = 2 ∷ 8 ∷ [];
+      frame = pos 0 ∷ minus 3 ∷ pos 0 ∷ pos 1 ∷ pos 0 ∷ pos 1 ∷ pos 0 ∷ pos 1 ∷ [];
+    }
+    ∷ record {
+      kind = 3;
+      grade = 1;
+      number = 11;
+      message = 2 ∷ 8 ∷ [];
+      frame = pos 0 ∷ pos 1 ∷ pos 0 ∷ pos 1 ∷ pos 0 ∷ pos 1 ∷ pos 0 ∷ minus 3 ∷ [];
+    }
+    ∷ record { kind = 3; grade = 1; number = 12; message = 2 ∷ 0 ∷ []; frame = ints (0 ∷ 1 ∷ 0 ∷ 1 ∷ 0 ∷ 1 ∷ 0 ∷ 1 ∷ []) }
+    ∷ record { kind = 3; grade = 1; number = 13; message = 2 ∷ 0 ∷ []; frame = ints (0 ∷ 1 ∷ 0 ∷ 1 ∷ 0 ∷ 1 ∷ 0 ∷ 1 ∷ []) }
+    ∷ record { kind = 4; grade = 1; number = 1; message = 32 ∷ replicate 4 0; frame = replicate 16 (pos 2) }
+    ∷ record { kind = 6; grade = 4; number = 999999; message = oneByte 46 17 128; frame = pos 128 ∷ replicate 63 (pos 0) }
+    ∷ []
+
+-- the frame that the definitions give
+abbrev pub sentUnder : Numbered → List ℤ
+sentUnder e = numberedFrame (e .kind) (e .grade) (e .number) (e .message)
+
+-- the strict reading under both rules: a tied frame passes under one of them alone, and a frame that takes one rule in the first block and the other
+-- in the second under neither; where there is no tie, under both
+pub record NumberedTests : Type 0 where
+  pub all-2-odd : strictRefusal 4 1 1 (replicate 16 (pos 2)) 5 ≡ 0
+  pub all-minus-2-odd : strictRefusal 4 1 1 (replicate 16 (minus 2)) 5 ≡ 9
+  pub all-minus-2-even : strictRefusal 4 1 4294967294 (replicate 16 (minus 2)) 5 ≡ 0
+  pub mixed-openly : openRefusal 4 1 (replicate 8 (pos 2) ++ replicate 8 (minus 2)) 5 ≡ 0
+  pub mixed-odd : strictRefusal 4 1 1 (replicate 8 (pos 2) ++ replicate 8 (minus 2)) 5 ≡ 9
+  pub mixed-even : strictRefusal 4 1 0 (replicate 8 (pos 2) ++ replicate 8 (minus 2)) 5 ≡ 9
+  pub turned-even : strictRefusal 4 1 0 (replicate 8 (minus 2) ++ replicate 8 (pos 2)) 5 ≡ 9
+  pub no-tie-even : strictRefusal 3 1 0 (ints (0 ∷ 1 ∷ 0 ∷ 1 ∷ 0 ∷ 1 ∷ 0 ∷ 1 ∷ [])) 2 ≡ 0
+  pub no-tie-odd : strictRefusal 3 1 4294967295 (ints (0 ∷ 1 ∷ 0 ∷ 1 ∷ 0 ∷ 1 ∷ 0 ∷ 1 ∷ [])) 2 ≡ 0
+
 -- ---- further cases
 
--- document 01, "Exam frames", after the table
+-- document 01, "Exam frames", after the table; by number 0, as all cases here but those of request E5
 pub record FurtherCases : Type 0 where
   pub all-2-openly : openRefusal 4 1 (replicate 16 (pos 2)) 5 ≡ 0
   pub all-2-message : openMessage 4 1 (replicate 16 (pos 2)) ≡ 32 ∷ replicate 4 0
-  pub all-2-strictly : strictRefusal 4 1 (replicate 16 (pos 2)) 5 ≡ 9
+  pub all-2-strictly : strictRefusal 4 1 0 (replicate 16 (pos 2)) 5 ≡ 9
   pub broken-level-0 : openRefusal 3 1 (pos 1 ∷ replicate 7 (pos 0)) 2 ≡ 7
   pub spare-bit : sendRefusal 3 1 (0 ∷ 16 ∷ []) 8 ≡ 5
   pub largest : openRefusal 3 1 (pos 1048576 ∷ replicate 7 (pos 0)) 2 ≡ 0
@@ -196,15 +254,15 @@ pub record SendingTests : Type 0 where
 
 -- "Reading tests 1, 2, 4, 3, then 6 over all coordinates, then 7, 8, 9": 1,048,579 is over range, and its bits of weight 1 and 2 are set
 pub record ReadingTests : Type 0 where
-  pub kind : strictRefusal 2 5 (pos 1048579 ∷ replicate 14 (pos 0)) 4 ≡ 1
-  pub grade : strictRefusal 4 5 (pos 1048579 ∷ replicate 14 (pos 0)) 4 ≡ 2
-  pub coordinates : strictRefusal 4 1 (pos 1048579 ∷ replicate 14 (pos 0)) 4 ≡ 4
-  pub bytes : strictRefusal 4 1 (pos 1048579 ∷ replicate 15 (pos 0)) 4 ≡ 3
-  pub range : strictRefusal 4 1 (pos 1048579 ∷ replicate 15 (pos 0)) 5 ≡ 6
-  pub level-0 : strictRefusal 4 1 (pos 3 ∷ replicate 15 (pos 0)) 5 ≡ 7
-  pub level-1 : strictRefusal 4 1 (pos 2 ∷ replicate 15 (pos 0)) 5 ≡ 8
-  pub unshaped : strictRefusal 4 1 (replicate 16 (pos 2)) 5 ≡ 9
-  pub none : strictRefusal 4 1 (replicate 16 (minus 2)) 5 ≡ 0
+  pub kind : strictRefusal 2 5 0 (pos 1048579 ∷ replicate 14 (pos 0)) 4 ≡ 1
+  pub grade : strictRefusal 4 5 0 (pos 1048579 ∷ replicate 14 (pos 0)) 4 ≡ 2
+  pub coordinates : strictRefusal 4 1 0 (pos 1048579 ∷ replicate 14 (pos 0)) 4 ≡ 4
+  pub bytes : strictRefusal 4 1 0 (pos 1048579 ∷ replicate 15 (pos 0)) 4 ≡ 3
+  pub range : strictRefusal 4 1 0 (pos 1048579 ∷ replicate 15 (pos 0)) 5 ≡ 6
+  pub level-0 : strictRefusal 4 1 0 (pos 3 ∷ replicate 15 (pos 0)) 5 ≡ 7
+  pub level-1 : strictRefusal 4 1 0 (pos 2 ∷ replicate 15 (pos 0)) 5 ≡ 8
+  pub unshaped : strictRefusal 4 1 0 (replicate 16 (pos 2)) 5 ≡ 9
+  pub none : strictRefusal 4 1 0 (replicate 16 (minus 2)) 5 ≡ 0
 
 -- request E1: "1 now means not 3 to 6"; "13: broken level 2, when the third level isn't a codeword, tested after 8", and so before 9. Each frame
 -- but the last three is wrong in that test and in all later ones: 1,048,583 is over range, and its bits of weight 1, 2 and 4 are set
@@ -213,11 +271,11 @@ pub record KindSixTests : Type 0 where
   pub bytes : sendRefusal 6 1 (replicate 23 255) 63 ≡ 3
   pub coordinates : sendRefusal 6 1 (replicate 22 255) 63 ≡ 4
   pub none-spare : sendRefusal 6 1 (replicate 22 255) 64 ≡ 0
-  pub range : strictRefusal 6 1 (pos 1048583 ∷ replicate 63 (pos 0)) 22 ≡ 6
-  pub level-0 : strictRefusal 6 1 (pos 7 ∷ replicate 63 (pos 0)) 22 ≡ 7
-  pub level-1 : strictRefusal 6 1 (pos 6 ∷ replicate 63 (pos 0)) 22 ≡ 8
-  pub level-2 : strictRefusal 6 1 (pos 4 ∷ replicate 63 (pos 0)) 22 ≡ 13
+  pub range : strictRefusal 6 1 0 (pos 1048583 ∷ replicate 63 (pos 0)) 22 ≡ 6
+  pub level-0 : strictRefusal 6 1 0 (pos 7 ∷ replicate 63 (pos 0)) 22 ≡ 7
+  pub level-1 : strictRefusal 6 1 0 (pos 6 ∷ replicate 63 (pos 0)) 22 ≡ 8
+  pub level-2 : strictRefusal 6 1 0 (pos 4 ∷ replicate 63 (pos 0)) 22 ≡ 13
   pub level-2-openly : openRefusal 6 1 (pos 4 ∷ replicate 63 (pos 0)) 22 ≡ 13
-  pub unshaped : strictRefusal 6 1 (replicate 64 (pos 4)) 22 ≡ 9
+  pub unshaped : strictRefusal 6 1 0 (replicate 64 (pos 4)) 22 ≡ 9
   pub openly : openMessage 6 1 (replicate 64 (pos 4)) ≡ oneByte 22 6 2
-  pub none : strictRefusal 6 1 (replicate 64 (minus 4)) 22 ≡ 0
+  pub none : strictRefusal 6 1 0 (replicate 64 (minus 4)) 22 ≡ 0

@@ -1,15 +1,17 @@
--- Frames: the coding set, the shaping lattice of a kind and grade, and the sent frame (document 01, "Message to coset leader", "Shaping").
--- Assumes nothing.
-use Prim.Native.Nat.{ℕ, suc, _+_, _-_, _/_, _^_, _<_}
+-- Frames: the coding set, the shaping lattice of a kind and grade, and the sent frame (document 01, "Message to coset leader", "Shaping"; request E5
+-- for the number of a frame). Assumes nothing.
+use Prim.Native.Nat.{ℕ, suc, _+_, _-_, _/_, _%_, _^_, _<_}
 use mathlib.Core.Path.{_≡_}
-use mathlib.Core.Bool.{true}
+use mathlib.Core.Bool.{Bool, true}
 use mathlib.Core.List.{List}
+use lib.Dec.{eqb}
 use lib.ListN.{length, getD}
 use lib.IntN.{ℤ, pos}
 use Rattle.integers.specs.Integer.{modZ}
 use Rattle.reed_muller.specs.Level.{belongs}
 use Rattle.e8.specs.Lattice.{Differ}
 use Rattle.e8.specs.Least.{IsLeast, leastFrame}
+use Rattle.e8.specs.Ties.{leastFrameBy}
 use Rattle.frames.specs.Kind.{degrees, levels, blocks}
 use Rattle.frames.specs.Message.{leader}
 
@@ -35,11 +37,20 @@ half k b = 2 ^ (levels k + b - 1)
 abbrev pub SameClass : ℕ → ℕ → List ℤ → List ℤ → Type 0
 SameClass k b f g = Differ (half k b) (blocks k) f g
 
--- f is sent for the message: in the class of its leader, of least energy there, and first in reading order among equals
-abbrev pub Sent : ℕ → ℕ → List ℕ → List ℤ → Type 0
-Sent k b bytes f = IsLeast (half k b) (blocks k) (leader k b bytes) f
+-- the tie rule of a frame's number: an odd one is sent as the last in reading order among the least (true), an even one as the first (false)
+unfoldable pub isOdd : ℕ → Bool
+isOdd number = eqb (number % 2) 1
 
--- THE SENT FRAME, computed: the one frame that is sent for the message
+-- f is sent for the message under a number: in the class of its leader, of least energy there, and among equals the one of the number's tie rule
+abbrev pub Sent : ℕ → ℕ → ℕ → List ℕ → List ℤ → Type 0
+Sent k b number bytes f = IsLeast (isOdd number) (half k b) (blocks k) (leader k b bytes) f
+
+-- THE FRAME OF A NUMBER, computed: the one frame that is sent for the message under it
+unfoldable pub numberedFrame : ℕ → ℕ → ℕ → List ℕ → List ℤ
+unfolding half leader leastFrameBy
+numberedFrame k b number bytes = leastFrameBy (isOdd number) (half k b) (blocks k) (leader k b bytes)
+
+-- THE SENT FRAME of document 01, computed: the frame of number 0
 unfoldable pub sentFrame : ℕ → ℕ → List ℕ → List ℤ
 unfolding half leader leastFrame
 sentFrame k b bytes = leastFrame (half k b) (blocks k) (leader k b bytes)

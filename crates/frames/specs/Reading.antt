@@ -1,6 +1,6 @@
 -- What a reading takes from a frame: its message, and the number of the first test that is not passed
 -- (document 01, "Shaping", last paragraph, and "Numbers"). Assumes nothing.
-use Prim.Native.Nat.{ℕ, zero, suc, _+_, _-_, _/_, _%_, _^_}
+use Prim.Native.Nat.{ℕ, zero, suc, _-_, _/_, _%_, _^_}
 use mathlib.Core.Bool.{Bool, true, false, _&&_, cond}
 use mathlib.Core.List.{List, [], _∷_, _++_, map}
 use lib.Dec.{eqb}
@@ -15,7 +15,7 @@ use Rattle.e8.specs.Lattice.{part}
 use Rattle.e8.specs.Rows.{reduced}
 use Rattle.frames.specs.Kind.{brokenNumber, isKind, isGrade, degrees, levels, blocks, messageBytes}
 use Rattle.frames.specs.Message.{widths}
-use Rattle.frames.specs.Frame.{levelWord, sentFrame}
+use Rattle.frames.specs.Frame.{levelWord, numberedFrame}
 use Rattle.frames.specs.Sending.{unless}
 
 -- the message bits of a level: backwards, the bits of the first masks of the order
@@ -98,22 +98,22 @@ openRefusal k b f n =
     (unless (inRange f) 6
     (broken k 0 (degrees k) f)))))
 
--- the frame is the one sent for its message
-unfoldable pub isSent : ℕ → ℕ → List ℤ → Bool
-unfolding sameFrame sentFrame openMessage
-isSent k b f = sameFrame f (sentFrame k b (openMessage k b f))
+-- the frame is the one sent for its message under the number
+unfoldable pub isSent : ℕ → ℕ → ℕ → List ℤ → Bool
+unfolding sameFrame numberedFrame openMessage
+isSent k b number f = sameFrame f (numberedFrame k b number (openMessage k b f))
 
--- the strict reading tests what the open reading does, and then 9
-unfoldable pub strictRefusal : ℕ → ℕ → List ℤ → ℕ → ℕ
+-- the strict reading under a number tests what the open reading does, and then 9
+unfoldable pub strictRefusal : ℕ → ℕ → ℕ → List ℤ → ℕ → ℕ
 unfolding openRefusal isSent
-strictRefusal k b f n = cond (eqb (openRefusal k b f n) 0) (unless (isSent k b f) 9 0) (openRefusal k b f n)
+strictRefusal k b number f n = cond (eqb (openRefusal k b f n) 0) (unless (isSent k b number f) 9 0) (openRefusal k b f n)
 
--- ---- what a reading that answers `number` leaves: the message of the frame and the frame's energy, or the lent bytes as they were and 0
+-- ---- what a reading that answers `refusal` leaves: the message of the frame and the frame's energy, or the lent bytes as they were and 0
 
 unfoldable pub messageAfter : ℕ → ℕ → ℕ → List ℤ → List ℕ → List ℕ
 unfolding openMessage
-messageAfter number k b f bytes = cond (eqb number 0) (openMessage k b f) bytes
+messageAfter refusal k b f bytes = cond (eqb refusal 0) (openMessage k b f) bytes
 
 unfoldable pub energyRead : ℕ → List ℤ → ℕ
 unfolding energy
-energyRead number f = cond (eqb number 0) (energy f) 0
+energyRead refusal f = cond (eqb refusal 0) (energy f) 0

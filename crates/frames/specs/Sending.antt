@@ -9,7 +9,7 @@ use lib.IntN.{ℤ}
 use Rattle.bits.specs.Message.{messageBit}
 use Rattle.e8.specs.Energy.{energy, Within}
 use Rattle.frames.specs.Kind.{isKind, isGrade, messageBits, messageBytes, scale}
-use Rattle.frames.specs.Frame.{SameClass, sentFrame}
+use Rattle.frames.specs.Frame.{SameClass, numberedFrame}
 
 -- one of the n bits from `from` on is set
 unfoldable pub anySet : (ℕ → ℕ) → ℕ → ℕ → Bool
@@ -39,15 +39,15 @@ sendRefusal k b bytes n =
 abbrev pub Accepts : ℕ → ℕ → List ℕ → Type 0
 Accepts k b bytes = sendRefusal k b bytes (2 ^ k) ≡ 0
 
--- ---- what sending that answers `number` leaves: the sent frame and its energy, or the lent frame f as it was and 0
+-- ---- what sending under a number leaves, where it answers `refusal`: the frame of the number and its energy, or the lent frame f as it was and 0
 
-unfoldable pub frameAfter : ℕ → ℕ → ℕ → List ℕ → List ℤ → List ℤ
-unfolding sentFrame
-frameAfter number k b bytes f = cond (eqb number 0) (sentFrame k b bytes) f
+unfoldable pub frameAfter : ℕ → ℕ → ℕ → ℕ → List ℕ → List ℤ → List ℤ
+unfolding numberedFrame
+frameAfter refusal k b number bytes f = cond (eqb refusal 0) (numberedFrame k b number bytes) f
 
-unfoldable pub energySent : ℕ → ℕ → ℕ → List ℕ → ℕ
-unfolding sentFrame energy
-energySent number k b bytes = cond (eqb number 0) (energy (sentFrame k b bytes)) 0
+unfoldable pub energySent : ℕ → ℕ → ℕ → ℕ → List ℕ → ℕ
+unfolding numberedFrame energy
+energySent refusal k b number bytes = cond (eqb refusal 0) (energy (numberedFrame k b number bytes)) 0
 
 -- what sending promises of the frame that it wrote and of the energy e that it reports: e is the frame's energy, every integer frame
 -- that differs from it by a point of the shaping lattice has at least that, and no coordinate is larger than M in size

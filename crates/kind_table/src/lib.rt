@@ -7,6 +7,7 @@ ghost use Prim.Native.Nat.{_<_, _≤_, _^_};
 ghost use lib.ListN.{length, getD};
 ghost use Rattle.frames.specs.Kind.{brokenNumbers, brokenNumber, isKind, isGrade, degrees, levels as levelsOf, levelBits, messageBits, messageBytes};
 ghost use Rattle.frames.specs.Message.{widths};
+ghost use Rattle.frames.specs.Frame.{isOdd};
 ghost use Rattle.frames.specs.Sending.{unless};
 ghost use Rattle.kind_table.specs.Table.{rowOf};
 
@@ -75,6 +76,13 @@ pub fn is_grade(grade: u8) -> bool
         return false;
     }
     grade <= 4
+}
+
+// Whether a frame's number is odd: its tie rule.
+pub fn is_odd(number: u32) -> bool
+    ensures { λ r. ⌜ r ≡ isOdd number ⌝ }
+{
+    number % 2 == 1
 }
 
 // The tests that sending and the readings make first: 1 for a wrong kind, 2 for a wrong grade, 0 where both are good.

@@ -1,5 +1,5 @@
 -- What is put into a lent line, by the room that is lent. Assumes nothing.
-use Prim.Native.Nat.{ℕ, zero, suc, _≤_, _<_}
+use Prim.Native.Nat.{ℕ, zero, suc, _+_, _≤_, _<_}
 use mathlib.Core.Path.{_≡_, refl}
 use mathlib.Core.Bool.{Bool, true, false, cond}
 use mathlib.Core.List.{List, [], _++_, append-nil}
@@ -12,34 +12,34 @@ use Rattle.text.specs.Line.{headerText, refusedText}
 use Rattle.listing.specs.Listing.{lineAt, nextAt, linesFrom, long, listingOf, beginning, startOf, lineInto, nextInto, beginningInto, startInto, putFrom}
 
 module _ (room : ℕ) (s : List ℕ) where
-  pub no-room : (p : ℕ) → room < 1024 → ([] ≡ lineInto room s p) × (length s ≡ nextInto room s p)
+  pub no-room : (p number : ℕ) → room < 1024 → ([] ≡ lineInto room s p number) × (length s ≡ nextInto room s p)
   unfolding lineInto nextInto
-  no-room p h = (simp (lt-ltb room 1024 h), simp (lt-ltb room 1024 h))
+  no-room p number h = (simp (lt-ltb room 1024 h), simp (lt-ltb room 1024 h))
 
   -- a long sheet has the header and `refused 12` only: no place of it has a line
-  pub too-long : (p : ℕ) → 32768 < length s → ([] ≡ lineInto room s p) × (length s ≡ nextInto room s p)
+  pub too-long : (p number : ℕ) → 32768 < length s → ([] ≡ lineInto room s p number) × (length s ≡ nextInto room s p)
   unfolding lineInto nextInto
-  too-long p h = go (ltb room 1024)
+  too-long p number h = go (ltb room 1024)
     where
-      go : (v : Bool) → ([] ≡ cond v [] (cond (long s) [] (cond (leb (length s) p) [] (lineAt s p))))
+      go : (v : Bool) → ([] ≡ cond v [] (cond (long s) [] (cond (leb (length s) p) [] (lineAt s p number))))
           × (length s ≡ cond v (length s) (cond (long s) (length s) (cond (leb (length s) p) (length s) (nextAt s p))))
       go true = (refl, refl)
       go false = (simp (lt-ltb 32768 (length s) h), simp (lt-ltb 32768 (length s) h))
 
   -- and from its end on a sheet has none, be it long or not
-  pub no-record : (p : ℕ) → length s ≤ p → ([] ≡ lineInto room s p) × (length s ≡ nextInto room s p)
+  pub no-record : (p number : ℕ) → length s ≤ p → ([] ≡ lineInto room s p number) × (length s ≡ nextInto room s p)
   unfolding lineInto nextInto
-  no-record p h = go (ltb room 1024) (long s)
+  no-record p number h = go (ltb room 1024) (long s)
     where
-      go : (v w : Bool) → ([] ≡ cond v [] (cond w [] (cond (leb (length s) p) [] (lineAt s p))))
+      go : (v w : Bool) → ([] ≡ cond v [] (cond w [] (cond (leb (length s) p) [] (lineAt s p number))))
           × (length s ≡ cond v (length s) (cond w (length s) (cond (leb (length s) p) (length s) (nextAt s p))))
       go true w = (refl, refl)
       go false true = (refl, refl)
       go false false = (simp (le-leb (length s) p h), simp (le-leb (length s) p h))
 
-  pub a-record : (p : ℕ) → 1024 ≤ room → length s ≤ 32768 → p < length s → (lineAt s p ≡ lineInto room s p) × (nextAt s p ≡ nextInto room s p)
+  pub a-record : (p number : ℕ) → 1024 ≤ room → length s ≤ 32768 → p < length s → (lineAt s p number ≡ lineInto room s p number) × (nextAt s p ≡ nextInto room s p)
   unfolding lineInto nextInto
-  a-record p roomy short e =
+  a-record p number roomy short e =
       let r = le-ltb room 1024 roomy in
       let l = le-ltb 32768 (length s) short in
       let i = lt-leb (length s) p e in
@@ -56,33 +56,33 @@ module _ (room : ℕ) (s : List ℕ) where
 -- ---- THE LISTING AS IT IS PUT: where there is room, the beginning, and line after line from the place that was given
 
 module _ (room : ℕ) (s : List ℕ) (roomy : 1024 ≤ room) where
-  none-put : (f p : ℕ) → length s ≤ p → putFrom f room s p ≡ []
+  none-put : (f p number : ℕ) → length s ≤ p → putFrom f room s p number ≡ []
   unfolding putFrom
-  none-put zero p h = refl
-  none-put (suc f) p h = simp (le-ltb p (length s) h)
+  none-put zero p number h = refl
+  none-put (suc f) p number h = simp (le-ltb p (length s) h)
 
   -- the lines of a sheet that is not long
-  lines-put : length s ≤ 32768 → (f p : ℕ) → putFrom f room s p ≡ linesFrom f s p
+  lines-put : length s ≤ 32768 → (f p number : ℕ) → putFrom f room s p number ≡ linesFrom f s p number
   unfolding putFrom linesFrom
-  lines-put short zero p = refl
-  lines-put short (suc f) p = go (decLt p (length s)) (lines-put short f (nextAt s p))
+  lines-put short zero p number = refl
+  lines-put short (suc f) p number = go (decLt p (length s)) (lines-put short f (nextAt s p) (number + 1))
     where
-      go : Dec (p < length s) → putFrom f room s (nextAt s p) ≡ linesFrom f s (nextAt s p)
-          → cond (ltb p (length s)) (lineInto room s p ++ putFrom f room s (nextInto room s p)) []
-          ≡ cond (ltb p (length s)) (lineAt s p ++ linesFrom f s (nextAt s p)) []
-      go (yes h) ih = let r = a-record room s p roomy short h in rw (← (r .0), ← (r .1), ih)
+      go : Dec (p < length s) → putFrom f room s (nextAt s p) (number + 1) ≡ linesFrom f s (nextAt s p) (number + 1)
+          → cond (ltb p (length s)) (lineInto room s p number ++ putFrom f room s (nextInto room s p) (number + 1)) []
+          ≡ cond (ltb p (length s)) (lineAt s p number ++ linesFrom f s (nextAt s p) (number + 1)) []
+      go (yes h) ih = let r = a-record room s p number roomy short h in rw (← (r .0), ← (r .1), ih)
       go (no n) ih = let l = le-ltb p (length s) (omega arith) in simp l
 
-  pub listing-put : beginningInto room s ++ putFrom (length s) room s (startInto room s) ≡ listingOf s
+  pub listing-put : beginningInto room s ++ putFrom (length s) room s (startInto room s) 0 ≡ listingOf s
   unfolding beginning startOf listingOf
   listing-put = go (decLt 32768 (length s))
     where
-      go : Dec (32768 < length s) → beginningInto room s ++ putFrom (length s) room s (startInto room s) ≡ listingOf s
+      go : Dec (32768 < length s) → beginningInto room s ++ putFrom (length s) room s (startInto room s) 0 ≡ listingOf s
       go (yes h) =
           let b = a-beginning room s roomy in
           let l = lt-ltb 32768 (length s) h in
-          rw (← (b .0), ← (b .1)) (simp (l, none-put (length s) (length s) (omega arith)) (append-nil (headerText ++ refusedText 12)))
+          rw (← (b .0), ← (b .1)) (simp (l, none-put (length s) (length s) 0 (omega arith)) (append-nil (headerText ++ refusedText 12)))
       go (no n) =
           let b = a-beginning room s roomy in
           let l = le-ltb 32768 (length s) (omega arith) in
-          rw (← (b .0), ← (b .1)) (simp (l, lines-put (omega arith) (length s) 0))
+          rw (← (b .0), ← (b .1)) (simp (l, lines-put (omega arith) (length s) 0 0))

@@ -10,7 +10,7 @@ use lib.ListN.{length, getD, take, drop}
 use borrow.Author.Tests.{eq-eqb, ne-eqb, le-leb, lt-leb, lt-ltb, le-ltb, leb-true}
 use Rattle.frames.specs.Kind.{isKind, isGrade, messageBytes}
 use Rattle.e8.specs.Energy.{energy}
-use Rattle.frames.specs.Frame.{sentFrame}
+use Rattle.frames.specs.Frame.{numberedFrame}
 use Rattle.frames.specs.Sending.{sendRefusal, frameAfter, energySent}
 use Rattle.frames.proofs.Accepted.{sent-leaves}
 use Rattle.frames.proofs.Refusals.{passed}
@@ -94,13 +94,14 @@ module _ (s : List ℕ) (p : ℕ) where
   unfolding recordNumber
   number-sent z = let e : eqb (recordRefusal s p) 0 ≡ true = eq-eqb _ _ z in simp e
 
-  pub refused-line : (recordNumber s p ≡ 0 → ⊥) → (refusedText (recordNumber s p) ≡ lineAt s p) × (length s ≡ nextAt s p)
+  pub refused-line : (number : ℕ) → (recordNumber s p ≡ 0 → ⊥) → (refusedText (recordNumber s p) ≡ lineAt s p number) × (length s ≡ nextAt s p)
   unfolding lineAt nextAt
-  refused-line n = let e : eqb (recordNumber s p) 0 ≡ false = ne-eqb _ _ n in (simp e, simp e)
+  refused-line number n = let e : eqb (recordNumber s p) 0 ≡ false = ne-eqb _ _ n in (simp e, simp e)
 
-  pub sent-line : recordNumber s p ≡ 0 → (sentLine (kindAt s p) (gradeAt s p) (messageAt s p) ≡ lineAt s p) × (endAt s p ≡ nextAt s p)
+  pub sent-line : (number : ℕ) → recordNumber s p ≡ 0
+      → (sentLine (kindAt s p) (gradeAt s p) number (messageAt s p) ≡ lineAt s p number) × (endAt s p ≡ nextAt s p)
   unfolding lineAt nextAt
-  sent-line z = let e : eqb (recordNumber s p) 0 ≡ true = eq-eqb _ _ z in (simp e, simp e)
+  sent-line number z = let e : eqb (recordNumber s p) 0 ≡ true = eq-eqb _ _ z in (simp e, simp e)
 
 -- the message, as the code takes it
 pub message-is : (s : List ℕ) (p n : ℕ) → n ≡ messageBytes (kindAt s p) (gradeAt s p) → take (p + 4 + n - (p + 4)) (drop (p + 4) s) ≡ messageAt s p
@@ -123,13 +124,13 @@ header-length = refl
 
 -- ---- what sending a message of a record gives, for its line
 
-module _ (k b : ℕ) (m : List ℕ) (f : List ℤ) where
-  is : lineOf k b (energy (sentFrame k b m)) (sentFrame k b m) ≡ sentLine k b m
+module _ (k b number : ℕ) (m : List ℕ) (f : List ℤ) where
+  is : lineOf k b (energy (numberedFrame k b number m)) (numberedFrame k b number m) ≡ sentLine k b number m
   unfolding sentLine
   is = refl
 
-  pub sent-shown : (number : ℕ) → number ≡ 0 → (g : List ℤ) (e : ℕ) → g ≡ frameAfter number k b m f → e ≡ energySent number k b m
-      → (g ≡ sentFrame k b m) × (lineOf k b e g ≡ sentLine k b m)
-  sent-shown number z g e qg qe =
-      let r = sent-leaves number k b m f z in
+  pub sent-shown : (refusal : ℕ) → refusal ≡ 0 → (g : List ℤ) (e : ℕ) → g ≡ frameAfter refusal k b number m f → e ≡ energySent refusal k b number m
+      → (g ≡ numberedFrame k b number m) × (lineOf k b e g ≡ sentLine k b number m)
+  sent-shown refusal z g e qg qe =
+      let r = sent-leaves refusal k b number m f z in
       (qg ∙ r .0, ap₂ (λ (x : ℕ) (y : List ℤ). lineOf k b x y) (qe ∙ r .1) (qg ∙ r .0) ∙ is)

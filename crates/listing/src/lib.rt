@@ -69,17 +69,17 @@ fn test_record(sheet: &[u8], p: usize) -> u8
     0
 }
 
-// The line of a message: its frame's, or the refusal of it for a spare bit.
-fn put_message(kind: u8, grade: u8, message: &[u8], out: &mut [u8]) -> Answer
+// The line of a message: that of its frame under the number, or the refusal of it for a spare bit.
+fn put_message(kind: u8, grade: u8, number: u32, message: &[u8], out: &mut [u8]) -> Answer
     requires { ⌜ (isKind kind ≡ true) × (1024 ≤ length (now out)) ⌝ }
     ensures number { λ r. ⌜ r .number ≡ sendRefusal kind grade (now (message .entry)) (2 ^ kind) ⌝ }
-    ensures sent { λ r. ⌜ (r .number ≡ 0 → Put (now (out .entry)) 0 (sentLine kind grade (now (message .entry))) (r .length) (now (out .exit))) ⌝ }
+    ensures sent { λ r. ⌜ (r .number ≡ 0 → Put (now (out .entry)) 0 (sentLine kind grade number (now (message .entry))) (r .length) (now (out .exit))) ⌝ }
     ensures refused { λ r. ⌜ ((r .number ≡ 0 → ⊥) → Put (now (out .entry)) 0 (refusedText (r .number)) (r .length) (now (out .exit))) ⌝ }
     ensures short { λ r. ⌜ r .length ≤ 1024 ⌝ }
 {
     let n = kind_table::positions(kind);
     let mut frame = [0i32; 64];
-    let sent = sending::send(kind, grade, message, &mut frame[..n]);
+    let sent = sending::send(kind, grade, number, message, &mut frame[..n]);
     if sent.number != 0 {
         return Answer {
             number: sent.number,
@@ -92,16 +92,16 @@ fn put_message(kind: u8, grade: u8, message: &[u8], out: &mut [u8]) -> Answer
     }
 }
 
-// The line of the record at place p of the sheet, where there is room for it.
-fn record_line(sheet: &[u8], p: usize, out: &mut [u8]) -> Written
+// The line of the record at place p of the sheet, whose frame has the number, where there is room for it.
+fn record_line(sheet: &[u8], p: usize, number: u32, out: &mut [u8]) -> Written
     requires { ⌜ (p < length (now sheet)) × (1024 ≤ length (now out)) ⌝ }
-    ensures line { λ r. ⌜ Put (now (out .entry)) 0 (lineAt (now (sheet .entry)) p) (r .length) (now (out .exit)) × (r .length ≤ 1024) ⌝ }
+    ensures line { λ r. ⌜ Put (now (out .entry)) 0 (lineAt (now (sheet .entry)) p number) (r .length) (now (out .exit)) × (r .length ≤ 1024) ⌝ }
     ensures next { λ r. ⌜ (r .next ≡ nextAt (now (sheet .entry)) p) × (p < r .next) × (r .next ≤ length (now (sheet .entry))) ⌝ }
 {
-    let number = test_record(sheet, p);
-    if number != 0 {
+    let refusal = test_record(sheet, p);
+    if refusal != 0 {
         return Written {
-            length: text::put_refused(out, 0, number),
+            length: text::put_refused(out, 0, refusal),
             next: sheet.len(),
         };
     }
@@ -109,7 +109,7 @@ fn record_line(sheet: &[u8], p: usize, out: &mut [u8]) -> Written
     let grade = sheet[p + 3];
     let start = p + 4;
     let end = start + kind_table::message_bytes(kind, grade as usize);
-    let a = put_message(kind, grade, &sheet[start..end], out);
+    let a = put_message(kind, grade, number, &sheet[start..end], out);
     if a.number != 0 {
         return Written {
             length: a.length,
@@ -138,9 +138,10 @@ fn header(sheet: &[u8], out: &mut [u8]) -> Written
     Written { length: a, next: 0 }
 }
 
-// The line of the record at place p. Nothing is put where less than 1024 bytes are lent, for a long sheet, or past the end of the sheet.
-pub fn line(sheet: &[u8], p: usize, out: &mut [u8]) -> Written
-    ensures line { λ r. ⌜ Put (now (out .entry)) 0 (lineInto (length (now (out .entry))) (now (sheet .entry)) p) (r .length) (now (out .exit)) ⌝ }
+// The line of the record at place p, whose frame has the number. Nothing is put where less than 1024 bytes are lent, for a long sheet, or past the end
+// of the sheet.
+pub fn line(sheet: &[u8], p: usize, number: u32, out: &mut [u8]) -> Written
+    ensures line { λ r. ⌜ Put (now (out .entry)) 0 (lineInto (length (now (out .entry))) (now (sheet .entry)) p number) (r .length) (now (out .exit)) ⌝ }
     ensures short { λ r. ⌜ r .length ≤ length (now (out .entry)) ⌝ }
     ensures next { λ r. ⌜ r .next ≡ nextInto (length (now (out .entry))) (now (sheet .entry)) p ⌝ }
     ensures further { λ r. ⌜ (p < length (now (sheet .entry)) → p < r .next) ⌝ }
@@ -155,7 +156,7 @@ pub fn line(sheet: &[u8], p: usize, out: &mut [u8]) -> Written
     if n <= p {
         return Written { length: 0, next: n };
     }
-    record_line(sheet, p, out)
+    record_line(sheet, p, number, out)
 }
 
 // What the listing begins with. Nothing is put where less than 1024 bytes are lent.

@@ -10,7 +10,7 @@ ghost use Rattle.bits.specs.Message.{messageBit};
 ghost use Rattle.e8.specs.Energy.{energy as energyOf};
 ghost use Rattle.frames.specs.Kind.{isKind, degrees, levelBits, messageBytes};
 ghost use Rattle.frames.specs.Message.{widths, numbers, stacked, leader};
-ghost use Rattle.frames.specs.Frame.{sentFrame};
+ghost use Rattle.frames.specs.Frame.{numberedFrame};
 ghost use Rattle.frame_coder.specs.Answer.{sendAnswer, sendFrame};
 
 // Number o of the block whose message bits begin at `from`.
@@ -60,28 +60,34 @@ fn write_leader(kind: u8, grade: usize, message: &[u8], frame: &mut [i32])
     }
 }
 
-// Writes the sent frame of a message of a good kind, grade and length, and gives its energy: the leader is written, and shaped.
-fn write_sent(kind: u8, grade: usize, message: &[u8], frame: &mut [i32]) -> u64
+// Writes the frame of a number for a message of a good kind, grade and length, and gives its energy: the leader is written, and shaped.
+fn write_sent(kind: u8, grade: usize, number: u32, message: &[u8], frame: &mut [i32]) -> u64
     requires { ⌜ (isKind kind ≡ true) × (1 ≤ grade) × (grade ≤ 4)
         × (length (now message) ≡ messageBytes kind grade) × (length (now frame) ≡ 2 ^ kind) ⌝ }
-    ensures frame { λ _. ⌜ now (frame .exit) ≡ sentFrame kind grade (now (message .entry)) ⌝ }
-    ensures energy { λ r. ⌜ r ≡ energyOf (sentFrame kind grade (now (message .entry))) ⌝ }
+    ensures frame { λ _. ⌜ now (frame .exit) ≡ numberedFrame kind grade number (now (message .entry)) ⌝ }
+    ensures energy { λ r. ⌜ r ≡ energyOf (numberedFrame kind grade number (now (message .entry))) ⌝ }
 {
     write_leader(kind, grade, message, frame);
-    let sent = sending::shape_leader(kind, grade, frame);
+    let sent = sending::shape_leader(kind, grade, number, frame);
     sent.energy
 }
 
 // Sending by the mask test at every position: as `coder_send`, by the same contract.
 #[no_mangle]
-pub extern "C" fn plain_send(kind: u8, grade: u8, message: &[u8], frame: &mut [i32]) -> i64
-    ensures answer { λ r. ⌜ r ≡ sendAnswer kind grade (now (message .entry)) (length (now (frame .entry))) ⌝ }
-    ensures frame { λ r. ⌜ now (frame .exit) ≡ sendFrame kind grade (now (message .entry)) (now (frame .entry)) ⌝ }
+pub extern "C" fn plain_send(
+    kind: u8,
+    grade: u8,
+    number: u32,
+    message: &[u8],
+    frame: &mut [i32],
+) -> i64
+    ensures answer { λ r. ⌜ r ≡ sendAnswer kind grade number (now (message .entry)) (length (now (frame .entry))) ⌝ }
+    ensures frame { λ r. ⌜ now (frame .exit) ≡ sendFrame kind grade number (now (message .entry)) (now (frame .entry)) ⌝ }
 {
-    let number = sending::test(kind, grade, message, frame.len());
-    if number != 0 {
-        return frame_coder::answer(number, 0);
+    let refusal = sending::test(kind, grade, message, frame.len());
+    if refusal != 0 {
+        return frame_coder::answer(refusal, 0);
     }
-    let energy = write_sent(kind, grade as usize, message, frame);
-    frame_coder::answer(number, energy)
+    let energy = write_sent(kind, grade as usize, number, message, frame);
+    frame_coder::answer(refusal, energy)
 }

@@ -1,6 +1,8 @@
 // The listing of a sheet, from one file into another.
 ghost use mathlib.Core.Path.{_≡_};
 ghost use mathlib.Core.Bool.{true};
+ghost use Prim.Native.Nat.{_≤_};
+ghost use lib.ListN.{length};
 ghost use Rattle.io.specs.Counts.{Counts};
 ghost use Rattle.printing.specs.Reading.{failed as isFailed};
 use libc::STDERR_FILENO;
@@ -58,8 +60,10 @@ fn read_sheet(fd: i32, room: &mut [u8]) -> Input
     }
 }
 
-// Writes the listing of the sheet, and answers whether all of it was written. It stops at the first write that fails.
-fn write_listing(sheet: &[u8], to: i32) -> bool {
+// Writes the listing of the sheet, whose records are numbered from 0, and answers whether all of it was written. It stops at the first write that fails.
+fn write_listing(sheet: &[u8], to: i32) -> bool
+    requires { ⌜ length (now sheet) ≤ 32769 ⌝ }
+{
     let n = sheet.len();
     let mut out = [0u8; 1024];
     let first = listing::begin(sheet, &mut out);
@@ -67,12 +71,14 @@ fn write_listing(sheet: &[u8], to: i32) -> bool {
         return false;
     }
     let mut p = first.next;
+    let mut number: u32 = 0;
     while p < n {
-        let line = listing::line(sheet, p, &mut out);
+        let line = listing::line(sheet, p, number, &mut out);
         if !io::write_all(to, &out[..line.length]) {
             return false;
         }
         p = line.next;
+        number += 1;
     }
     true
 }

@@ -5,6 +5,7 @@ use mathlib.Core.Path.{_≡_, refl, sym, ap, ap₂, _∙_, subst}
 use mathlib.Core.Bool.{Bool, true, false}
 use mathlib.Core.List.{List, [], _∷_, _++_}
 use native.Mathlib.Nat.{zero-mod, zero-div}
+use native.Mathlib.Decide.{ℕ-discrete}
 use native.Mathlib.Omega.{arith}
 use lib.Dec.{eqb}
 use lib.IntN.{ℤ}
@@ -13,19 +14,20 @@ use lib.Seq.{take-at, drop-at, drop-drop}
 use borrow.Author.Tests.{eq-eqb, ne-eqb, eqb-true, eqb-false}
 use Rattle.e8.specs.Energy.{energy}
 use Rattle.frames.specs.Kind.{isKind, isGrade, messageBytes}
-use Rattle.frames.specs.Frame.{sentFrame}
+use Rattle.frames.specs.Frame.{numberedFrame}
 use Rattle.frames.proofs.Rows.{grade-low}
 use Rattle.frames.proofs.Demands.{least-energy}
 use Rattle.account.specs.declared.Account.{Account}
 use Rattle.account.specs.Power.{begun}
-use Rattle.account.specs.Counted.{countedRefusal}
+use Rattle.account.specs.Counted.{numberAt, numberFor, countedRefusal}
 use Rattle.account.specs.History.{Call, answer, after, accountAfter, sentBy, Holds}
-use Rattle.account.proofs.History.{tests, after-refused, by-sent, by-refused, calls-after, history}
+use Rattle.account.proofs.History.{frame-of, first-number, tests, frame-length, after-refused, by-sent, by-refused, next-numbers, calls-after, history}
+use Rattle.account.proofs.Changeover.{changeover-kept}
 use Rattle.queue.specs.declared.Queued.{Queued}
 use Rattle.queue.specs.Queue.{queueRefusal, messagesIn, callsFor, callsOf, oneMore, inTurn, framesInTurn, queueOutcome, queueFrames, piece, EachLeast}
 use Rattle.queue.specs.InTurn.{accountAt, answerAt, callsMade, InTurn}
 use Rattle.queue.proofs.Tests.{fits, all-fit}
-use Rattle.queue.proofs.Turns.{frame-of, frame-length, sent-answer, sent-frames, refused-answer, refused-frames}
+use Rattle.queue.proofs.Turns.{sent-answer, sent-frames, refused-answer, refused-frames}
 
 -- ---- pieces, from the first
 
@@ -84,17 +86,20 @@ module _ (m k b : ℕ) (bytes : List ℕ) (a : Account) where
   -- the first is sent, before those of q, which leave g
   module _ (f : List ℤ) (room : 2 ^ k ≤ length f) (e : answer a first-call ≡ 0) (q : Queued) (g : List ℤ)
       (r : InTurn m k b rest (after a first-call) (drop (2 ^ k) f) q g) where
-    whole : length (frame-of first-call) ≡ 2 ^ k
-    whole = frame-length a first-call e
+    abbrev frame : List ℤ
+    frame = frame-of a first-call
+
+    whole : length frame ≡ 2 ^ k
+    whole = frame-length a first-call e (numberFor a)
 
     abbrev left : List ℤ
-    left = frame-of first-call ++ g
+    left = frame ++ g
 
-    left-first : piece (2 ^ k) 0 left ≡ frame-of first-call
-    left-first = piece-first (2 ^ k) left ∙ take-at (frame-of first-call) g (2 ^ k) whole
+    left-first : piece (2 ^ k) 0 left ≡ frame
+    left-first = piece-first (2 ^ k) left ∙ take-at frame g (2 ^ k) whole
 
     left-next : (i : ℕ) → piece (2 ^ k) (suc i) left ≡ piece (2 ^ k) i g
-    left-next i = piece-next (2 ^ k) i left ∙ ap (piece (2 ^ k) i) (drop-at (frame-of first-call) g (2 ^ k) whole)
+    left-next i = piece-next (2 ^ k) i left ∙ ap (piece (2 ^ k) i) (drop-at frame g (2 ^ k) whole)
 
     next : q .sent + 1 ≡ suc (q .sent)
     next = omega arith
@@ -104,16 +109,19 @@ module _ (m k b : ℕ) (bytes : List ℕ) (a : Account) where
         let l : 2 ^ k * (q .sent + 1) ≡ 2 ^ k + 2 ^ k * q .sent = omega arith in
         ap (λ (x : ℕ). drop x xs) l ∙ sym (drop-drop (2 ^ k * q .sent) (2 ^ k) xs) ∙ ap (drop (2 ^ k * q .sent)) d
 
-    made : sentBy a (callsMade (suc m) k b bytes (oneMore q)) ≡ frame-of first-call ∷ sentBy (after a first-call) (callsMade m k b rest q)
+    made : sentBy a (callsMade (suc m) k b bytes (oneMore q)) ≡ frame ∷ sentBy (after a first-call) (callsMade m k b rest q)
     made = ap (sentBy a) (made-next q) ∙ by-sent a first-call (eq-eqb _ _ e) (callsMade m k b rest q)
 
     each-accepted : (i : ℕ) → i < q .sent + 1 → answerAt (suc m) k b bytes a i ≡ 0
     each-accepted zero h = answer-first ∙ e
     each-accepted (suc i) h = answer-next i ∙ r .accepted i (omega arith)
 
-    each-written : (i : ℕ) → i < q .sent + 1 → piece (2 ^ k) i left ≡ sentFrame k b (piece (messageBytes k b) i bytes)
-    each-written zero h = left-first ∙ ap (sentFrame k b) (sym (piece-first (messageBytes k b) bytes))
-    each-written (suc i) h = left-next i ∙ r .written i (omega arith) ∙ ap (sentFrame k b) (sym (piece-next (messageBytes k b) i bytes))
+    each-written : (i : ℕ) → i < q .sent + 1
+        → piece (2 ^ k) i left ≡ numberedFrame k b (numberAt (a .changeover) (a .count + i)) (piece (messageBytes k b) i bytes)
+    each-written zero h = left-first ∙ ap₂ (numberedFrame k b) (first-number a) (sym (piece-first (messageBytes k b) bytes))
+    each-written (suc i) h =
+        left-next i ∙ r .written i (omega arith)
+        ∙ ap₂ (numberedFrame k b) (next-numbers a first-call e i) (sym (piece-next (messageBytes k b) i bytes))
 
     each-counted : (i : ℕ) → i < q .sent + 1 → getD (sentBy a (callsMade (suc m) k b bytes (oneMore q))) i [] ≡ piece (2 ^ k) i left
     each-counted zero h = ap (λ (x : List (List ℤ)). getD x 0 []) made ∙ sym left-first
@@ -125,8 +133,8 @@ module _ (m k b : ℕ) (bytes : List ℕ) (a : Account) where
       some = omega (arith, r .some);
       accepted = each-accepted;
       written = each-written;
-      long = length-append (frame-of first-call) g ∙ omega (arith, whole, r .long, length-drop (2 ^ k) f);
-      kept = behind left (drop-at (frame-of first-call) g (2 ^ k) whole) ∙ r .kept ∙ sym (behind f refl);
+      long = length-append frame g ∙ omega (arith, whole, r .long, length-drop (2 ^ k) f);
+      kept = behind left (drop-at frame g (2 ^ k) whole) ∙ r .kept ∙ sym (behind f refl);
       stopped = λ h. let t = r .stopped (omega arith) in (t .0 ∙ sym (answer-next (q .sent)) ∙ ap (answerAt (suc m) k b bytes a) (sym next), t .1);
       all = λ h. r .all (omega arith);
       account = r .account ∙ sym (account-next (q .sent)) ∙ ap (accountAt (suc m) k b bytes a) (sym next);
@@ -179,7 +187,7 @@ each-least {m} {k} {b} {bytes} {a} {f₀} {q} {f} r = record {
   each = λ i h.
       let message = piece (messageBytes k b) i bytes in
       let p = tests (accountAt m k b bytes a i) (record { kind = k; grade = b; message = message; n = 2 ^ k }) (r .accepted i h) in
-      least-energy k b (p .kind) (grade-low b (p .grade)) message _ _ (r .written i h) (ap energy (r .written i h));
+      least-energy k b (p .kind) (grade-low b (p .grade)) _ message _ _ (r .written i h) (ap energy (r .written i h));
 }
 
 -- ---- the call
@@ -209,12 +217,25 @@ module _ (k b : ℕ) (bytes : List ℕ) (f : List ℤ) (a : Account) where
     pub queue-continues : (a₀ : Account) (cs : List Call) → accountAfter a₀ cs ≡ a → queueOutcome k b bytes (length f) a .account ≡ accountAfter a₀ (cs ++ made-by)
     queue-continues a₀ cs e = queue-in-turn .refused ∙ sym (calls-after a₀ cs made-by ∙ ap (λ (x : Account). accountAfter x made-by) e)
 
-    pub queue-history : (cs : List Call) → accountAfter begun cs ≡ a → Holds (queueOutcome k b bytes (length f) a .account) (sentBy begun (cs ++ made-by))
-    queue-history cs e = subst (λ (x : Account). Holds x (sentBy begun (cs ++ made-by))) (sym (queue-continues begun cs e)) (history (cs ++ made-by))
+    pub queue-history : (changeover : ℕ) (cs : List Call) → accountAfter (begun changeover) cs ≡ a
+        → Holds (queueOutcome k b bytes (length f) a .account) (sentBy (begun changeover) (cs ++ made-by))
+    queue-history changeover cs e =
+        subst (λ (x : Account). Holds x (sentBy (begun changeover) (cs ++ made-by))) (sym (queue-continues (begun changeover) cs e))
+        (history changeover (cs ++ made-by))
 
     -- and each frame written has the least energy
     pub queue-least : {q : Queued} {g : List ℤ} → q ≡ queueOutcome k b bytes (length f) a → g ≡ queueFrames k b bytes f a → EachLeast k b (q .sent) g
     queue-least {q} {g} e d = rw (e, d) (each-least queue-in-turn)
+
+-- the changeover stays
+pub queue-changeover : (k b : ℕ) (bytes : List ℕ) (f : List ℤ) (a : Account) → queueOutcome k b bytes (length f) a .account .changeover ≡ a .changeover
+queue-changeover k b bytes f a = go (ℕ-discrete (queueRefusal k b (length bytes) (length f)) 0)
+  where
+    go : Dec (queueRefusal k b (length bytes) (length f) ≡ 0) → queueOutcome k b bytes (length f) a .account .changeover ≡ a .changeover
+    go (yes z) =
+        ap (λ (x : Account). x .changeover) (queue-in-turn k b bytes f a z .refused)
+        ∙ changeover-kept a (callsMade (messagesIn k b bytes) k b bytes (queueOutcome k b bytes (length f) a))
+    go (no e) = ap (λ (q : Queued). q .account .changeover) (refused-queue k b bytes f a e .0)
 
 -- an empty queue sends none, whatever the account
 pub empty-queue : (k b : ℕ) (a : Account) → isKind k ≡ true → isGrade b ≡ true

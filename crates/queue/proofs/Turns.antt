@@ -12,22 +12,12 @@ use lib.Seq.{take-at, drop-at, drop-drop, length-take-le}
 use borrow.Author.Tests.{eq-eqb, ne-eqb}
 use borrow.Rule.Slice.PartMut.{putMid}
 use Rattle.frames.specs.Kind.{messageBytes}
-use Rattle.frames.specs.Frame.{sentFrame}
-use Rattle.frames.proofs.Rows.{grade-low}
-use Rattle.frames.proofs.Demands.{sent-length}
 use Rattle.account.specs.declared.Account.{Account}
+use Rattle.account.specs.Counted.{numberFor}
 use Rattle.account.specs.History.{Call, answer as answer-of, after}
-use Rattle.account.proofs.History.{tests, after-refused}
+use Rattle.account.proofs.History.{frame-of, frame-length, after-refused}
 use Rattle.queue.specs.declared.Queued.{Queued}
 use Rattle.queue.specs.Queue.{messagesIn, callsFor, callsOf, oneMore, inTurn, framesInTurn, piece}
-
--- the frame of a call
-abbrev pub frame-of : Call → List ℤ
-frame-of c = sentFrame (c .kind) (c .grade) (c .message)
-
--- an accepted one has a frame's length
-pub frame-length : (a : Account) (c : Call) → answer-of a c ≡ 0 → length (frame-of c) ≡ 2 ^ c .kind
-frame-length a c e = let p = tests a c e in sent-length (c .kind) (c .grade) (p .kind) (grade-low (c .grade) (p .grade)) (c .message)
 
 -- ---- the first call, accepted or refused
 
@@ -36,7 +26,7 @@ module _ (a : Account) (c : Call) (cs : List Call) (f : List ℤ) where
   unfolding inTurn
   sent-answer e = let q : eqb (answer-of a c) 0 ≡ true = eq-eqb _ _ e in simp q
 
-  pub sent-frames : answer-of a c ≡ 0 → framesInTurn a (c ∷ cs) f ≡ frame-of c ++ framesInTurn (after a c) cs (drop (c .n) f)
+  pub sent-frames : answer-of a c ≡ 0 → framesInTurn a (c ∷ cs) f ≡ frame-of a c ++ framesInTurn (after a c) cs (drop (c .n) f)
   unfolding framesInTurn
   sent-frames e = let q : eqb (answer-of a c) 0 ≡ true = eq-eqb _ _ e in simp q
 
@@ -143,9 +133,9 @@ module _ (k b : ℕ) (bytes : List ℕ) where
             ∙ s .frames
 
         -- message i is sent: y stands in the place of its frame
-        module _ (e : answer-of a (call-at i) ≡ 0) (room : 2 ^ k * i + 2 ^ k ≤ length f) {y : List ℤ} (is : y ≡ frame-of (call-at i)) where
+        module _ (e : answer-of a (call-at i) ≡ 0) (room : 2 ^ k * i + 2 ^ k ≤ length f) {y : List ℤ} (is : y ≡ frame-of a (call-at i)) where
           whole : length y ≡ 2 ^ k
-          whole = ap length is ∙ frame-length a (call-at i) e
+          whole = ap length is ∙ frame-length a (call-at i) e (numberFor a)
 
           abbrev put : List ℤ
           put = putMid (2 ^ k * i) (2 ^ k * i + 2 ^ k - 2 ^ k * i) f y
@@ -163,12 +153,12 @@ module _ (k b : ℕ) (bytes : List ℕ) where
 
           -- what those from message i on do, seen from the next
           unrolled : framesInTurn a (calls-from i) (drop (2 ^ k * i) f)
-              ≡ frame-of (call-at i) ++ framesInTurn (after a (call-at i)) (calls-from (i + 1)) (drop (2 ^ k * (i + 1)) f)
+              ≡ frame-of a (call-at i) ++ framesInTurn (after a (call-at i)) (calls-from (i + 1)) (drop (2 ^ k * (i + 1)) f)
           unrolled =
               let g = drop (2 ^ k * i) f in
               let r : 2 ^ k * i + 2 ^ k ≡ 2 ^ k * (i + 1) = omega arith in
               ap (λ (cs : List Call). framesInTurn a cs g) (next-call i h) ∙ sent-frames a (call-at i) (calls-from (i + 1)) g e
-              ∙ ap (λ (x : List ℤ). frame-of (call-at i) ++ framesInTurn (after a (call-at i)) (calls-from (i + 1)) x)
+              ∙ ap (λ (x : List ℤ). frame-of a (call-at i) ++ framesInTurn (after a (call-at i)) (calls-from (i + 1)) x)
               (drop-drop (2 ^ k) (2 ^ k * i) f ∙ ap (λ (n : ℕ). drop n f) r)
 
           further : SoFar f₀ a₀ (i + 1) put (after a (call-at i))

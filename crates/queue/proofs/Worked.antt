@@ -9,9 +9,10 @@ use Rattle.e8.specs.Energy.{sq, energy}
 use Rattle.e8.specs.Order.{before}
 use Rattle.e8.specs.Largest.{largestTo}
 use Rattle.e8.specs.Least.{cent, better, best, leastBlock, leastFrame}
+use Rattle.e8.specs.Ties.{leastFrameBy}
 use Rattle.frames.specs.Kind.{kinds, isKind, isGrade, degrees, levels, levelBits, messageBits, messageBytes}
 use Rattle.frames.specs.Message.{numbers, blockNumbers, stacked, coordinate, leader}
-use Rattle.frames.specs.Frame.{half, sentFrame}
+use Rattle.frames.specs.Frame.{half, isOdd, numberedFrame}
 use Rattle.frames.specs.Sending.{anySet, spareSet, sendRefusal, frameAfter}
 use Rattle.account.specs.Power.{powerOf}
 use Rattle.account.specs.Counted.{countedRefusal, countedAccount}
@@ -20,7 +21,7 @@ use Rattle.queue.specs.Worked.{AsWorked}
 
 pub as-worked : AsWorked
 unfolding queueOutcome queueFrames queueRefusal callsFor inTurn framesInTurn frameAfter countedRefusal countedAccount sendRefusal isGrade
-    isKind kinds spareSet anySet messageBytes messageBits levelBits sentFrame half leastFrame leastBlock best better cent before energy sq
-    leader coordinate stacked blockNumbers numbers degrees levels sumTo codeword order dimension masks ofWeight table messageBit ones
+    isKind kinds spareSet anySet messageBytes messageBits levelBits numberedFrame isOdd half leastFrameBy leastFrame leastBlock best better cent
+    before energy sq leader coordinate stacked blockNumbers numbers degrees levels sumTo codeword order dimension masks ofWeight table messageBit ones
     largestTo powerOf add sum div ofInt
 as-worked = record { answers = refl; frames = refl }

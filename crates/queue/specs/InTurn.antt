@@ -1,13 +1,13 @@
 -- What the definition of a queue comes to, in the sentences of request E4. Assumes nothing.
-use Prim.Native.Nat.{ℕ, suc, _*_, _^_, _<_, _≤_}
+use Prim.Native.Nat.{ℕ, suc, _+_, _*_, _^_, _<_, _≤_}
 use mathlib.Core.Path.{_≡_}
 use mathlib.Core.List.{List, []}
 use lib.IntN.{ℤ}
 use lib.ListN.{length, take, drop, getD}
 use Rattle.frames.specs.Kind.{messageBytes}
-use Rattle.frames.specs.Frame.{sentFrame}
+use Rattle.frames.specs.Frame.{numberedFrame}
 use Rattle.account.specs.declared.Account.{Account}
-use Rattle.account.specs.Counted.{countedRefusal}
+use Rattle.account.specs.Counted.{numberAt, countedRefusal}
 use Rattle.account.specs.History.{Call, accountAfter, sentBy}
 use Rattle.queue.specs.declared.Queued.{Queued}
 use Rattle.queue.specs.Queue.{callsFor, piece}
@@ -26,10 +26,12 @@ callsMade m k b bytes q = take (suc (q .sent)) (callsFor m k b bytes)
 
 -- a queue of m messages, sent with the account a into the coordinates f₀, answers q and leaves f
 pub record InTurn (m k b : ℕ) (bytes : List ℕ) (a : Account) (f₀ : List ℤ) (q : Queued) (f : List ℤ) : Type 0 where
-  -- each of those sent is accepted with the account that those before it gave, and its frame is written in its place
+  -- each of those sent is accepted with the account that those before it gave, and its frame is written in its place: message i under the number that the
+  -- changeover gives to the count before it
   pub some : q .sent ≤ m
   pub accepted : (i : ℕ) → i < q .sent → answerAt m k b bytes a i ≡ 0
-  pub written : (i : ℕ) → i < q .sent → piece (2 ^ k) i f ≡ sentFrame k b (piece (messageBytes k b) i bytes)
+  pub written : (i : ℕ) → i < q .sent
+      → piece (2 ^ k) i f ≡ numberedFrame k b (numberAt (a .changeover) (a .count + i)) (piece (messageBytes k b) i bytes)
   -- the coordinates after them keep their values
   pub long : length f ≡ length f₀
   pub kept : drop (2 ^ k * q .sent) f ≡ drop (2 ^ k * q .sent) f₀

@@ -10,6 +10,7 @@ use Rattle.e8.specs.Energy.{energy}
 use Rattle.frames.specs.Kind.{isKind, isGrade, messageBytes}
 use Rattle.frames.specs.Sending.{unless, frameAfter, LeastEnergy}
 use Rattle.account.specs.declared.Account.{Account}
+use Rattle.account.specs.Counted.{numberFor}
 use Rattle.account.specs.History.{Call, answer, after}
 use Rattle.queue.specs.declared.Queued.{Queued}
 
@@ -51,7 +52,7 @@ unfoldable pub framesInTurn : Account → List Call → List ℤ → List ℤ
 unfolding frameAfter
 framesInTurn a [] f = f
 framesInTurn a (c ∷ cs) f =
-    frameAfter (answer a c) (c .kind) (c .grade) (c .message) (take (c .n) f)
+    frameAfter (answer a c) (c .kind) (c .grade) (numberFor a) (c .message) (take (c .n) f)
     ++ cond (eqb (answer a c) 0) (framesInTurn (after a c) cs (drop (c .n) f)) (drop (c .n) f)
 
 -- ---- the call: where a test before it is not passed nothing is sent, and else each in turn

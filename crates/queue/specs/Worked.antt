@@ -1,11 +1,12 @@
--- Queues worked by hand from the exam frames of document 01, to be met by the definitions (request E4). Assumes nothing.
+-- Queues worked by hand from the exam frames of document 01, to be met by the definitions (request E4), also across a changeover (request E5).
+-- Assumes nothing.
 use Prim.Native.Nat.{ℕ, zero, suc}
 use mathlib.Core.Path.{_≡_}
 use mathlib.Core.List.{List, [], _∷_, _++_, map}
 use lib.IntN.{ℤ, pos, negsuc}
 use lib.ListN.{length}
 use Rattle.account.specs.declared.Account.{Account}
-use Rattle.account.specs.Worked.{held}
+use Rattle.account.specs.Worked.{heldWith, held}
 use Rattle.queue.specs.declared.Queued.{Queued}
 use Rattle.queue.specs.Queue.{queueOutcome, queueFrames}
 
@@ -38,6 +39,10 @@ allMinus = alike 8 (negsuc 0)
 
 abbrev pub minusFour : List ℤ
 minusFour = negsuc 3 ∷ alike 7 (pos 0)
+
+-- 00 08 under an odd number
+abbrev pub plusFour : List ℤ
+plusFour = pos 4 ∷ alike 7 (pos 0)
 
 abbrev pub queues : List Case
 queues =
@@ -124,6 +129,36 @@ queues =
     -- kind and grade come before them, 1 and 2
     ∷ record { kind = 7; grade = 0; bytes = 1 ∷ []; lent = from 100 9; with = held 5 7 9; outcome = answered 1 0 (held 5 7 9); left = from 100 9 }
     ∷ record { kind = 3; grade = 5; bytes = 1 ∷ []; lent = from 100 9; with = held 5 7 9; outcome = answered 2 0 (held 5 7 9); left = from 100 9 }
+    -- the new rule from frame 1 on: frame 1 is odd, frame 2 even
+    ∷ record {
+      kind = 3;
+      grade = 1;
+      bytes = 0 ∷ 8 ∷ 0 ∷ 8 ∷ 0 ∷ 8 ∷ [];
+      lent = from 100 24;
+      with = heldWith 1 0 0 0;
+      outcome = answered 0 3 (heldWith 1 3 6 16);
+      left = minusFour ++ (plusFour ++ minusFour);
+    }
+    -- from frame 7 on: frame 5 is odd, and below it; the fourth message is refused
+    ∷ record {
+      kind = 3;
+      grade = 1;
+      bytes = 0 ∷ 8 ∷ 0 ∷ 8 ∷ 0 ∷ 8 ∷ 0 ∷ 16 ∷ [];
+      lent = from 100 32;
+      with = heldWith 7 5 7 9;
+      outcome = answered 5 3 (heldWith 7 8 13 16);
+      left = minusFour ++ (minusFour ++ (plusFour ++ from 124 8));
+    }
+    -- the new rule throughout: the last frame before the account is full
+    ∷ record {
+      kind = 3;
+      grade = 1;
+      bytes = 0 ∷ 8 ∷ 0 ∷ 8 ∷ [];
+      lent = from 100 16;
+      with = heldWith 0 999999 0 0;
+      outcome = answered 11 1 (heldWith 0 1000000 2 16);
+      left = plusFour ++ from 108 8;
+    }
     ∷ []
 
 -- the definitions give what is worked by hand

@@ -132,21 +132,21 @@ fn size_of(low: u8, high: u8) -> usize {
 // Takes record v, and answers whether there was one. A record that is cut short, or for which there is no room, is a difference, and the
 // last one taken.
 pub fn take(fd: i32, v: u64, tally: &mut [u64; 4]) -> bool {
-    let mut head = [0u8; 48];
+    let mut head = [0u8; 56];
     let got = io::read_full(fd, &mut head);
     if got == 0 {
         return false;
     }
-    if got == 48 {
+    if got == 56 {
         let q = Queue {
             kind: head[0],
             grade: head[1],
             coordinates: size_of(head[4], head[5]),
-            account: account_in(&head[8..28]),
+            account: account_in(&head[8..32]),
             answer: Queued {
                 number: head[6],
                 sent: size(head[7]),
-                account: account_in(&head[28..48]),
+                account: account_in(&head[32..56]),
             },
         };
         if take_rest(fd, v, size_of(head[2], head[3]), q, tally) {

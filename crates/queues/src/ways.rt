@@ -43,17 +43,19 @@ fn exported(
         &mut count,
         &mut sum,
         &mut largest,
+        account.changeover,
         &mut sent,
     );
     if r != minus(answer.number) {
         return false;
     }
-    let account = Account {
+    let grown = Account {
         count,
         sum,
         largest,
+        changeover: account.changeover,
     };
-    sent == answer.sent && same_account(account, answer.account)
+    sent == answer.sent && same_account(grown, answer.account)
 }
 
 // How many coordinates a frame of the kind has.

@@ -1,7 +1,7 @@
 -- The answer of a reading by the tests that were passed, and what is left by it. Assumes nothing.
-use Prim.Native.Nat.{ℕ, _^_}
+use Prim.Native.Nat.{ℕ, zero, suc, _^_}
 use mathlib.Core.Path.{_≡_, refl, sym, ap, _∙_}
-use mathlib.Core.Bool.{Bool, true, false}
+use mathlib.Core.Bool.{true, false}
 use mathlib.Core.List.{List}
 use native.Mathlib.Omega.{arith}
 use lib.Dec.{eqb}
@@ -54,11 +54,11 @@ open-fits k b f n h₁ h₂ h₄ h₃ h₆ =
 
 module _ (k b : ℕ) (f : List ℤ) (n : ℕ) where
   -- what the open reading refuses, either refuses by the same number
-  pub as-open : (t : Bool) → (openRefusal k b f n ≡ 0 → ⊥) → openRefusal k b f n ≡ refusalOf t k b f n
-  as-open true h = sym (strict-as-open k b f n h)
-  as-open false h = refl
+  pub as-open : (which : ℕ) → (openRefusal k b f n ≡ 0 → ⊥) → openRefusal k b f n ≡ refusalOf which k b f n
+  as-open zero h = refl
+  as-open (suc number) h = sym (strict-as-open k b number f n h)
 
-  pub fits : (t : Bool) → (refusalOf t k b f n ≡ 1 → ⊥) → (refusalOf t k b f n ≡ 2 → ⊥) → (refusalOf t k b f n ≡ 4 → ⊥)
+  pub fits : (t : ℕ) → (refusalOf t k b f n ≡ 1 → ⊥) → (refusalOf t k b f n ≡ 2 → ⊥) → (refusalOf t k b f n ≡ 4 → ⊥)
       → (refusalOf t k b f n ≡ 3 → ⊥) → (refusalOf t k b f n ≡ 6 → ⊥) → Fits k b f n
   fits t h₁ h₂ h₄ h₃ h₆ = open-fits k b f n
       (λ e. h₁ (sym (as-open t (λ z. omega (arith, e, z))) ∙ e)) (λ e. h₂ (sym (as-open t (λ z. omega (arith, e, z))) ∙ e))

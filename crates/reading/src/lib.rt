@@ -17,21 +17,27 @@ pub struct Reading {
     pub energy: u64,
 }
 
-// A reading; a strict one, where `strict` is set, takes the sent frame alone. A refusal writes nothing.
-fn read(strict: bool, kind: u8, grade: u8, frame: &[i32], message: &mut [u8]) -> Reading
-    ensures number { λ r. ⌜ r .number ≡ refusalOf strict kind grade (now (frame .entry)) (length (now (message .entry))) ⌝ }
+// A reading: the open one where `which` is 0, and else the strict one, which takes the frame of number which − 1 alone. A refusal writes nothing.
+fn read(which: u8, kind: u8, grade: u8, frame: &[i32], message: &mut [u8]) -> Reading
+    ensures number { λ r. ⌜ r .number ≡ refusalOf which kind grade (now (frame .entry)) (length (now (message .entry))) ⌝ }
     ensures message { λ r. ⌜ now (message .exit) ≡ messageAfter (r .number) kind grade (now (frame .entry)) (now (message .entry)) ⌝ }
     ensures energy { λ r. ⌜ r .energy ≡ energyRead (r .number) (now (frame .entry)) ⌝ }
 {
-    let t = tests(strict, kind, grade, frame, message.len());
-    let number = t.number;
-    if number != 0 {
-        return Reading { number, energy: 0 };
+    let t = tests(which, kind, grade, frame, message.len());
+    let refusal = t.number;
+    if refusal != 0 {
+        return Reading {
+            number: refusal,
+            energy: 0,
+        };
     }
     let energy = coordinates::energy(frame);
     let words = t.words;
     write_message(kind, grade, frame, words, message);
-    Reading { number, energy }
+    Reading {
+        number: refusal,
+        energy,
+    }
 }
 
 // The open reading: the message of any frame of the coding set.
@@ -40,14 +46,15 @@ pub fn read_open(kind: u8, grade: u8, frame: &[i32], message: &mut [u8]) -> Read
     ensures message { λ r. ⌜ now (message .exit) ≡ messageAfter (r .number) kind grade (now (frame .entry)) (now (message .entry)) ⌝ }
     ensures energy { λ r. ⌜ r .energy ≡ energyRead (r .number) (now (frame .entry)) ⌝ }
 {
-    read(false, kind, grade, frame, message)
+    read(0, kind, grade, frame, message)
 }
 
-// The strict reading: the message of the sent frame alone.
-pub fn read_strict(kind: u8, grade: u8, frame: &[i32], message: &mut [u8]) -> Reading
-    ensures number { λ r. ⌜ r .number ≡ strictRefusal kind grade (now (frame .entry)) (length (now (message .entry))) ⌝ }
+// The strict reading under a number: the message of the frame that is sent under it alone. Its remainder modulo 2, which is a number of the same tie
+// rule, goes with the choice of the reading in one byte: one argument fewer on the stack.
+pub fn read_strict(kind: u8, grade: u8, number: u32, frame: &[i32], message: &mut [u8]) -> Reading
+    ensures number { λ r. ⌜ r .number ≡ strictRefusal kind grade number (now (frame .entry)) (length (now (message .entry))) ⌝ }
     ensures message { λ r. ⌜ now (message .exit) ≡ messageAfter (r .number) kind grade (now (frame .entry)) (now (message .entry)) ⌝ }
     ensures energy { λ r. ⌜ r .energy ≡ energyRead (r .number) (now (frame .entry)) ⌝ }
 {
-    read(true, kind, grade, frame, message)
+    read(1 + (number % 2) as u8, kind, grade, frame, message)
 }

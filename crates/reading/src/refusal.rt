@@ -76,21 +76,21 @@ fn open_tests(kind: u8, grade: u8, frame: &[i32], n: usize) -> Tested
     }
 }
 
-// The tests of a reading, of the strict one where `strict` is set; n message bytes are lent.
-pub fn tests(strict: bool, kind: u8, grade: u8, frame: &[i32], n: usize) -> Tested
-    ensures number { λ t. ⌜ t .number ≡ refusalOf strict kind grade (now (frame .entry)) n ⌝ }
+// The tests of a reading, the open one where `which` is 0 and else the strict one under number which − 1; n message bytes are lent.
+pub fn tests(which: u8, kind: u8, grade: u8, frame: &[i32], n: usize) -> Tested
+    ensures number { λ t. ⌜ t .number ≡ refusalOf which kind grade (now (frame .entry)) n ⌝ }
     ensures words { λ t. ⌜ t .words ≡ wordsAfter (t .number) kind (now (frame .entry)) ⌝ }
 {
     let t = open_tests(kind, grade, frame, n);
-    let number = t.number;
-    if number != 0 {
+    let refusal = t.number;
+    if refusal != 0 {
         return t;
     }
-    if !strict {
+    if which == 0 {
         return t;
     }
     let k = kind_table::levels(kind) + (grade as usize) - 1;
-    if is_least(kind, k as u32, frame) {
+    if is_least(kind_table::is_odd(which as u32 - 1), kind, k as u32, frame) {
         t
     } else {
         refused(9)

@@ -5,7 +5,7 @@ ghost use mathlib.Core.List.{_++_};
 ghost use Prim.Native.Nat.{_+_, _/_, _^_, _≤_};
 ghost use lib.ListN.{length, take, drop};
 ghost use Rattle.e8.specs.Energy.{Within};
-ghost use Rattle.e8.specs.Least.{leastFrame};
+ghost use Rattle.e8.specs.Ties.{leastFrameBy};
 ghost use Rattle.bits.specs.Number.{pick};
 ghost use Rattle.frames.specs.Kind.{isKind};
 ghost use Rattle.frames.specs.Reading.{sameNumber, sameFrame};
@@ -69,23 +69,23 @@ fn same(a: &[i32], b: &[i32]) -> bool
     d == 0
 }
 
-// Whether a frame of a kind is the least member of its class, for the scale M = 2^(k + 1). The least member is made in `copy`.
-fn is_least_by(kind: u8, k: u32, frame: &[i32], copy: &mut [i32]) -> bool
+// Whether a frame of a kind is the least member of its class, for the scale M = 2^(k + 1), by the tie rule. The least member is made in `copy`.
+fn is_least_by(last: bool, kind: u8, k: u32, frame: &[i32], copy: &mut [i32]) -> bool
     requires { ⌜ (isKind kind ≡ true) × (k ≤ 6) × Within (2 ^ 24) (now frame) × (length (now frame) ≡ 2 ^ kind) × (length (now copy) ≡ 2 ^ kind) ⌝ }
-    ensures same { λ r. ⌜ r ≡ sameFrame (now (frame .entry)) (leastFrame (2 ^ k) (length (now (frame .entry)) / 8) (now (frame .entry))) ⌝ }
-    ensures copy { λ _. ⌜ now (copy .exit) ≡ leastFrame (2 ^ k) (length (now (frame .entry)) / 8) (now (frame .entry)) ⌝ }
+    ensures same { λ r. ⌜ r ≡ sameFrame (now (frame .entry)) (leastFrameBy last (2 ^ k) (length (now (frame .entry)) / 8) (now (frame .entry))) ⌝ }
+    ensures copy { λ _. ⌜ now (copy .exit) ≡ leastFrameBy last (2 ^ k) (length (now (frame .entry)) / 8) (now (frame .entry)) ⌝ }
 {
     copied(kind, frame, copy);
-    shaping::shape(k, copy);
+    shaping::shape(last, k, copy);
     same(frame, copy)
 }
 
 // The same, with a copy of its own.
-pub fn is_least(kind: u8, k: u32, frame: &[i32]) -> bool
+pub fn is_least(last: bool, kind: u8, k: u32, frame: &[i32]) -> bool
     requires { ⌜ (isKind kind ≡ true) × (k ≤ 6) × Within (2 ^ 24) (now frame) × (length (now frame) ≡ 2 ^ kind) ⌝ }
-    ensures { λ r. ⌜ r ≡ sameFrame (now (frame .entry)) (leastFrame (2 ^ k) (length (now (frame .entry)) / 8) (now (frame .entry))) ⌝ }
+    ensures { λ r. ⌜ r ≡ sameFrame (now (frame .entry)) (leastFrameBy last (2 ^ k) (length (now (frame .entry)) / 8) (now (frame .entry))) ⌝ }
 {
     let n = frame.len();
     let mut copy = [0i32; 64];
-    is_least_by(kind, k, frame, &mut copy[0..n])
+    is_least_by(last, kind, k, frame, &mut copy[0..n])
 }

@@ -5,6 +5,7 @@ pub mod Weight
 pub mod Order
 pub mod Codeword
 pub mod Belongs
+pub mod Product
 pub mod MaskTables
 pub mod Stages
 pub mod Held

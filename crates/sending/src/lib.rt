@@ -5,10 +5,10 @@ ghost use Prim.Native.Nat.{_%_, _≤_, _^_};
 ghost use lib.ListN.{length};
 ghost use Rattle.e8.specs.Energy.{energy as energyOf, Within};
 ghost use Rattle.e8.specs.Largest.{largestBlock};
-ghost use Rattle.e8.specs.Least.{leastFrame};
+ghost use Rattle.e8.specs.Ties.{leastFrameBy};
 ghost use Rattle.frames.specs.Kind.{isKind, blocks, messageBytes};
 ghost use Rattle.frames.specs.Message.{leader};
-ghost use Rattle.frames.specs.Frame.{half, sentFrame};
+ghost use Rattle.frames.specs.Frame.{half, isOdd, numberedFrame};
 ghost use Rattle.frames.specs.Sending.{sendRefusal, frameAfter, energySent, LeastEnergy};
 
 mod leader;
@@ -67,28 +67,36 @@ fn shaped_energies(frame: &[i32]) -> Energies
     Energies { energy, largest }
 }
 
-// Shapes the leader of a message of a good kind and grade in place, and gives the energy of the sent frame and its largest block's.
-pub fn shape_leader(kind: u8, grade: usize, frame: &mut [i32]) -> Energies
+// Shapes the leader of a message of a good kind and grade in place by the tie rule of a number, and gives the energy of the sent frame and its
+// largest block's.
+pub fn shape_leader(kind: u8, grade: usize, number: u32, frame: &mut [i32]) -> Energies
     requires { ⌜ (isKind kind ≡ true) × (1 ≤ grade) × (grade ≤ 4) × (length (now frame) ≡ 2 ^ kind) × Within (2 ^ 24) (now frame) ⌝ }
-    ensures frame { λ _. ⌜ now (frame .exit) ≡ leastFrame (half kind grade) (blocks kind) (now (frame .entry)) ⌝ }
-    ensures energy { λ r. ⌜ r .energy ≡ energyOf (leastFrame (half kind grade) (blocks kind) (now (frame .entry))) ⌝ }
-    ensures largest { λ r. ⌜ r .largest ≡ largestBlock (leastFrame (half kind grade) (blocks kind) (now (frame .entry))) ⌝ }
+    ensures frame { λ _. ⌜ now (frame .exit) ≡ leastFrameBy (isOdd number) (half kind grade) (blocks kind) (now (frame .entry)) ⌝ }
+    ensures energy { λ r. ⌜ r .energy ≡ energyOf (leastFrameBy (isOdd number) (half kind grade) (blocks kind) (now (frame .entry))) ⌝ }
+    ensures largest { λ r. ⌜ r .largest ≡ largestBlock (leastFrameBy (isOdd number) (half kind grade) (blocks kind) (now (frame .entry))) ⌝ }
 {
     let k = kind_table::levels(kind) + grade - 1;
-    shaping::shape(k as u32, frame);
+    shaping::shape(kind_table::is_odd(number), k as u32, frame);
     shaped_energies(frame)
 }
 
-// Writes the sent frame of a message of a good kind, grade and length, and gives its energy and its largest block's: the leader is written, and shaped.
-pub fn write_sent(kind: u8, grade: usize, message: &[u8], frame: &mut [i32]) -> Energies
+// Writes the frame of a number for a message of a good kind, grade and length, and gives its energy and its largest block's: the leader is written,
+// and shaped.
+pub fn write_sent(
+    kind: u8,
+    grade: usize,
+    number: u32,
+    message: &[u8],
+    frame: &mut [i32],
+) -> Energies
     requires { ⌜ (isKind kind ≡ true) × (1 ≤ grade) × (grade ≤ 4)
         × (length (now message) ≡ messageBytes kind grade) × (length (now frame) ≡ 2 ^ kind) ⌝ }
-    ensures frame { λ _. ⌜ now (frame .exit) ≡ sentFrame kind grade (now (message .entry)) ⌝ }
-    ensures energy { λ r. ⌜ r .energy ≡ energyOf (sentFrame kind grade (now (message .entry))) ⌝ }
-    ensures largest { λ r. ⌜ r .largest ≡ largestBlock (sentFrame kind grade (now (message .entry))) ⌝ }
+    ensures frame { λ _. ⌜ now (frame .exit) ≡ numberedFrame kind grade number (now (message .entry)) ⌝ }
+    ensures energy { λ r. ⌜ r .energy ≡ energyOf (numberedFrame kind grade number (now (message .entry))) ⌝ }
+    ensures largest { λ r. ⌜ r .largest ≡ largestBlock (numberedFrame kind grade number (now (message .entry))) ⌝ }
 {
     write_leader(kind, grade, message, frame);
-    shape_leader(kind, grade, frame)
+    shape_leader(kind, grade, number, frame)
 }
 
 // The tests alone, for a caller that has a test of its own to make before anything is written; n coordinates are lent.
@@ -98,21 +106,24 @@ pub fn test(kind: u8, grade: u8, message: &[u8], n: usize) -> u8
     refusal::refusal(kind, grade, message, n)
 }
 
-// Sends a message: tests 1, 2, 3, 4, 5, and then writes the sent frame and gives its energy. A refusal writes nothing.
-pub fn send(kind: u8, grade: u8, message: &[u8], frame: &mut [i32]) -> Outcome
+// Sends a message under a number: tests 1, 2, 3, 4, 5, and then writes the frame of the number and gives its energy. A refusal writes nothing.
+pub fn send(kind: u8, grade: u8, number: u32, message: &[u8], frame: &mut [i32]) -> Outcome
     ensures number { λ r. ⌜ r .number ≡ sendRefusal kind grade (now (message .entry)) (length (now (frame .entry))) ⌝ }
-    ensures frame { λ r. ⌜ now (frame .exit) ≡ frameAfter (r .number) kind grade (now (message .entry)) (now (frame .entry)) ⌝ }
-    ensures energy { λ r. ⌜ r .energy ≡ energySent (r .number) kind grade (now (message .entry)) ⌝ }
+    ensures frame { λ r. ⌜ now (frame .exit) ≡ frameAfter (r .number) kind grade number (now (message .entry)) (now (frame .entry)) ⌝ }
+    ensures energy { λ r. ⌜ r .energy ≡ energySent (r .number) kind grade number (now (message .entry)) ⌝ }
     ensures least { λ r. ⌜ (r .number ≡ 0 → LeastEnergy kind grade (now (frame .exit)) (r .energy)) ⌝ }
 {
     let n = frame.len();
-    let number = refusal::refusal(kind, grade, message, n);
-    if number != 0 {
-        return Outcome { number, energy: 0 };
+    let refusal = refusal::refusal(kind, grade, message, n);
+    if refusal != 0 {
+        return Outcome {
+            number: refusal,
+            energy: 0,
+        };
     }
-    let sent = write_sent(kind, grade as usize, message, frame);
+    let sent = write_sent(kind, grade as usize, number, message, frame);
     Outcome {
-        number,
+        number: refusal,
         energy: sent.energy,
     }
 }

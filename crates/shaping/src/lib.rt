@@ -4,11 +4,12 @@ ghost use mathlib.Core.Path.{_≡_};
 ghost use mathlib.Core.Bool.{cond};
 ghost use Prim.Native.Nat.{_/_, _%_, _^_, _<_, _≤_};
 ghost use lib.ListN.{length};
-ghost use lib.IntN.{pos, natAbs, _+ℤ_, _-ℤ_, _*ℤ_};
+ghost use lib.IntN.{pos, negℤ, natAbs, _+ℤ_, _-ℤ_, _*ℤ_};
 ghost use lib.Signed.{ltZ, shrZ};
 ghost use Rattle.e8.specs.Energy.{Within};
 ghost use Rattle.e8.specs.Lattice.{bit};
-ghost use Rattle.e8.specs.Least.{leastBlock, leastFrame};
+ghost use Rattle.e8.specs.Least.{leastBlock};
+ghost use Rattle.e8.specs.Ties.{negated, leastBlockBy, leastFrameBy};
 ghost use Rattle.shaping.specs.Rounded.{across, wholeFirst, rankOf, ranksOf, largerOf, smallerOf, among, memberOf, members, Rounded};
 
 // The larger of two.
@@ -228,12 +229,46 @@ pub fn least(k: u32, x: [i32; 8]) -> [i32; 8]
     chosen(t as i32, whole, half)
 }
 
-// Shapes a frame in place, block by block, for the scale M = 2^(k + 1). In the library `least` is called here alone and has no branch: the compiler lays it
-// into the loop, and takes four blocks side by side.
-pub fn shape(k: u32, frame: &mut [i32])
+// A coordinate, with its sign changed where `turn` is set.
+fn signed(turn: bool, z: i32) -> i32
+    requires { ⌜ natAbs z ≤ 2 ^ 24 ⌝ }
+    ensures { λ r. ⌜ r ≡ cond turn (negℤ z) z ⌝ }
+{
+    if turn { 0 - z } else { z }
+}
+
+// A block, likewise.
+fn turned(turn: bool, x: [i32; 8]) -> [i32; 8]
+    requires { ⌜ Within (2 ^ 24) x ⌝ }
+    ensures { λ r. ⌜ r ≡ cond turn (negated x) x ⌝ }
+{
+    let mut r = x;
+    let mut i: usize = 0;
+    while i < 8 {
+        let z = x[i];
+        r[i] = signed(turn, z);
+        i += 1;
+    }
+    r
+}
+
+// The member of a block's class that is sent by either tie rule: among equals the first in reading order, or where `last` is set the last, which is the
+// first of the negated class, negated.
+fn least_by(last: bool, k: u32, x: [i32; 8]) -> [i32; 8]
+    requires { ⌜ (k ≤ 6) × Within (2 ^ 24) x ⌝ }
+    ensures { λ r. ⌜ r ≡ leastBlockBy last (2 ^ k) x ⌝ }
+{
+    let y = turned(last, x);
+    let z = least(k, y);
+    turned(last, z)
+}
+
+// Shapes a frame in place, block by block, for the scale M = 2^(k + 1), by either tie rule. In the library `least` is called for this alone and has no
+// branch: the compiler lays it into the loop, and takes four blocks side by side.
+pub fn shape(last: bool, k: u32, frame: &mut [i32])
     requires { ⌜ (k ≤ 6) × (length (now frame) % 8 ≡ 0) × (length (now frame) ≤ 1024)
         × Within (2 ^ 24) (now frame) × (8 ≤ length (now frame)) ⌝ }
-    ensures { λ _. ⌜ now (frame .exit) ≡ leastFrame (2 ^ k) (length (now (frame .entry)) / 8) (now (frame .entry)) ⌝ }
+    ensures { λ _. ⌜ now (frame .exit) ≡ leastFrameBy last (2 ^ k) (length (now (frame .entry)) / 8) (now (frame .entry)) ⌝ }
 {
     let all = frame.len() / 8;
     let mut j: usize = 0;
@@ -241,7 +276,7 @@ pub fn shape(k: u32, frame: &mut [i32])
         let s = 8 * j;
         let e = s + 8;
         let x = coordinates::load(&frame[s..e]);
-        let y = least(k, x);
+        let y = least_by(last, k, x);
         coordinates::store(y, &mut frame[s..e]);
         j += 1;
     }

@@ -1,12 +1,14 @@
 // Lists the sheets of a coder that was written apart (tools/second-coder, which writes data/sheets.bin), and holds each to
-// the listing that stands there. The lines are asked for from the first place on, also of a long sheet, which has none. It prints
-// how many sheets have their listing, after a line for each that has not. Before, it prints the listings of an empty sheet and of two
+// the listing that stands there. The lines are asked for from the first place on, numbered from 0, also of a long sheet, which has none. It
+// prints how many sheets have their listing, after a line for each that has not. Before, it prints the listings of an empty sheet and of two
 // long ones, as the sheet program does.
 use fields::fill;
 use fields::number;
 use fields::write;
 use fields::write_number;
 use libc::STDOUT_FILENO;
+ghost use Prim.Native.Nat.{_≤_};
+ghost use lib.ListN.{length};
 
 // What is left of the listing that the file has, and whether what was put so far is the same.
 struct Progress {
@@ -69,7 +71,9 @@ fn take_text(fd: i32, text: &[u8], at: Progress) -> Progress {
 }
 
 // Whether the sheet has the listing that comes next in the file, of so many bytes, and goes on from the place `start`.
-fn lists(fd: i32, sheet: &[u8], start: usize, count: usize) -> bool {
+fn lists(fd: i32, sheet: &[u8], start: usize, count: usize) -> bool
+    requires { ⌜ length (now sheet) ≤ 65536 ⌝ }
+{
     let n = sheet.len();
     let mut out = [0u8; 1024];
     let first = listing::begin(sheet, &mut out);
@@ -82,10 +86,12 @@ fn lists(fd: i32, sheet: &[u8], start: usize, count: usize) -> bool {
         },
     );
     let mut p: usize = 0;
+    let mut number: u32 = 0;
     while p < n {
-        let line = listing::line(sheet, p, &mut out);
+        let line = listing::line(sheet, p, number, &mut out);
         at = take_text(fd, &out[..line.length], at);
         p = line.next;
+        number += 1;
     }
     skip(fd, at.left);
     if 0 < at.left {

@@ -58,14 +58,32 @@ fn mark_bytes() -> [u8; 48]
     [165; 48]
 }
 
+// What a vector is sent and read under: its kind, its grade and its number; and what the strict reading answers under the number beside it.
+pub struct Under {
+    pub kind: u8,
+    pub grade: u8,
+    pub number: u32,
+    pub other: u8,
+}
+
+// The same under the number beside it, which has the other parity.
+fn beside(u: Under) -> Under {
+    Under {
+        kind: u.kind,
+        grade: u.grade,
+        number: u.number ^ 1,
+        other: u.other,
+    }
+}
+
 // The message is sent as the frame, with its energy.
-fn sends(kind: u8, grade: u8, message: &[u8], frame: &[i32], energy: u64) -> bool {
+fn sends(u: Under, message: &[u8], frame: &[i32], energy: u64) -> bool {
     let n = frame.len();
     let mut out = marks();
     if 64 < n {
         return false;
     }
-    let r = sending::send(kind, grade, message, &mut out[0..n]);
+    let r = sending::send(u.kind, u.grade, u.number, message, &mut out[0..n]);
     if r.number != 0 {
         return false;
     }
@@ -75,21 +93,21 @@ fn sends(kind: u8, grade: u8, message: &[u8], frame: &[i32], energy: u64) -> boo
     begins(&out, frame)
 }
 
-fn read(strict: bool, kind: u8, grade: u8, frame: &[i32], message: &mut [u8]) -> reading::Reading {
+fn read(strict: bool, u: Under, frame: &[i32], message: &mut [u8]) -> reading::Reading {
     if strict {
-        return reading::read_strict(kind, grade, frame, message);
+        return reading::read_strict(u.kind, u.grade, u.number, frame, message);
     }
-    reading::read_open(kind, grade, frame, message)
+    reading::read_open(u.kind, u.grade, frame, message)
 }
 
 // The frame is read as the message, with the energy.
-fn reads(strict: bool, kind: u8, grade: u8, frame: &[i32], message: &[u8], energy: u64) -> bool {
+fn reads(strict: bool, u: Under, frame: &[i32], message: &[u8], energy: u64) -> bool {
     let n = message.len();
     let mut out = mark_bytes();
     if 48 < n {
         return false;
     }
-    let r = read(strict, kind, grade, frame, &mut out[0..n]);
+    let r = read(strict, u, frame, &mut out[0..n]);
     if r.number != 0 {
         return false;
     }
@@ -100,13 +118,13 @@ fn reads(strict: bool, kind: u8, grade: u8, frame: &[i32], message: &[u8], energ
 }
 
 // The reading answers the number; where that is a refusal, the n bytes stay as they were.
-fn answers(strict: bool, kind: u8, grade: u8, frame: &[i32], n: usize, number: u8) -> bool {
+fn answers(strict: bool, u: Under, frame: &[i32], n: usize, number: u8) -> bool {
     let mut out = mark_bytes();
     let as_lent = mark_bytes();
     if 48 < n {
         return false;
     }
-    let r = read(strict, kind, grade, frame, &mut out[0..n]);
+    let r = read(strict, u, frame, &mut out[0..n]);
     if r.number != number {
         return false;
     }
@@ -180,119 +198,122 @@ fn coordinate(z: i32, p: usize, a: usize, e: usize, by: u8) -> i32 {
 }
 
 // Another frame of the sent frame's class: the open reading gives the message, with the energy, and the strict reading 9.
-fn equivalent(kind: u8, grade: u8, frame: &[i32], message: &[u8], energy: u64) -> bool {
-    if !reads(false, kind, grade, frame, message, energy) {
+fn equivalent(u: Under, frame: &[i32], message: &[u8], energy: u64) -> bool {
+    if !reads(false, u, frame, message, energy) {
         return false;
     }
-    answers(true, kind, grade, frame, message.len(), 9)
+    answers(true, u, frame, message.len(), 9)
 }
 
 // The frame with a point of the lattice added: M at two places of the first block, M/2 at each place of the last.
 fn hold_points(
     v: u64,
-    kind: u8,
-    grade: u8,
+    u: Under,
     message: &[u8],
     frame: &[i32],
     energies: Energies,
-    tally: &mut [u64; 10],
+    tally: &mut [u64; 12],
 )
     requires { ⌜ (8 ≤ length (now frame)) × (length (now frame) ≤ 64) ⌝ }
 {
     let n = frame.len();
-    let m = scale(kind, grade);
+    let m = scale(u.kind, u.grade);
     let whole = moved(frame, 0, 2, m);
     judge(
         tally,
         v,
         tally::WHOLE,
-        equivalent(kind, grade, &whole[0..n], message, energies.whole),
+        equivalent(u, &whole[0..n], message, energies.whole),
     );
     let half = moved(frame, n - 8, n, m / 2);
     judge(
         tally,
         v,
         tally::HALF,
-        equivalent(kind, grade, &half[0..n], message, energies.half),
+        equivalent(u, &half[0..n], message, energies.half),
     );
 }
 
 // The frame with its first coordinate moved: both readings answer the number.
-fn breaks(kind: u8, grade: u8, message: &[u8], frame: &[i32], by: u8, number: u8) -> bool
+fn breaks(u: Under, message: &[u8], frame: &[i32], by: u8, number: u8) -> bool
     requires { ⌜ length (now frame) ≤ 64 ⌝ }
 {
     let n = frame.len();
     let other = moved(frame, 0, 1, by);
-    if !answers(false, kind, grade, &other[0..n], message.len(), number) {
+    if !answers(false, u, &other[0..n], message.len(), number) {
         return false;
     }
-    answers(true, kind, grade, &other[0..n], message.len(), number)
+    answers(true, u, &other[0..n], message.len(), number)
 }
 
 // The frame moved out of the coding set: by 1, by 2 where there is a level 1, and by 4 where there is a level 2.
-fn hold_broken(v: u64, kind: u8, grade: u8, message: &[u8], frame: &[i32], tally: &mut [u64; 10])
+fn hold_broken(v: u64, u: Under, message: &[u8], frame: &[i32], tally: &mut [u64; 12])
     requires { ⌜ length (now frame) ≤ 64 ⌝ }
 {
-    judge(
-        tally,
-        v,
-        tally::ONE,
-        breaks(kind, grade, message, frame, 1, 7),
-    );
-    if kind == 3 {
+    judge(tally, v, tally::ONE, breaks(u, message, frame, 1, 7));
+    if u.kind == 3 {
+        return;
+    }
+    judge(tally, v, tally::TWO, breaks(u, message, frame, 2, 8));
+    if u.kind != 6 {
+        return;
+    }
+    judge(tally, v, tally::FOUR, breaks(u, message, frame, 4, 13));
+}
+
+// Under the number of the other parity the strict reading passes the frame where it is the only one of least energy, and refuses it else.
+fn hold_other(v: u64, u: Under, message: &[u8], frame: &[i32], energy: u64, tally: &mut [u64; 12]) {
+    if u.other == 0 {
+        judge(
+            tally,
+            v,
+            tally::PASSED,
+            reads(true, beside(u), frame, message, energy),
+        );
         return;
     }
     judge(
         tally,
         v,
-        tally::TWO,
-        breaks(kind, grade, message, frame, 2, 8),
-    );
-    if kind != 6 {
-        return;
-    }
-    judge(
-        tally,
-        v,
-        tally::FOUR,
-        breaks(kind, grade, message, frame, 4, 13),
+        tally::REFUSED,
+        answers(true, beside(u), frame, message.len(), u.other),
     );
 }
 
 // All checks of vector v.
 pub fn hold(
     v: u64,
-    kind: u8,
-    grade: u8,
+    u: Under,
     message: &[u8],
     frame: &[i32],
     energies: Energies,
-    tally: &mut [u64; 10],
+    tally: &mut [u64; 12],
 ) {
     judge(
         tally,
         v,
         tally::SENT,
-        sends(kind, grade, message, frame, energies.sent),
+        sends(u, message, frame, energies.sent),
     );
     judge(
         tally,
         v,
         tally::OPEN,
-        reads(false, kind, grade, frame, message, energies.sent),
+        reads(false, u, frame, message, energies.sent),
     );
     judge(
         tally,
         v,
         tally::STRICT,
-        reads(true, kind, grade, frame, message, energies.sent),
+        reads(true, u, frame, message, energies.sent),
     );
+    hold_other(v, u, message, frame, energies.sent, tally);
     if frame.len() < 8 {
         return;
     }
     if 64 < frame.len() {
         return;
     }
-    hold_points(v, kind, grade, message, frame, energies, tally);
-    hold_broken(v, kind, grade, message, frame, tally);
+    hold_points(v, u, message, frame, energies, tally);
+    hold_broken(v, u, message, frame, tally);
 }

@@ -1,7 +1,7 @@
 // Holds sending and the two readings to the vectors of a coder that was written apart (tools/second-coder, which
-// writes data/vectors.bin). Each vector is sent, read back openly and strictly, and read again with a lattice point added, for which
-// the other coder has the energy too, and with a coordinate moved out of the coding set. It prints how many passed each check, after
-// a line for each that did not.
+// writes data/vectors.bin). Each vector is sent under its number, read back openly and strictly, strictly too under the number beside its
+// own, which has the other parity, and read again with a lattice point added, for which the other coder has the energy too, and with a
+// coordinate moved out of the coding set. It prints how many passed each check, after a line for each that did not.
 mod checks;
 mod record;
 mod tally;
@@ -10,7 +10,7 @@ mod tally;
 const MOST: u64 = 1000000;
 
 // Takes record after record, to the end of the file or to one that is not whole.
-fn take_all(fd: i32, tally: &mut [u64; 10]) {
+fn take_all(fd: i32, tally: &mut [u64; 12]) {
     let mut v: u64 = 0;
     while v < MOST {
         v += 1;

@@ -1,8 +1,10 @@
-// A record of the data: kind, grade, message, coordinates and energies, numbers lowest byte first.
+// A record of the data: kind, grade, number, message, coordinates and energies, numbers lowest byte first.
 use super::checks::Energies;
+use super::checks::Under;
 use super::checks::hold;
 use super::tally::RECORD;
 use super::tally::judge;
+use fields::count;
 use fields::fill;
 use fields::number;
 use fields::size;
@@ -11,11 +13,10 @@ use fields::size;
 fn take_frame(
     fd: i32,
     v: u64,
-    kind: u8,
-    grade: u8,
+    under: Under,
     message: &[u8],
     n: usize,
-    tally: &mut [u64; 10],
+    tally: &mut [u64; 12],
 ) -> bool {
     let mut bytes = [0u8; 256];
     let mut numbers = [0u8; 24];
@@ -35,12 +36,12 @@ fn take_frame(
         whole: number(&numbers[8..16]),
         half: number(&numbers[16..24]),
     };
-    hold(v, kind, grade, message, &frame[0..n], energies, tally);
+    hold(v, under, message, &frame[0..n], energies, tally);
     true
 }
 
 // Takes a record from its message on.
-fn take_rest(fd: i32, v: u64, kind: u8, grade: u8, m: usize, tally: &mut [u64; 10]) -> bool {
+fn take_rest(fd: i32, v: u64, under: Under, m: usize, tally: &mut [u64; 12]) -> bool {
     let mut message = [0u8; 47];
     if 46 < m {
         return false;
@@ -49,22 +50,28 @@ fn take_rest(fd: i32, v: u64, kind: u8, grade: u8, m: usize, tally: &mut [u64; 1
         return false;
     }
     let n = size(message[m]);
-    take_frame(fd, v, kind, grade, &message[0..m], n, tally)
+    take_frame(fd, v, under, &message[0..m], n, tally)
 }
 
 // Takes record v, and answers whether there was one. A record that is cut short, or has more than 46 message bytes or 64
 // coordinates, is a difference, and the last one taken.
-pub fn take(fd: i32, v: u64, tally: &mut [u64; 10]) -> bool {
-    let mut head = [0u8; 3];
+pub fn take(fd: i32, v: u64, tally: &mut [u64; 12]) -> bool {
+    let mut head = [0u8; 8];
     let got = io::read_full(fd, &mut head);
     if got == 0 {
         return false;
     }
-    if got < 3 {
+    if got < 8 {
         judge(tally, v, RECORD, false);
         return false;
     }
-    let whole = take_rest(fd, v, head[0], head[1], size(head[2]), tally);
+    let under = Under {
+        kind: head[0],
+        grade: head[1],
+        number: count(&head[3..7]),
+        other: head[7],
+    };
+    let whole = take_rest(fd, v, under, size(head[2]), tally);
     judge(tally, v, RECORD, whole);
     whole
 }

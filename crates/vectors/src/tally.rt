@@ -10,20 +10,24 @@ pub const OPEN: usize = 2;
 
 pub const STRICT: usize = 3;
 
-pub const WHOLE: usize = 4;
+pub const PASSED: usize = 4;
 
-pub const HALF: usize = 5;
+pub const REFUSED: usize = 5;
 
-pub const ONE: usize = 6;
+pub const WHOLE: usize = 6;
 
-pub const TWO: usize = 7;
+pub const HALF: usize = 7;
 
-pub const FOUR: usize = 8;
+pub const ONE: usize = 8;
 
-pub const DIFFERENT: usize = 9;
+pub const TWO: usize = 9;
 
-pub fn zeros() -> [u64; 10] {
-    [0; 10]
+pub const FOUR: usize = 10;
+
+pub const DIFFERENT: usize = 11;
+
+pub fn zeros() -> [u64; 12] {
+    [0; 12]
 }
 
 fn write_name(check: usize) {
@@ -32,6 +36,8 @@ fn write_name(check: usize) {
         SENT => write(b"sent"),
         OPEN => write(b"read openly"),
         STRICT => write(b"read strictly"),
+        PASSED => write(b"passed by the other parity"),
+        REFUSED => write(b"refused by the other parity"),
         WHOLE => write(b"moved by a whole point"),
         HALF => write(b"moved by a half point"),
         ONE => write(b"moved by one"),
@@ -41,8 +47,8 @@ fn write_name(check: usize) {
     }
 }
 
-fn raise(tally: &mut [u64; 10], check: usize) {
-    if check < 10 {
+fn raise(tally: &mut [u64; 12], check: usize) {
+    if check < 12 {
         if tally[check] < 1000000 {
             tally[check] += 1;
         }
@@ -50,7 +56,7 @@ fn raise(tally: &mut [u64; 10], check: usize) {
 }
 
 // Counts a check that passed. One that did not is a difference, and has a line with the number of its vector.
-pub fn judge(tally: &mut [u64; 10], number: u64, check: usize, passed: bool) {
+pub fn judge(tally: &mut [u64; 12], number: u64, check: usize, passed: bool) {
     if passed {
         raise(tally, check);
         return;
@@ -63,8 +69,8 @@ pub fn judge(tally: &mut [u64; 10], number: u64, check: usize, passed: bool) {
     write(b"\n");
 }
 
-fn print_one(tally: &[u64; 10], check: usize) {
-    if check < 10 {
+fn print_one(tally: &[u64; 12], check: usize) {
+    if check < 12 {
         write_name(check);
         write(b" ");
         write_number(tally[check]);
@@ -73,11 +79,13 @@ fn print_one(tally: &[u64; 10], check: usize) {
 }
 
 // A line for each check.
-pub fn print(tally: &[u64; 10]) {
+pub fn print(tally: &[u64; 12]) {
     print_one(tally, RECORD);
     print_one(tally, SENT);
     print_one(tally, OPEN);
     print_one(tally, STRICT);
+    print_one(tally, PASSED);
+    print_one(tally, REFUSED);
     print_one(tally, WHOLE);
     print_one(tally, HALF);
     print_one(tally, ONE);

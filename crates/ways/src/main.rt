@@ -1,7 +1,8 @@
 // Sends the same messages both ways, by whole words of the levels (`coder_send`) and by the mask test at every position (`plain_send`), and
-// holds the answers and the frames to each other. The messages are of every kind and grade: each bit alone, sparse, dense, and such as
-// have several frames of least energy, found by a coder that was written apart (tools/second-coder, which writes data/ways.bin); and some
-// calls that are refused. It prints how many of each sort came out equal, after a line for each that did not.
+// holds the answers and the frames to each other, each message under an even number and an odd one. The messages are of every kind and
+// grade: each bit alone, sparse, dense, and such as have several frames of least energy, found by a coder that was written apart
+// (tools/second-coder, which writes data/ways.bin); and some calls that are refused. It prints how many of each sort came out equal, after a
+// line for each that did not.
 mod record;
 mod tally;
 

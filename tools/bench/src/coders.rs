@@ -2,65 +2,79 @@
 //! energy, or gives the number of a refusal and leaves what it is lent as it was. Of a queue each gives
 //! how many are sent, and the number of the refusal, 0 where all are.
 
-use bench::hand;
+use bench::{exported, hand};
 use frame_coder::{by_number, Account, Refusal};
 use second_coder::{account, frame};
 
-/// The count, the sum and the largest block energy of an account.
-pub type Figures = (u32, f64, u64);
+pub use bench::exported::Figures;
 
 type Answer = Result<u64, u8>;
-type Sending = fn(u8, u8, &[u8], &mut [i32]) -> Answer;
+type Sending = fn(u8, u8, u32, &[u8], &mut [i32]) -> Answer;
+type Opening = fn(u32, &mut Figures) -> Answer;
 type Counting = fn(u8, u8, &[u8], &mut [i32], &mut Figures) -> Answer;
 type Queueing = fn(u8, u8, &[u8], &mut [i32], &mut Figures) -> (usize, u8);
 type Reading = fn(u8, u8, &[i32], &mut [u8]) -> Answer;
+type Judging = fn(u8, u8, u32, &[i32], &mut [u8]) -> Answer;
 
 pub struct Coder {
     pub name: &'static str,
     pub send: Sending,
+    pub open: Opening,
     pub send_counted: Counting,
     pub send_queue: Queueing,
     pub read_open: Reading,
-    pub read_strict: Reading,
+    pub read_strict: Judging,
 }
 
 /// The library, the hand-tuned coder and the second coder.
 pub const CODERS: [Coder; 3] = [
     Coder {
         name: "library",
-        send: |kind, grade, message, frame| by_number::send(kind, grade, message, frame).map_err(Refusal::number),
+        send: |kind, grade, number, message, frame| {
+            by_number::send(kind, grade, number, message, frame).map_err(Refusal::number)
+        },
+        // The exported function, which leaves an account also where it refuses.
+        open: |changeover, figures| match exported::open(changeover, figures) {
+            answer @ 0.. => Ok(answer as u64),
+            answer => Err(-answer as u8),
+        },
         send_counted: |kind, grade, message, frame, figures| {
-            let mut account = Account::from_parts(figures.0, figures.1, figures.2);
+            let mut account = Account::from_parts(figures.0, figures.1, figures.2, figures.3);
             let answer = by_number::send_counted(kind, grade, message, frame, &mut account);
-            *figures = (account.count(), account.sum(), account.largest());
+            *figures = (account.count(), account.sum(), account.largest(), account.changeover());
             answer.map_err(Refusal::number)
         },
         send_queue: |kind, grade, messages, frames, figures| {
-            let mut account = Account::from_parts(figures.0, figures.1, figures.2);
+            let mut account = Account::from_parts(figures.0, figures.1, figures.2, figures.3);
             let queued = by_number::send_queue(kind, grade, messages, frames, &mut account);
-            *figures = (account.count(), account.sum(), account.largest());
+            *figures = (account.count(), account.sum(), account.largest(), account.changeover());
             queued.map_or_else(|stopped| (stopped.sent, stopped.refusal.number()), |sent| (sent, 0))
         },
         read_open: |kind, grade, frame, message| {
             by_number::read_open(kind, grade, frame, message).map_err(Refusal::number)
         },
-        read_strict: |kind, grade, frame, message| {
-            by_number::read_strict(kind, grade, frame, message).map_err(Refusal::number)
+        read_strict: |kind, grade, number, frame, message| {
+            by_number::read_strict(kind, grade, number, frame, message).map_err(Refusal::number)
         },
     },
     Coder {
         name: "by hand",
         send: hand::send,
+        open: |changeover, figures| {
+            let (account, number) = hand::open(changeover);
+            *figures = by_hand_figures(account);
+            opened(number)
+        },
         send_counted: |kind, grade, message, frame, figures| {
-            let mut account = hand::Account { count: figures.0, sum: figures.1, largest: figures.2 };
+            let mut account = by_hand(figures);
             let answer = hand::send_counted(kind, grade, message, frame, &mut account);
-            *figures = (account.count, account.sum, account.largest);
+            *figures = by_hand_figures(account);
             answer
         },
         send_queue: |kind, grade, messages, frames, figures| {
-            let mut account = hand::Account { count: figures.0, sum: figures.1, largest: figures.2 };
+            let mut account = by_hand(figures);
             let queued = hand::send_queue(kind, grade, messages, frames, &mut account);
-            *figures = (account.count, account.sum, account.largest);
+            *figures = by_hand_figures(account);
             queued
         },
         read_open: hand::read_open,
@@ -68,24 +82,27 @@ pub const CODERS: [Coder; 3] = [
     },
     Coder {
         name: "second coder",
-        send: |kind, grade, message, frame| {
-            let sent = frame::send_into(kind, grade, message, frame.len())?;
+        send: |kind, grade, number, message, frame| {
+            let sent = frame::send_into(kind, grade, number, message, frame.len())?;
             narrow(&sent.frame, frame);
             Ok(sent.energy)
         },
+        open: |changeover, figures| {
+            let (number, account) = account::open(changeover);
+            *figures = second_figures(account);
+            opened(number)
+        },
         send_counted: |kind, grade, message, frame, figures| {
-            let before = account::Account { count: figures.0, sum: figures.1, largest: figures.2 };
-            let (sent, account) = account::send_counted(kind, grade, message, frame.len(), before)?;
+            let (sent, account) = account::send_counted(kind, grade, message, frame.len(), second(figures))?;
             narrow(&sent.frame, frame);
-            *figures = (account.count, account.sum, account.largest);
+            *figures = second_figures(account);
             Ok(sent.energy)
         },
         send_queue: |kind, grade, messages, frames, figures| {
-            let before = account::Account { count: figures.0, sum: figures.1, largest: figures.2 };
             let mut left = wide(frames);
-            let queued = account::send_queue(kind, grade, messages, &mut left, before);
+            let queued = account::send_queue(kind, grade, messages, &mut left, second(figures));
             narrow(&left, frames);
-            *figures = (queued.account.count, queued.account.sum, queued.account.largest);
+            *figures = second_figures(queued.account);
             (queued.sent, queued.number)
         },
         read_open: |kind, grade, frame, message| {
@@ -93,13 +110,37 @@ pub const CODERS: [Coder; 3] = [
             message.copy_from_slice(&read);
             Ok(energy)
         },
-        read_strict: |kind, grade, frame, message| {
-            let (read, energy) = frame::read_strict_into(kind, grade, &wide(frame), message.len())?;
+        read_strict: |kind, grade, number, frame, message| {
+            let (read, energy) = frame::read_strict_into(kind, grade, number, &wide(frame), message.len())?;
             message.copy_from_slice(&read);
             Ok(energy)
         },
     },
 ];
+
+/// What an opening answers.
+fn opened(number: u8) -> Answer {
+    match number {
+        0 => Ok(0),
+        _ => Err(number),
+    }
+}
+
+fn by_hand(&(count, sum, largest, changeover): &Figures) -> hand::Account {
+    hand::Account { count, sum, largest, changeover }
+}
+
+fn by_hand_figures(account: hand::Account) -> Figures {
+    (account.count, account.sum, account.largest, account.changeover)
+}
+
+fn second(&(count, sum, largest, changeover): &Figures) -> account::Account {
+    account::Account { count, sum, largest, changeover }
+}
+
+fn second_figures(account: account::Account) -> Figures {
+    (account.count, account.sum, account.largest, account.changeover)
+}
 
 fn wide(frame: &[i32]) -> Vec<i64> {
     frame.iter().map(|&x| x as i64).collect()

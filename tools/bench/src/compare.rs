@@ -4,7 +4,7 @@ use std::fmt::Debug;
 use std::ops::RangeInclusive;
 use std::sync::atomic::{AtomicU64, Ordering};
 
-use crate::coders::{Coder, CODERS};
+use crate::coders::{Coder, Figures, CODERS};
 use crate::{dense, lengths, levels};
 use bench::random::Random;
 use bench::{exported, hand};
@@ -22,7 +22,7 @@ pub struct Plan {
 /// queues among them and the messages sent in these, those of sending both ways, and those that differ.
 struct Tally {
     coders: &'static [Coder],
-    answers: [u64; 14],
+    answers: [u64; 15],
     queues: u64,
     queued: u64,
     blocks: [u64; 2],
@@ -99,6 +99,27 @@ fn message(kind: u8, grade: u8, random: &mut Random) -> Vec<u8> {
     }
 }
 
+/// A number: one of the first, of the last, about the middle, or any.
+fn number(random: &mut Random) -> u32 {
+    match random.below(4) {
+        0 => random.below(4) as u32,
+        1 => u32::MAX - random.below(4) as u32,
+        2 => (1 << 31) - 2 + random.below(4) as u32,
+        _ => random.word() as u32,
+    }
+}
+
+/// A changeover for so many frames from a count on: beside one of them, at the ends of what is opened or past them, or any.
+fn changeover(count: u32, frames: u64, random: &mut Random) -> u32 {
+    match random.below(8) {
+        0..=3 => count.wrapping_add(random.below(frames + 2) as u32),
+        4 => count.wrapping_sub(1),
+        5 => 0,
+        6 => 999_999 + random.below(3) as u32,
+        _ => random.word() as u32,
+    }
+}
+
 /// A frame, damaged: one coordinate moved at one level, or at several; two moved alike, which is a
 /// codeword of the last level of kind 6; another frame added, whose carries may break a level; a
 /// coordinate moved by the scale, or to anywhere, to the ends of the range and past them; or a
@@ -118,7 +139,7 @@ fn damaged(kind: u8, grade: u8, frame: &[i32], random: &mut Random) -> Vec<i32> 
         }
         4..=5 => {
             let mut other = vec![0; frame.len()];
-            hand::send(kind, grade, &dense(kind, grade, random), &mut other).expect("the message is good");
+            hand::send(kind, grade, 0, &dense(kind, grade, random), &mut other).expect("the message is good");
             frame.iter_mut().zip(other).for_each(|(x, z)| *x += z);
         }
         6 => frame[place] += scale * (random.below(5) as i32 - 2),
@@ -142,7 +163,7 @@ fn damaged(kind: u8, grade: u8, frame: &[i32], random: &mut Random) -> Vec<i32> 
 /// frame or beside it, or any, also the largest that there is.
 fn largest(kind: u8, grade: u8, message: &[u8], length: usize, random: &mut Random) -> u64 {
     let mut frame = vec![0; length];
-    let _ = hand::send(kind, grade, message, &mut frame);
+    let _ = hand::send(kind, grade, 0, message, &mut frame);
     let energy = |block: &[i32]| block.iter().map(|x| (x * x) as u64).sum::<u64>();
     let own = frame.chunks(8).map(energy).max().unwrap_or(0);
     match random.below(8) {
@@ -163,31 +184,54 @@ fn sum(random: &mut Random) -> f64 {
     }
 }
 
-fn sendings(kind: u8, grade: u8, message: &[u8], length: usize, random: &mut Random, tally: &mut Tally) {
-    tally.ask("send", &(kind, grade, message), |coder| {
+/// The figures with the sum by its bits, as it may be no number.
+fn by_bits((count, sum, largest, changeover): Figures) -> (u32, u64, u64, u32) {
+    (count, sum.to_bits(), largest, changeover)
+}
+
+/// A message sent under a number, and with an account.
+fn sendings(kind: u8, grade: u8, number: u32, message: &[u8], length: usize, random: &mut Random, tally: &mut Tally) {
+    tally.ask("send", &(kind, grade, number, message), |coder| {
         let mut frame = vec![77; length];
-        ((coder.send)(kind, grade, message, &mut frame), frame)
+        ((coder.send)(kind, grade, number, message, &mut frame), frame)
     });
     let count = [0, 5, 999_998, 999_999, 1_000_000, 1_000_001, u32::MAX][random.below(7) as usize];
     let sum = sum(random);
     let largest = largest(kind, grade, message, length, random);
-    tally.ask("send_counted", &(kind, grade, message, count, sum, largest), |coder| {
-        let (mut frame, mut figures) = (vec![77; length], (count, sum, largest));
+    let account = (count, sum, largest, changeover(count, 1, random));
+    tally.ask("send_counted", &(kind, grade, message, account), |coder| {
+        let (mut frame, mut figures) = (vec![77; length], account);
         let answer = (coder.send_counted)(kind, grade, message, &mut frame, &mut figures);
-        (answer, (frame, figures.0, figures.1.to_bits(), figures.2))
+        (answer, (frame, by_bits(figures)))
     });
 }
 
-fn readings(kind: u8, grade: u8, frame: &[i32], bytes: usize, tally: &mut Tally) {
-    let input = (kind, grade, frame, bytes);
-    tally.ask("read_open", &input, |coder| {
+/// An account opened over other figures.
+fn opening(random: &mut Random, tally: &mut Tally) {
+    let changeover = match random.below(4) {
+        0 => random.below(3) as u32,
+        1 => 999_999 + random.below(3) as u32,
+        2 => random.below(1_000_001) as u32,
+        _ => random.word() as u32,
+    };
+    tally.ask("open", &changeover, |coder| {
+        let mut figures = (7, 0.25, 3, 9);
+        ((coder.open)(changeover, &mut figures), by_bits(figures))
+    });
+}
+
+/// A frame read openly, and strictly under each of these numbers.
+fn readings(kind: u8, grade: u8, numbers: &[u32], frame: &[i32], bytes: usize, tally: &mut Tally) {
+    tally.ask("read_open", &(kind, grade, frame, bytes), |coder| {
         let mut message = vec![0xA5; bytes];
         ((coder.read_open)(kind, grade, frame, &mut message), message)
     });
-    tally.ask("read_strict", &input, |coder| {
-        let mut message = vec![0xA5; bytes];
-        ((coder.read_strict)(kind, grade, frame, &mut message), message)
-    });
+    for &number in numbers {
+        tally.ask("read_strict", &(kind, grade, number, frame, bytes), |coder| {
+            let mut message = vec![0xA5; bytes];
+            ((coder.read_strict)(kind, grade, number, frame, &mut message), message)
+        });
+    }
 }
 
 /// Wrong kinds, grades and lengths, with something in every buffer.
@@ -201,9 +245,10 @@ fn misfits(random: &mut Random, tally: &mut Tally) {
     let bytes = if random.below(2) == 0 { bytes } else { random.below(50) as usize };
     let mut message = vec![0; bytes];
     random.fill(&mut message);
-    sendings(kind, grade, &message, length, random, tally);
+    let number = number(random);
+    sendings(kind, grade, number, &message, length, random, tally);
     let frame: Vec<i32> = (0..length).map(|_| random.below(9) as i32 - 4).collect();
-    readings(kind, grade, &frame, bytes, tally);
+    readings(kind, grade, &[number], &frame, bytes, tally);
 }
 
 /// Eight coordinates, up to the scale in size or up to all that is shaped, in steps of 1, or of a
@@ -245,13 +290,13 @@ fn shaping(random: &mut Random, tally: &mut Tally) {
 }
 
 /// A message sent by whole words of the levels, and by the mask test at every position.
-fn both_ways(kind: u8, grade: u8, message: &[u8], length: usize, tally: &mut Tally) {
+fn both_ways(kind: u8, grade: u8, number: u32, message: &[u8], length: usize, tally: &mut Tally) {
     let answers = [exported::send, exported::plain_send].map(|send| {
         let mut frame = vec![77; length];
-        (send(kind, grade, message, &mut frame), frame)
+        (send(kind, grade, number, message, &mut frame), frame)
     });
     tally.ways += 1;
-    tally.compare("both ways", &(kind, grade, message), &answers);
+    tally.compare("both ways", &(kind, grade, number, message), &answers);
 }
 
 /// A kind and a grade of the plan.
@@ -260,9 +305,9 @@ fn format(plan: &Plan, random: &mut Random) -> (u8, u8) {
     (plan.kinds.start() + random.below(kinds) as u8, 1 + random.below(4) as u8)
 }
 
-/// A queue of up to 12 messages: at times with a spare bit set at one of them, an account that is full on the way or
-/// before it, bytes or coordinates too few or too many, or a wrong kind or grade. Every coordinate lent is another
-/// number, so that one that is moved shows.
+/// A queue of up to 12 messages, the changeover often at one of them: at times with a spare bit set at one of them, an
+/// account that is full on the way or before it, bytes or coordinates too few or too many, or a wrong kind or grade. Every
+/// coordinate lent is another number, so that one that is moved shows.
 fn queue(plan: &Plan, random: &mut Random, tally: &mut Tally) {
     let (mut kind, mut grade) = format(plan, random);
     let (length, bytes) = lengths(kind, grade);
@@ -281,7 +326,7 @@ fn queue(plan: &Plan, random: &mut Random, tally: &mut Tally) {
         4..=6 => 1_000_000 - random.below(number + 2) as u32,
         _ => [1_000_001, u32::MAX][random.below(2) as usize],
     };
-    let sum = sum(random);
+    let account = (count, sum(random), largest, changeover(count, number, random));
     let mut coordinates = length * number as usize;
     let mut beside = |x: usize| (x + random.below(7) as usize).saturating_sub(3);
     let (more_bytes, more_coordinates) = (beside(messages.len()), beside(coordinates));
@@ -298,37 +343,39 @@ fn queue(plan: &Plan, random: &mut Random, tally: &mut Tally) {
         _ => {}
     }
     tally.queues += 1;
-    let input = (kind, grade, &messages, coordinates, (count, sum, largest));
+    let input = (kind, grade, &messages, coordinates, account);
     let (sent, ..) = tally.ask("send_queue", &input, |coder| {
-        let (mut frames, mut figures) = ((1000..).take(coordinates).collect::<Vec<i32>>(), (count, sum, largest));
+        let (mut frames, mut figures) = ((1000..).take(coordinates).collect::<Vec<i32>>(), account);
         let (sent, number) = (coder.send_queue)(kind, grade, &messages, &mut frames, &mut figures);
         let answer = if number == 0 { Ok(0) } else { Err(number) };
-        (answer, (sent, frames, figures.0, figures.1.to_bits(), figures.2))
+        (answer, (sent, frames, by_bits(figures)))
     });
     tally.queued += sent as u64;
 }
 
-/// One message, its frame, and the frame damaged in three ways; at times calls that do not fit, and a queue.
+/// One message, its frame under a number, judged by it and by the other rule, and the frame damaged in three ways; at times
+/// calls that do not fit, an account opened, and a queue.
 fn frame(plan: &Plan, random: &mut Random, tally: &mut Tally) {
     let (kind, grade) = format(plan, random);
     let (length, bytes) = lengths(kind, grade);
-    let message = message(kind, grade, random);
-    sendings(kind, grade, &message, length, random, tally);
+    let (number, message) = (number(random), message(kind, grade, random));
+    sendings(kind, grade, number, &message, length, random, tally);
     let mut frame = vec![0; length];
-    if hand::send(kind, grade, &message, &mut frame).is_ok() {
-        readings(kind, grade, &frame, bytes, tally);
+    if hand::send(kind, grade, number, &message, &mut frame).is_ok() {
+        readings(kind, grade, &[number, number ^ 1], &frame, bytes, tally);
         for _ in 0..3 {
-            readings(kind, grade, &damaged(kind, grade, &frame, random), bytes, tally);
+            readings(kind, grade, &[number], &damaged(kind, grade, &frame, random), bytes, tally);
         }
     }
     if random.below(8) == 0 {
         misfits(random, tally);
+        opening(random, tally);
     }
     if random.below(4) == 0 {
         queue(plan, random, tally);
     }
     if !plan.all {
-        both_ways(kind, grade, &message, length, tally);
+        both_ways(kind, grade, number, &message, length, tally);
         shaping(random, tally);
     }
 }
@@ -356,7 +403,7 @@ fn take_parts(plan: &Plan, next: &AtomicU64, tally: &mut Tally) {
 pub fn run(plan: &Plan) -> u64 {
     let tally = || {
         let coders = if plan.all { &CODERS[..] } else { &CODERS[..2] };
-        Tally { coders, answers: [0; 14], queues: 0, queued: 0, blocks: [0; 2], ways: 0, different: 0 }
+        Tally { coders, answers: [0; 15], queues: 0, queued: 0, blocks: [0; 2], ways: 0, different: 0 }
     };
     let next = AtomicU64::new(0);
     let mut sum = tally();

@@ -4,10 +4,26 @@
 /// The archives' functions, as `frame_coder.h`, `block.h` and `plain.h` have them.
 mod archive {
     extern "C" {
-        pub fn coder_send(k: u8, b: u8, message: *const u8, bytes: usize, frame: *mut i32, length: usize) -> i64;
+        pub fn coder_send(
+            k: u8,
+            b: u8,
+            number: u32,
+            message: *const u8,
+            bytes: usize,
+            frame: *mut i32,
+            length: usize,
+        ) -> i64;
         pub fn coder_read_open(k: u8, b: u8, frame: *const i32, length: usize, message: *mut u8, bytes: usize) -> i64;
-        pub fn coder_read_strict(k: u8, b: u8, frame: *const i32, length: usize, message: *mut u8, bytes: usize)
-            -> i64;
+        pub fn coder_read_strict(
+            k: u8,
+            b: u8,
+            number: u32,
+            frame: *const i32,
+            length: usize,
+            message: *mut u8,
+            bytes: usize,
+        ) -> i64;
+        pub fn coder_open(changeover: u32, count: *mut u32, sum: *mut f64, largest: *mut u64, kept: *mut u32) -> i64;
         pub fn coder_send_counted(
             k: u8,
             b: u8,
@@ -18,6 +34,7 @@ mod archive {
             count: *mut u32,
             sum: *mut f64,
             largest: *mut u64,
+            changeover: u32,
         ) -> i64;
         pub fn coder_send_queue(
             k: u8,
@@ -29,39 +46,60 @@ mod archive {
             count: *mut u32,
             sum: *mut f64,
             largest: *mut u64,
+            changeover: u32,
             sent: *mut usize,
         ) -> i64;
-        pub fn plain_send(k: u8, b: u8, message: *const u8, bytes: usize, frame: *mut i32, length: usize) -> i64;
+        pub fn plain_send(
+            k: u8,
+            b: u8,
+            number: u32,
+            message: *const u8,
+            bytes: usize,
+            frame: *mut i32,
+            length: usize,
+        ) -> i64;
         pub fn block_least(k: u32, block: *const i32, block_len: usize, least: *mut i32, least_len: usize) -> bool;
     }
 }
 
-/// Sends: the energy, or minus the number of a refusal.
+/// Sends under a number: the energy, or minus the number of a refusal.
 #[inline(always)]
-pub fn send(kind: u8, grade: u8, message: &[u8], frame: &mut [i32]) -> i64 {
+pub fn send(kind: u8, grade: u8, number: u32, message: &[u8], frame: &mut [i32]) -> i64 {
+    let (message, bytes, frame, length) = (message.as_ptr(), message.len(), frame.as_mut_ptr(), frame.len());
     // SAFETY: both slices are lent for the call, the frame alone; the lengths are theirs.
-    unsafe { archive::coder_send(kind, grade, message.as_ptr(), message.len(), frame.as_mut_ptr(), frame.len()) }
+    unsafe { archive::coder_send(kind, grade, number, message, bytes, frame, length) }
 }
 
 /// The same by the mask test at every position.
 #[inline(always)]
-pub fn plain_send(kind: u8, grade: u8, message: &[u8], frame: &mut [i32]) -> i64 {
+pub fn plain_send(kind: u8, grade: u8, number: u32, message: &[u8], frame: &mut [i32]) -> i64 {
+    let (message, bytes, frame, length) = (message.as_ptr(), message.len(), frame.as_mut_ptr(), frame.len());
     // SAFETY: as in `send`.
-    unsafe { archive::plain_send(kind, grade, message.as_ptr(), message.len(), frame.as_mut_ptr(), frame.len()) }
+    unsafe { archive::plain_send(kind, grade, number, message, bytes, frame, length) }
 }
 
-/// Sends with the count, the sum and the largest block of an account.
+/// The count, the sum and the largest block of an account, and its changeover.
+pub type Figures = (u32, f64, u64, u32);
+
+/// Opens an account over these figures: 0, or minus the number of the refusal.
+#[inline(always)]
+pub fn open(changeover: u32, (count, sum, largest, kept): &mut Figures) -> i64 {
+    // SAFETY: the four numbers are lent for the call, each alone.
+    unsafe { archive::coder_open(changeover, count, sum, largest, kept) }
+}
+
+/// Sends with an account.
 #[inline(always)]
 pub fn send_counted(
     kind: u8,
     grade: u8,
     message: &[u8],
     frame: &mut [i32],
-    (count, sum, largest): &mut (u32, f64, u64),
+    (count, sum, largest, changeover): &mut Figures,
 ) -> i64 {
     let (message, bytes, frame, length) = (message.as_ptr(), message.len(), frame.as_mut_ptr(), frame.len());
     // SAFETY: as in `send`; the three numbers are lent for the call alone.
-    unsafe { archive::coder_send_counted(kind, grade, message, bytes, frame, length, count, sum, largest) }
+    unsafe { archive::coder_send_counted(kind, grade, message, bytes, frame, length, count, sum, largest, *changeover) }
 }
 
 /// Sends a queue with the same: 0, or minus the number of a refusal; `sent` is how many are sent.
@@ -71,12 +109,14 @@ pub fn send_queue(
     grade: u8,
     messages: &[u8],
     frames: &mut [i32],
-    (count, sum, largest): &mut (u32, f64, u64),
+    (count, sum, largest, changeover): &mut Figures,
     sent: &mut usize,
 ) -> i64 {
     let (messages, bytes, frames, length) = (messages.as_ptr(), messages.len(), frames.as_mut_ptr(), frames.len());
     // SAFETY: as in `send_counted`; `sent` too is lent for the call alone.
-    unsafe { archive::coder_send_queue(kind, grade, messages, bytes, frames, length, count, sum, largest, sent) }
+    unsafe {
+        archive::coder_send_queue(kind, grade, messages, bytes, frames, length, count, sum, largest, *changeover, sent)
+    }
 }
 
 /// Reads openly: the energy, or minus the number of a refusal.
@@ -86,11 +126,12 @@ pub fn read_open(kind: u8, grade: u8, frame: &[i32], message: &mut [u8]) -> i64 
     unsafe { archive::coder_read_open(kind, grade, frame.as_ptr(), frame.len(), message.as_mut_ptr(), message.len()) }
 }
 
-/// Reads strictly.
+/// Reads strictly under a number.
 #[inline(always)]
-pub fn read_strict(kind: u8, grade: u8, frame: &[i32], message: &mut [u8]) -> i64 {
+pub fn read_strict(kind: u8, grade: u8, number: u32, frame: &[i32], message: &mut [u8]) -> i64 {
+    let (frame, length, message, bytes) = (frame.as_ptr(), frame.len(), message.as_mut_ptr(), message.len());
     // SAFETY: as in `read_open`.
-    unsafe { archive::coder_read_strict(kind, grade, frame.as_ptr(), frame.len(), message.as_mut_ptr(), message.len()) }
+    unsafe { archive::coder_read_strict(kind, grade, number, frame, length, message, bytes) }
 }
 
 /// Fills the least member of the block's class at scale 2^(k + 1) and gives true; or gives false

@@ -40,6 +40,12 @@
 //! the first of all is the one of less energy, and at equal energy the one whose first coordinate
 //! is smaller. Where c_0 ≥ 0, W's is c_0 or c_0 − M, and V's is c_0 − H or c_0 + H: V's is the
 //! smaller just when neither is changed. Where c_0 < 0, the other way round.
+//!
+//! # And, for an odd number, the last
+//!
+//! The class of −x is that of x with every sign changed, since the points of the lattice come in pairs ±. The
+//! energies are the same, and the reading order is turned round: the last of the least members of x's class
+//! is the first of those of −x's, with every sign changed.
 
 #![forbid(unsafe_code)]
 
@@ -58,6 +64,20 @@ pub mod refusal {
     pub const UNSHAPED: u8 = 9;
     pub const ACCOUNT_FULL: u8 = 11;
     pub const BROKEN_LEVEL_2: u8 = 13;
+    pub const CHANGEOVER: u8 = 14;
+}
+
+/// What is asked of a block, each compiled by itself: nothing, as in the open reading; to be the first of the least members
+/// of its class, as under an even number; or the last, as under an odd one.
+mod rule {
+    pub const NONE: u8 = 0;
+    pub const FIRST: u8 = 1;
+    pub const LAST: u8 = 2;
+}
+
+/// Whether a number is odd.
+fn odd(number: u32) -> bool {
+    number & 1 == 1
 }
 
 const FURTHEST: i32 = 1_048_576;
@@ -295,7 +315,7 @@ impl<const KIND: usize, const B: usize> Format<KIND, B> {
 
     /// Fills the frame of a message that is tested, and gives its energy; `each` is shown that of every block.
     #[inline(always)]
-    fn fill(message: &[u8], frame: &mut [i32], mut each: impl FnMut(i32)) -> u64 {
+    fn fill<const RULE: u8>(message: &[u8], frame: &mut [i32], mut each: impl FnMut(i32)) -> u64 {
         let c0 = Self::codeword(Self::LEVEL_0, message, 0);
         let c1 = Self::codeword(Self::LEVEL_1, message, Self::LEVEL_0);
         let c2 = Self::codeword(Self::LEVEL_2, message, Self::LEVEL_0 + Self::LEVEL_1);
@@ -306,7 +326,7 @@ impl<const KIND: usize, const B: usize> Format<KIND, B> {
             let s = Self::unpack(bits as u32);
             let [w0, w1, w2] = [c0, c1, c2].map(|c| (c >> (8 * j)) as u8 as i32);
             let x = from_fn(|i| (s[i] << Self::A) + 4 * (w2 >> i & 1) + 2 * (w1 >> i & 1) + (w0 >> i & 1));
-            *block = shape(Self::K, &x);
+            *block = shaped::<RULE>(Self::K, &x);
             let own = block.iter().map(|z| z * z).sum::<i32>();
             each(own);
             energy += own;
@@ -314,9 +334,12 @@ impl<const KIND: usize, const B: usize> Format<KIND, B> {
         energy as u64
     }
 
-    fn send(message: &[u8], frame: &mut [i32]) -> Result<u64, u8> {
+    fn send(number: u32, message: &[u8], frame: &mut [i32]) -> Result<u64, u8> {
         Self::test(message, frame.len())?;
-        Ok(Self::fill(message, frame, |_| ()))
+        Ok(match odd(number) {
+            false => Self::fill::<{ rule::FIRST }>(message, frame, |_| ()),
+            true => Self::fill::<{ rule::LAST }>(message, frame, |_| ()),
+        })
     }
 
     #[inline(always)]
@@ -326,7 +349,11 @@ impl<const KIND: usize, const B: usize> Format<KIND, B> {
             return Err(refusal::ACCOUNT_FULL);
         }
         let mut largest = 0;
-        let energy = Self::fill(message, frame, |own| largest = own.max(largest));
+        let each = |own: i32| largest = own.max(largest);
+        let energy = match odd(account.number()) {
+            false => Self::fill::<{ rule::FIRST }>(message, frame, each),
+            true => Self::fill::<{ rule::LAST }>(message, frame, each),
+        };
         account.count += 1;
         account.sum += energy as f64 / Self::N as f64;
         account.largest = account.largest.max(largest as u64);
@@ -350,7 +377,7 @@ impl<const KIND: usize, const B: usize> Format<KIND, B> {
         Ok((count, 0))
     }
 
-    fn read<const STRICT: bool>(frame: &[i32], message: &mut [u8]) -> Result<u64, u8> {
+    fn read<const RULE: u8>(frame: &[i32], message: &mut [u8]) -> Result<u64, u8> {
         if frame.len() != Self::N {
             return Err(refusal::FRAME_LENGTH);
         }
@@ -375,8 +402,8 @@ impl<const KIND: usize, const B: usize> Format<KIND, B> {
             c1 |= (w1 as u64) << (8 * j);
             c2 |= (w2 as u64) << (8 * j);
             packed[j] = Self::reduce(block);
-            if STRICT {
-                unlike |= shape(Self::K, block) != *block;
+            if RULE != rule::NONE {
+                unlike |= shaped::<RULE>(Self::K, block) != *block;
             }
         }
         if over {
@@ -432,7 +459,22 @@ fn fold(x: [i32; 8], f: impl Fn(i32, i32) -> i32) -> i32 {
     f(f(x[0], x[2]), f(x[1], x[3]))
 }
 
-/// The sent block of the class of x, at scale M = 2^k, k from 1 to 7; x is any eight numbers.
+/// The block that is sent by a rule.
+#[inline(always)]
+fn shaped<const RULE: u8>(k: u32, x: &[i32; 8]) -> [i32; 8] {
+    match RULE {
+        rule::LAST => shape_last(k, x),
+        _ => shape(k, x),
+    }
+}
+
+/// The block of the class of x that is sent under an odd number, at scale M = 2^k; as `shape`.
+#[inline(always)]
+pub fn shape_last(k: u32, x: &[i32; 8]) -> [i32; 8] {
+    shape(k, &x.map(i32::wrapping_neg)).map(|z| -z)
+}
+
+/// The block of the class of x that is sent under an even number, at scale M = 2^k, k from 1 to 7; x is any eight numbers.
 #[inline(always)]
 pub fn shape(k: u32, x: &[i32; 8]) -> [i32; 8] {
     let (scale, half) = (1i32 << k, 1i32 << (k - 1));
@@ -480,60 +522,89 @@ fn entry(kind: u8, grade: u8) -> Result<u8, u8> {
 
 /// Calls the function of a kind and grade, or refuses them.
 macro_rules! by_format {
-    ($kind:expr, $grade:expr, $function:ident $(::<$strict:literal>)? ($($argument:expr),*)) => {
+    ($kind:expr, $grade:expr, $function:ident $(::<$rule:ident>)? ($($argument:expr),*)) => {
         match entry($kind, $grade) {
-            Ok(0) => Format::<3, 1>::$function $(::<$strict>)? ($($argument),*),
-            Ok(1) => Format::<3, 2>::$function $(::<$strict>)? ($($argument),*),
-            Ok(2) => Format::<3, 3>::$function $(::<$strict>)? ($($argument),*),
-            Ok(3) => Format::<3, 4>::$function $(::<$strict>)? ($($argument),*),
-            Ok(4) => Format::<4, 1>::$function $(::<$strict>)? ($($argument),*),
-            Ok(5) => Format::<4, 2>::$function $(::<$strict>)? ($($argument),*),
-            Ok(6) => Format::<4, 3>::$function $(::<$strict>)? ($($argument),*),
-            Ok(7) => Format::<4, 4>::$function $(::<$strict>)? ($($argument),*),
-            Ok(8) => Format::<5, 1>::$function $(::<$strict>)? ($($argument),*),
-            Ok(9) => Format::<5, 2>::$function $(::<$strict>)? ($($argument),*),
-            Ok(10) => Format::<5, 3>::$function $(::<$strict>)? ($($argument),*),
-            Ok(11) => Format::<5, 4>::$function $(::<$strict>)? ($($argument),*),
-            Ok(12) => Format::<6, 1>::$function $(::<$strict>)? ($($argument),*),
-            Ok(13) => Format::<6, 2>::$function $(::<$strict>)? ($($argument),*),
-            Ok(14) => Format::<6, 3>::$function $(::<$strict>)? ($($argument),*),
-            Ok(15) => Format::<6, 4>::$function $(::<$strict>)? ($($argument),*),
+            Ok(0) => Format::<3, 1>::$function $(::<{ rule::$rule }>)? ($($argument),*),
+            Ok(1) => Format::<3, 2>::$function $(::<{ rule::$rule }>)? ($($argument),*),
+            Ok(2) => Format::<3, 3>::$function $(::<{ rule::$rule }>)? ($($argument),*),
+            Ok(3) => Format::<3, 4>::$function $(::<{ rule::$rule }>)? ($($argument),*),
+            Ok(4) => Format::<4, 1>::$function $(::<{ rule::$rule }>)? ($($argument),*),
+            Ok(5) => Format::<4, 2>::$function $(::<{ rule::$rule }>)? ($($argument),*),
+            Ok(6) => Format::<4, 3>::$function $(::<{ rule::$rule }>)? ($($argument),*),
+            Ok(7) => Format::<4, 4>::$function $(::<{ rule::$rule }>)? ($($argument),*),
+            Ok(8) => Format::<5, 1>::$function $(::<{ rule::$rule }>)? ($($argument),*),
+            Ok(9) => Format::<5, 2>::$function $(::<{ rule::$rule }>)? ($($argument),*),
+            Ok(10) => Format::<5, 3>::$function $(::<{ rule::$rule }>)? ($($argument),*),
+            Ok(11) => Format::<5, 4>::$function $(::<{ rule::$rule }>)? ($($argument),*),
+            Ok(12) => Format::<6, 1>::$function $(::<{ rule::$rule }>)? ($($argument),*),
+            Ok(13) => Format::<6, 2>::$function $(::<{ rule::$rule }>)? ($($argument),*),
+            Ok(14) => Format::<6, 3>::$function $(::<{ rule::$rule }>)? ($($argument),*),
+            Ok(15) => Format::<6, 4>::$function $(::<{ rule::$rule }>)? ($($argument),*),
             Ok(_) => unreachable!(),
             Err(number) => Err(number),
         }
     };
 }
 
-/// Sends: fills the frame and gives its energy, or refuses and leaves the frame as it is.
-pub fn send(kind: u8, grade: u8, message: &[u8], frame: &mut [i32]) -> Result<u64, u8> {
-    by_format!(kind, grade, send(message, frame))
+/// Sends under a number: fills the frame and gives its energy, or refuses and leaves the frame as it is.
+#[inline(never)]
+pub fn send(kind: u8, grade: u8, number: u32, message: &[u8], frame: &mut [i32]) -> Result<u64, u8> {
+    by_format!(kind, grade, send(number, message, frame))
 }
 
 /// Reads openly: fills the message and gives the frame's energy, or refuses and leaves the message.
+#[inline(never)]
 pub fn read_open(kind: u8, grade: u8, frame: &[i32], message: &mut [u8]) -> Result<u64, u8> {
-    by_format!(kind, grade, read::<false>(frame, message))
+    by_format!(kind, grade, read::<NONE>(frame, message))
 }
 
-/// Reads strictly, as `read_open` but only the sent frame.
-pub fn read_strict(kind: u8, grade: u8, frame: &[i32], message: &mut [u8]) -> Result<u64, u8> {
-    by_format!(kind, grade, read::<true>(frame, message))
+/// Reads strictly, as `read_open` but only the frame that is sent under the number.
+#[inline(never)]
+pub fn read_strict(kind: u8, grade: u8, number: u32, frame: &[i32], message: &mut [u8]) -> Result<u64, u8> {
+    match odd(number) {
+        false => by_format!(kind, grade, read::<FIRST>(frame, message)),
+        true => by_format!(kind, grade, read::<LAST>(frame, message)),
+    }
 }
 
-/// A count of frames, the sum of their powers, and the largest energy of their blocks.
+/// A count of frames, the sum of their powers, the largest energy of their blocks, and the count from which on frames follow
+/// the rule of their number.
 #[derive(Clone, Copy, Debug, Default, PartialEq)]
 pub struct Account {
     pub count: u32,
     pub sum: f64,
     pub largest: u64,
+    pub changeover: u32,
+}
+
+impl Account {
+    /// The number of the next frame; below the changeover all are sent as number 0.
+    fn number(&self) -> u32 {
+        if self.count < self.changeover {
+            0
+        } else {
+            self.count
+        }
+    }
+}
+
+/// Opens an account: gives it, or the refusal, with zero in every figure.
+pub fn open(changeover: u32) -> (Account, u8) {
+    match changeover {
+        0..=FULL => (Account { changeover, ..Account::default() }, 0),
+        _ => (Account::default(), refusal::CHANGEOVER),
+    }
 }
 
 /// Sends with an account, which grows by the frame. Only a message that would be sent is refused for a full account.
+#[inline(never)]
 pub fn send_counted(kind: u8, grade: u8, message: &[u8], frame: &mut [i32], account: &mut Account) -> Result<u64, u8> {
     by_format!(kind, grade, send_counted(message, frame, account))
 }
 
 /// Sends messages that stand end to end with an account, each in its turn, up to the first refused. Gives how many are sent, and
 /// the refusal, 0 where all are.
+#[inline(never)]
 pub fn send_queue(kind: u8, grade: u8, messages: &[u8], frames: &mut [i32], account: &mut Account) -> (usize, u8) {
     by_format!(kind, grade, send_queue(messages, frames, account)).unwrap_or_else(|number| (0, number))
 }

@@ -1,7 +1,7 @@
 //! Measures the library beside the hand-tuned coder, and compares their answers.
 //!
-//!     bench                                   the tables of times, per frame, per queue and per block, and as
-//!                                             `compare` 200000 frames from a seed of the moment
+//!     bench                                   the tables of times, per frame, under even and odd numbers, per queue
+//!                                             and per block, and as `compare` 200000 frames from a seed of the moment
 //!     bench compare FRAMES [SEED]             compares all answers on fresh messages, frames, queues and blocks
 //!     bench compare-all FRAMES [SEED] [KIND]  the same with the second coder as a third, without the
 //!                                             blocks; of one kind where one is given

@@ -12,6 +12,8 @@ use bench::{exported, hand};
 const FRAMES: usize = 1024;
 /// The grades of the tables of frames and of queues: the lowest and the highest.
 const GRADES: [u8; 2] = [1, 4];
+/// The highest changeover: by it every frame of an account is sent as number 0.
+const FULL: u32 = 1_000_000;
 const TURNS: usize = 200;
 const TURN: Duration = Duration::from_millis(1);
 
@@ -69,18 +71,63 @@ macro_rules! pass {
     }};
 }
 
-/// Sent frames of random messages, and their messages.
-fn sent(kind: u8, grade: u8, random: &mut Random) -> (Vec<Vec<u8>>, Vec<Vec<i32>>) {
-    let messages: Vec<Vec<u8>> = (0..FRAMES).map(|_| dense(kind, grade, random)).collect();
+/// The functions that take a number, under number 0.
+mod zero {
+    use bench::{exported, hand};
+
+    #[inline(always)]
+    pub fn send(kind: u8, grade: u8, message: &[u8], frame: &mut [i32]) -> i64 {
+        exported::send(kind, grade, 0, message, frame)
+    }
+
+    #[inline(always)]
+    pub fn plain_send(kind: u8, grade: u8, message: &[u8], frame: &mut [i32]) -> i64 {
+        exported::plain_send(kind, grade, 0, message, frame)
+    }
+
+    #[inline(always)]
+    pub fn read_strict(kind: u8, grade: u8, frame: &[i32], message: &mut [u8]) -> i64 {
+        exported::read_strict(kind, grade, 0, frame, message)
+    }
+
+    #[inline(always)]
+    pub fn send_by_hand(kind: u8, grade: u8, message: &[u8], frame: &mut [i32]) -> Result<u64, u8> {
+        hand::send(kind, grade, 0, message, frame)
+    }
+
+    #[inline(always)]
+    pub fn read_strict_by_hand(kind: u8, grade: u8, frame: &[i32], message: &mut [u8]) -> Result<u64, u8> {
+        hand::read_strict(kind, grade, 0, frame, message)
+    }
+}
+
+/// An account at its beginning, with a changeover, of the library and by hand.
+fn begun(changeover: u32) -> exported::Figures {
+    (0, 0.0, 0, changeover)
+}
+
+fn begun_by_hand(changeover: u32) -> hand::Account {
+    hand::open(changeover).0
+}
+
+/// The frames of messages under a number.
+fn under(number: u32, kind: u8, grade: u8, messages: &[Vec<u8>]) -> Vec<Vec<i32>> {
     let frame = |message: &Vec<u8>| {
         let mut frame = vec![0; lengths(kind, grade).0];
-        hand::send(kind, grade, message, &mut frame).expect("the message is good");
+        hand::send(kind, grade, number, message, &mut frame).expect("the message is good");
         frame
     };
-    let frames = messages.iter().map(frame).collect();
+    messages.iter().map(frame).collect()
+}
+
+/// Frames of random messages under number 0, and their messages.
+fn sent(kind: u8, grade: u8, random: &mut Random) -> (Vec<Vec<u8>>, Vec<Vec<i32>>) {
+    let messages: Vec<Vec<u8>> = (0..FRAMES).map(|_| dense(kind, grade, random)).collect();
+    let frames = under(0, kind, grade, &messages);
     (messages, frames)
 }
 
+/// Each function under number 0, and with an account by the rule of number 0.
 fn frames(random: &mut Random) {
     println!("| kind | grade | function | library, ns a frame | by hand, ns a frame | ratio |");
     println!("|---|---|---|---|---|---|");
@@ -89,13 +136,13 @@ fn frames(random: &mut Random) {
             let (length, bytes) = lengths(kind, grade);
             let (messages, frames) = sent(kind, grade, random);
             let [library, hand] = measure([
-                &mut pass!(exported::send, kind, grade, &messages, vec![0; length]),
-                &mut pass!(hand::send, kind, grade, &messages, vec![0; length]),
+                &mut pass!(zero::send, kind, grade, &messages, vec![0; length]),
+                &mut pass!(zero::send_by_hand, kind, grade, &messages, vec![0; length]),
             ]);
             line(&format!("{kind} | {grade} | send"), library, hand);
             let [library, hand] = measure([
-                &mut pass!(exported::send_counted, kind, grade, &messages, vec![0; length], a = (0, 0.0, 0)),
-                &mut pass!(hand::send_counted, kind, grade, &messages, vec![0; length], a = hand::Account::default()),
+                &mut pass!(exported::send_counted, kind, grade, &messages, vec![0; length], a = begun(FULL)),
+                &mut pass!(hand::send_counted, kind, grade, &messages, vec![0; length], a = begun_by_hand(FULL)),
             ]);
             line(&format!("{kind} | {grade} | send with an account"), library, hand);
             let [library, hand] = measure([
@@ -104,10 +151,81 @@ fn frames(random: &mut Random) {
             ]);
             line(&format!("{kind} | {grade} | read openly"), library, hand);
             let [library, hand] = measure([
-                &mut pass!(exported::read_strict, kind, grade, &frames, vec![0; bytes]),
-                &mut pass!(hand::read_strict, kind, grade, &frames, vec![0; bytes]),
+                &mut pass!(zero::read_strict, kind, grade, &frames, vec![0; bytes]),
+                &mut pass!(zero::read_strict_by_hand, kind, grade, &frames, vec![0; bytes]),
             ]);
             line(&format!("{kind} | {grade} | read strictly"), library, hand);
+        }
+    }
+}
+
+/// Room for a frame or a message, which begins a line of the cache.
+#[repr(align(64))]
+struct Room<T>([T; 64]);
+
+/// A pass that fills one room from each input, with nothing done between the calls.
+fn each<I, T, R>(inputs: &[Vec<I>], room: &RefCell<Room<T>>, length: usize, mut call: impl FnMut(&[I], &mut [T]) -> R) {
+    let mut room = room.borrow_mut();
+    let room = &mut black_box(&mut *room).0[..length];
+    for input in inputs {
+        black_box(call(input, room));
+    }
+}
+
+/// Each function that has a tie rule, under an even number and under an odd one, of the library and by hand. With an account
+/// the two are a changeover of 1,000,000, by which every frame is sent as number 0, and of 0, by which every other frame is
+/// odd. They differ by hundredths: at short frames more than that hangs on where a buffer lies and on what a caller does
+/// between two calls. So all fill one room, and nothing is done between.
+fn numbers(random: &mut Random) {
+    println!("| kind | grade | function | even, ns a frame | odd, ns a frame | odd to even | by hand, odd to even |");
+    println!("|---|---|---|---|---|---|---|");
+    for kind in 3..=6 {
+        for grade in 1..=4 {
+            let (length, bytes) = lengths(kind, grade);
+            let (messages, even) = sent(kind, grade, random);
+            let frames = [even, under(1, kind, grade, &messages)];
+            let (frame, message) = (RefCell::new(Room([0; 64])), RefCell::new(Room([0; 64])));
+            // Kind, grade, and number or changeover, which the compiler is not to know.
+            let hidden = |x: u32| black_box((kind, grade, x));
+            let line = |function: &str, [even, odd, even_by_hand, odd_by_hand]: [f64; 4]| {
+                let (ratio, by_hand) = (odd / even, odd_by_hand / even_by_hand);
+                println!("| {kind} | {grade} | {function} | {even:.1} | {odd:.1} | {ratio:.3} | {by_hand:.3} |");
+            };
+
+            let library = |number: u32| {
+                let (k, b, number) = hidden(number);
+                each(&messages, &frame, length, |message, frame| exported::send(k, b, number, message, frame));
+            };
+            let hand = |number: u32| {
+                let (k, b, number) = hidden(number);
+                each(&messages, &frame, length, |message, frame| hand::send(k, b, number, message, frame));
+            };
+            line("send", measure([&mut || library(0), &mut || library(1), &mut || hand(0), &mut || hand(1)]));
+
+            let library = |changeover: u32| {
+                let (k, b, changeover) = hidden(changeover);
+                let mut a = begun(changeover);
+                each(&messages, &frame, length, |message, frame| exported::send_counted(k, b, message, frame, &mut a));
+            };
+            let hand = |changeover: u32| {
+                let (k, b, changeover) = hidden(changeover);
+                let mut a = begun_by_hand(changeover);
+                each(&messages, &frame, length, |message, frame| hand::send_counted(k, b, message, frame, &mut a));
+            };
+            let times = measure([&mut || library(FULL), &mut || library(0), &mut || hand(FULL), &mut || hand(0)]);
+            line("send with an account", times);
+
+            let library = |number: u32| {
+                let (k, b, number) = hidden(number);
+                let frames = &frames[number as usize];
+                each(frames, &message, bytes, |frame, message| exported::read_strict(k, b, number, frame, message));
+            };
+            let hand = |number: u32| {
+                let (k, b, number) = hidden(number);
+                let frames = &frames[number as usize];
+                each(frames, &message, bytes, |frame, message| hand::read_strict(k, b, number, frame, message));
+            };
+            line("read strictly", measure([&mut || library(0), &mut || library(1), &mut || hand(0), &mut || hand(1)]));
         }
     }
 }
@@ -121,16 +239,17 @@ fn ways(random: &mut Random) {
             let length = lengths(kind, grade).0;
             let (messages, _) = sent(kind, grade, random);
             let [plain, words, hand] = measure([
-                &mut pass!(exported::plain_send, kind, grade, &messages, vec![0; length]),
-                &mut pass!(exported::send, kind, grade, &messages, vec![0; length]),
-                &mut pass!(hand::send, kind, grade, &messages, vec![0; length]),
+                &mut pass!(zero::plain_send, kind, grade, &messages, vec![0; length]),
+                &mut pass!(zero::send, kind, grade, &messages, vec![0; length]),
+                &mut pass!(zero::send_by_hand, kind, grade, &messages, vec![0; length]),
             ]);
             println!("| {kind} | {grade} | {plain:.0} | {words:.1} | {:.1} | {hand:.1} |", plain / words);
         }
     }
 }
 
-/// A queue, and the same messages one by one with an account, to the same places of one buffer; and the queue by hand.
+/// A queue, and the same messages one by one with an account, to the same places of one buffer; and the queue by hand. Every
+/// frame has the rule of its number.
 fn queues(random: &mut Random) {
     println!(
         "| kind | grade | one by one, million frames a second | queue, million frames a second | time, queue to one by one \
@@ -144,7 +263,7 @@ fn queues(random: &mut Random) {
             let buffer = RefCell::new(vec![0; FRAMES * length]);
             let turns = turns([
                 &mut || {
-                    let (kind, grade, mut account) = (black_box(kind), black_box(grade), (0, 0.0, 0));
+                    let (kind, grade, mut account) = (black_box(kind), black_box(grade), begun(0));
                     let mut frames = buffer.borrow_mut();
                     for (message, frame) in messages.chunks_exact(bytes).zip(frames.chunks_exact_mut(length)) {
                         exported::send_counted(kind, grade, message, frame, &mut account);
@@ -152,12 +271,12 @@ fn queues(random: &mut Random) {
                     black_box(account);
                 },
                 &mut || {
-                    let (kind, grade, mut account, mut sent) = (black_box(kind), black_box(grade), (0, 0.0, 0), 0);
+                    let (kind, grade, mut account, mut sent) = (black_box(kind), black_box(grade), begun(0), 0);
                     exported::send_queue(kind, grade, &messages, &mut buffer.borrow_mut(), &mut account, &mut sent);
                     assert_eq!(sent, FRAMES);
                 },
                 &mut || {
-                    let (kind, grade, mut account) = (black_box(kind), black_box(grade), hand::Account::default());
+                    let (kind, grade, mut account) = (black_box(kind), black_box(grade), begun_by_hand(0));
                     let queued = hand::send_queue(kind, grade, &messages, &mut buffer.borrow_mut(), &mut account);
                     assert_eq!(queued, (FRAMES, 0));
                 },
@@ -196,6 +315,8 @@ fn blocks(random: &mut Random) {
 pub fn print() {
     let mut random = Random(1);
     frames(&mut random);
+    println!();
+    numbers(&mut random);
     println!();
     ways(&mut random);
     println!();

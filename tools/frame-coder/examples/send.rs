@@ -1,7 +1,8 @@
 //! Sends a message and prints its energy and its frame, then reads the frame back both ways. By itself
-//! it sends 00 08 at kind 3, grade 1; a kind, a grade and bytes in hexadecimal can be given:
+//! it sends 00 08 at kind 3, grade 1, under number 0; a kind, a grade, a number and bytes in hexadecimal can
+//! be given:
 //!
-//!     cargo run --offline --example send -- 4 1 20 00 00 00 00
+//!     cargo run --offline --example send -- 4 1 7 20 00 00 00 00
 
 use std::error::Error;
 use std::process::ExitCode;
@@ -13,19 +14,19 @@ fn hexadecimal(message: &[u8]) -> String {
 }
 
 fn run(words: &[&str]) -> Result<(), Box<dyn Error>> {
-    let [kind, grade, bytes @ ..] = words else {
-        return Err("give a kind, a grade and bytes".into());
+    let [kind, grade, number, bytes @ ..] = words else {
+        return Err("give a kind, a grade, a number and bytes".into());
     };
-    let (kind, grade) = (Kind::new(kind.parse()?)?, Grade::new(grade.parse()?)?);
+    let (kind, grade, number) = (Kind::new(kind.parse()?)?, Grade::new(grade.parse()?)?, number.parse()?);
     let message = bytes.iter().map(|byte| u8::from_str_radix(byte, 16)).collect::<Result<Vec<u8>, _>>()?;
 
-    let (frame, energy) = send_to_vec(kind, grade, &message)?;
+    let (frame, energy) = send_to_vec(kind, grade, number, &message)?;
     let coordinates: Vec<String> = frame.iter().map(i32::to_string).collect();
     println!("energy {energy}: {}", coordinates.join(" "));
 
     let (openly, _) = read_open_to_vec(kind, grade, &frame)?;
     println!("read openly:{}", hexadecimal(&openly));
-    let (strictly, _) = read_strict_to_vec(kind, grade, &frame)?;
+    let (strictly, _) = read_strict_to_vec(kind, grade, number, &frame)?;
     println!("read strictly:{}", hexadecimal(&strictly));
     Ok(())
 }
@@ -33,7 +34,7 @@ fn run(words: &[&str]) -> Result<(), Box<dyn Error>> {
 fn main() -> ExitCode {
     let words: Vec<String> = std::env::args().skip(1).collect();
     let words: Vec<&str> = words.iter().map(String::as_str).collect();
-    match run(if words.is_empty() { &["3", "1", "00", "08"] } else { &words }) {
+    match run(if words.is_empty() { &["3", "1", "0", "00", "08"] } else { &words }) {
         Ok(()) => ExitCode::SUCCESS,
         Err(error) => {
             eprintln!("{error}");

@@ -1,9 +1,9 @@
 //! The account.
 
-use crate::{by_number, message_length, Grade, Kind, Refusal, Stopped};
+use crate::{archive, by_number, message_length, Grade, Kind, Refusal, Stopped};
 
 /// An account: the count of the frames that were sent with it, the sum of their powers, and the
-/// largest energy of their blocks.
+/// largest energy of their blocks; and the changeover that it was opened with.
 ///
 /// A block is 8 coordinates that begin at a position which 8 divides; by the worst of them an output
 /// stage is sized.
@@ -11,7 +11,7 @@ use crate::{by_number, message_length, Grade, Kind, Refusal, Stopped};
 /// ```
 /// use frame_coder::{Account, Grade, Kind, Refusal};
 ///
-/// let mut account = Account::begin();
+/// let mut account = Account::open(0)?;
 /// let mut frame = [0; 8];
 /// account.send(Kind::Three, Grade::One, &[0x00, 0x08], &mut frame)?;
 /// account.send(Kind::Three, Grade::One, &[0x02, 0x00], &mut frame)?;
@@ -24,31 +24,66 @@ use crate::{by_number, message_length, Grade, Kind, Refusal, Stopped};
 /// // A refusal leaves the account as it was.
 /// let refused = account.send(Kind::Three, Grade::One, &[0x00, 0x10], &mut frame);
 /// assert_eq!(refused, Err(Refusal::SpareBits));
-/// assert_eq!(account, Account::from_parts(3, 6.5, 32));
+/// assert_eq!(account, Account::from_parts(3, 6.5, 32, 0));
 /// # Ok::<(), Refusal>(())
 /// ```
-#[derive(Clone, Copy, Debug, Default, PartialEq)]
+///
+/// The count before a send is the number of the frame; but below the changeover frames follow the old rule,
+/// which is that of number 0. [`Account::number`] says by which number the next frame is judged:
+///
+/// ```
+/// use frame_coder::{read_strict_to_vec, Account, Grade, Kind, Refusal};
+///
+/// let (kind, grade) = (Kind::Three, Grade::One);
+/// let mut account = Account::open(2)?;
+/// for (number, first) in [(0, -4), (0, -4), (2, -4), (3, 4)] {
+///     assert_eq!(account.number(), number);
+///     let (frame, energy) = account.send_to_vec(kind, grade, &[0x00, 0x08])?;
+///     assert_eq!((&frame[..], energy), (&[first, 0, 0, 0, 0, 0, 0, 0][..], 16));
+///     assert_eq!(read_strict_to_vec(kind, grade, number, &frame)?, (vec![0x00, 0x08], 16));
+/// }
+/// # Ok::<(), Refusal>(())
+/// ```
+#[derive(Clone, Copy, Debug, PartialEq)]
 pub struct Account {
     pub(crate) count: u32,
     pub(crate) sum: f64,
     pub(crate) largest: u64,
+    pub(crate) changeover: u32,
 }
 
 impl Account {
-    /// An account with so many frames is full.
+    /// An account with so many frames is full, and none is opened with a changeover above it.
     pub const MAX_COUNT: u32 = 1_000_000;
 
-    /// An account of no frames, as [`Account::default`]. The sum of one that grew from here is exact, and
-    /// its largest block is that of all frames sent.
-    #[must_use]
-    pub const fn begin() -> Account {
-        Account { count: 0, sum: 0.0, largest: 0 }
+    /// Opens an account of no frames with a changeover. The sum of one that grew from here is exact, and its
+    /// largest block is that of all frames sent.
+    ///
+    /// With 0 every frame follows the rule of its number; with [`Account::MAX_COUNT`] none does, and all are
+    /// sent by the old rule.
+    ///
+    /// ```
+    /// use frame_coder::{Account, Refusal};
+    ///
+    /// assert_eq!(Account::open(7), Ok(Account::from_parts(0, 0.0, 0, 7)));
+    /// assert_eq!(Account::open(1_000_001), Err(Refusal::Changeover));
+    /// ```
+    ///
+    /// # Errors
+    ///
+    /// [`Refusal::Changeover`] where the changeover is above [`Account::MAX_COUNT`].
+    pub fn open(changeover: u32) -> Result<Account, Refusal> {
+        let mut account = Account::from_parts(0, 0.0, 0, 0);
+        let Account { count, sum, largest, changeover: kept } = &mut account;
+        // SAFETY: the four parts are lent for the call, each alone.
+        by_number::answer(unsafe { archive::coder_open(changeover, count, sum, largest, kept) })?;
+        Ok(account)
     }
 
-    /// An account from elsewhere, which is taken as it comes.
+    /// An account from elsewhere, which is taken as it comes, its changeover too.
     #[must_use]
-    pub const fn from_parts(count: u32, sum: f64, largest: u64) -> Account {
-        Account { count, sum, largest }
+    pub const fn from_parts(count: u32, sum: f64, largest: u64, changeover: u32) -> Account {
+        Account { count, sum, largest, changeover }
     }
 
     /// The frames that were sent.
@@ -69,13 +104,37 @@ impl Account {
         self.largest
     }
 
+    /// The count from which on frames follow the rule of their number; it stays as it is.
+    #[must_use]
+    pub const fn changeover(&self) -> u32 {
+        self.changeover
+    }
+
+    /// The number by which the next frame is judged ([`crate::read_strict`]): the count, and below the
+    /// changeover 0.
+    #[must_use]
+    pub const fn number(&self) -> u32 {
+        self.number_at(self.count)
+    }
+
+    /// The number by which the frame is judged that was sent at this count, with an account of this changeover.
+    /// The message at place i of a queue, from 0, is sent at the count before the queue plus i.
+    #[must_use]
+    pub const fn number_at(&self, count: u32) -> u32 {
+        if count < self.changeover {
+            0
+        } else {
+            count
+        }
+    }
+
     /// Whether a further frame is refused.
     #[must_use]
     pub const fn is_full(&self) -> bool {
         self.count >= Account::MAX_COUNT
     }
 
-    /// Sends as [`crate::send`] does; where the frame is sent, the account grows by it.
+    /// Sends as [`crate::send`] does, under [`Account::number`]; where the frame is sent, the account grows by it.
     ///
     /// # Errors
     ///
@@ -109,17 +168,18 @@ impl Account {
     /// use frame_coder::{Account, Grade, Kind, Refusal, Stopped};
     ///
     /// let (kind, grade) = (Kind::Three, Grade::One);
-    /// let mut account = Account::begin();
+    /// let mut account = Account::open(0)?;
     /// let mut frames = [0; 2 * Kind::Three.frame_length()];
-    /// assert_eq!(account.send_queue(kind, grade, &[0x00, 0x08, 0x02, 0x00], &mut frames), Ok(2));
-    /// assert_eq!(frames, [-4, 0, 0, 0, 0, 0, 0, 0, 0, 1, 0, 1, 0, 1, 0, 1]);
-    /// assert_eq!(account, Account::from_parts(2, 2.5, 16));
+    /// assert_eq!(account.send_queue(kind, grade, &[0x00, 0x08, 0x00, 0x08], &mut frames), Ok(2));
+    /// assert_eq!(frames, [-4, 0, 0, 0, 0, 0, 0, 0, 4, 0, 0, 0, 0, 0, 0, 0]);
+    /// assert_eq!(account, Account::from_parts(2, 4.0, 16, 0));
     ///
     /// // A spare bit of the second message is set: the first is sent and stands.
     /// let stopped = account.send_queue(kind, grade, &[0x01, 0x00, 0x00, 0x10], &mut frames);
     /// assert_eq!(stopped, Err(Stopped { sent: 1, refusal: Refusal::SpareBits }));
-    /// assert_eq!(frames, [-1, -1, -1, -1, -1, -1, -1, -1, 0, 1, 0, 1, 0, 1, 0, 1]);
-    /// assert_eq!(account, Account::from_parts(3, 3.5, 16));
+    /// assert_eq!(frames, [-1, -1, -1, -1, -1, -1, -1, -1, 4, 0, 0, 0, 0, 0, 0, 0]);
+    /// assert_eq!(account, Account::from_parts(3, 5.0, 16, 0));
+    /// # Ok::<(), Refusal>(())
     /// ```
     ///
     /// # Errors
@@ -142,15 +202,22 @@ impl Account {
     /// and beside them what [`Account::send_queue`] gives. `chunks_exact` takes them apart.
     ///
     /// ```
-    /// use frame_coder::{Account, Grade, Kind};
+    /// use frame_coder::{read_strict_to_vec, Account, Grade, Kind, Refusal};
     ///
-    /// let mut account = Account::begin();
-    /// let messages = [0x02, 0x00, 0x10, 0x00, 0x00, 0x10, 0x01, 0x00];
-    /// let (frames, queued) = account.send_queue_to_vec(Kind::Three, Grade::One, &messages);
-    /// let frames: Vec<&[i32]> = frames.chunks_exact(Kind::Three.frame_length()).collect();
-    /// assert_eq!(frames, [[0, 1, 0, 1, 0, 1, 0, 1], [0, 2, 0, 0, 0, 0, 0, 0]]);
+    /// let (kind, grade) = (Kind::Three, Grade::One);
+    /// let mut account = Account::open(0)?;
+    /// let messages = [0x02, 0x08, 0x01, 0x00, 0x00, 0x10, 0x01, 0x00];
+    /// let (frames, queued) = account.send_queue_to_vec(kind, grade, &messages);
+    /// let frames: Vec<&[i32]> = frames.chunks_exact(kind.frame_length()).collect();
+    /// assert_eq!(frames, [[0, -3, 0, 1, 0, 1, 0, 1], [1; 8]]);
     /// let stopped = queued.unwrap_err();
     /// assert_eq!(stopped.to_string(), "2 sent, then refused 5: a spare bit of the message is set");
+    ///
+    /// // Each is judged by the number of its count.
+    /// for (count, frame) in (0..).zip(frames) {
+    ///     assert!(read_strict_to_vec(kind, grade, account.number_at(count), frame).is_ok());
+    /// }
+    /// # Ok::<(), Refusal>(())
     /// ```
     pub fn send_queue_to_vec(
         &mut self,

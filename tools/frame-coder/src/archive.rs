@@ -1,10 +1,11 @@
 //! The archive's functions, as `crates/frame_coder/frame_coder.h` has them: a slice is a pointer and
-//! a length; the answer is the energy, and of a queue 0, or minus the number of the refusal.
+//! a length; the answer is the energy, of a queue and of an opening 0, or minus the number of the refusal.
 
 extern "C" {
     pub fn coder_send(
         kind: u8,
         grade: u8,
+        number: u32,
         message: *const u8,
         message_len: usize,
         frame: *mut i32,
@@ -21,11 +22,13 @@ extern "C" {
     pub fn coder_read_strict(
         kind: u8,
         grade: u8,
+        number: u32,
         frame: *const i32,
         frame_len: usize,
         message: *mut u8,
         message_len: usize,
     ) -> i64;
+    pub fn coder_open(changeover: u32, count: *mut u32, sum: *mut f64, largest: *mut u64, kept: *mut u32) -> i64;
     pub fn coder_send_counted(
         kind: u8,
         grade: u8,
@@ -36,6 +39,7 @@ extern "C" {
         count: *mut u32,
         sum: *mut f64,
         largest: *mut u64,
+        changeover: u32,
     ) -> i64;
     pub fn coder_send_queue(
         kind: u8,
@@ -47,6 +51,7 @@ extern "C" {
         count: *mut u32,
         sum: *mut f64,
         largest: *mut u64,
+        changeover: u32,
         sent: *mut usize,
     ) -> i64;
 }

@@ -1,26 +1,28 @@
-//! The functions with kind and grade as the bytes that stand in a record: wrong ones are refused too,
-//! before anything else.
+//! The functions with kind and grade by number, as the bytes that stand in a record: wrong ones are refused
+//! too, before anything else.
 //!
 //! ```
 //! use frame_coder::{by_number, Refusal};
 //!
 //! let mut frame = [0; 8];
-//! assert_eq!(by_number::send(3, 1, &[0x02, 0x00], &mut frame), Ok(4));
-//! assert_eq!(by_number::send(7, 1, &[0x02, 0x00], &mut frame), Err(Refusal::Kind));
-//! assert_eq!(by_number::send(3, 5, &[0x02, 0x00], &mut frame), Err(Refusal::Grade));
-//! assert_eq!(frame, [0, 1, 0, 1, 0, 1, 0, 1]);
+//! assert_eq!(by_number::send(3, 1, 0, &[0x02, 0x08], &mut frame), Ok(12));
+//! assert_eq!(frame, [0, -3, 0, 1, 0, 1, 0, 1]);
+//! assert_eq!(by_number::send(3, 1, 1, &[0x02, 0x08], &mut frame), Ok(12));
+//! assert_eq!(frame, [0, 1, 0, 1, 0, 1, 0, -3]);
+//! assert_eq!(by_number::send(7, 1, 0, &[0x02, 0x08], &mut frame), Err(Refusal::Kind));
+//! assert_eq!(by_number::send(3, 5, 0, &[0x02, 0x08], &mut frame), Err(Refusal::Grade));
 //! ```
 
 use crate::{archive, Account, Refusal, Stopped};
 
 /// The energy, or the refusal that a negative answer tells.
-fn answer(number: i64) -> Result<u64, Refusal> {
-    if let Ok(energy) = u64::try_from(number) {
+pub(crate) fn answer(answer: i64) -> Result<u64, Refusal> {
+    if let Ok(energy) = u64::try_from(answer) {
         return Ok(energy);
     }
-    match u8::try_from(number.unsigned_abs()).map(Refusal::try_from) {
+    match u8::try_from(answer.unsigned_abs()).map(Refusal::try_from) {
         Ok(Ok(refusal)) => Err(refusal),
-        _ => panic!("the archive answered {number}, which version {} does not know", crate::VERSION),
+        _ => panic!("the archive answered {answer}, which version {} does not know", crate::VERSION),
     }
 }
 
@@ -29,10 +31,10 @@ fn answer(number: i64) -> Result<u64, Refusal> {
 /// # Errors
 ///
 /// In this order: kind, grade, the message's length, the frame's length, spare bits.
-pub fn send(kind: u8, grade: u8, message: &[u8], frame: &mut [i32]) -> Result<u64, Refusal> {
+pub fn send(kind: u8, grade: u8, number: u32, message: &[u8], frame: &mut [i32]) -> Result<u64, Refusal> {
     // SAFETY: both slices are lent for the call, the frame alone; the lengths are theirs.
     answer(unsafe {
-        archive::coder_send(kind, grade, message.as_ptr(), message.len(), frame.as_mut_ptr(), frame.len())
+        archive::coder_send(kind, grade, number, message.as_ptr(), message.len(), frame.as_mut_ptr(), frame.len())
     })
 }
 
@@ -53,11 +55,12 @@ pub fn read_open(kind: u8, grade: u8, frame: &[i32], message: &mut [u8]) -> Resu
 ///
 /// # Errors
 ///
-/// As [`read_open`], and last a frame that is not the one that is sent.
-pub fn read_strict(kind: u8, grade: u8, frame: &[i32], message: &mut [u8]) -> Result<u64, Refusal> {
+/// As [`read_open`], and last a frame that is not the one that is sent under the number.
+pub fn read_strict(kind: u8, grade: u8, number: u32, frame: &[i32], message: &mut [u8]) -> Result<u64, Refusal> {
+    let (coordinates, bytes) = (frame.len(), message.len());
     // SAFETY: both slices are lent for the call, the message alone; the lengths are theirs.
     answer(unsafe {
-        archive::coder_read_strict(kind, grade, frame.as_ptr(), frame.len(), message.as_mut_ptr(), message.len())
+        archive::coder_read_strict(kind, grade, number, frame.as_ptr(), coordinates, message.as_mut_ptr(), bytes)
     })
 }
 
@@ -73,7 +76,7 @@ pub fn send_counted(
     frame: &mut [i32],
     account: &mut Account,
 ) -> Result<u64, Refusal> {
-    // SAFETY: all is lent for the call, the frame and the account's three parts each alone; the lengths
+    // SAFETY: all is lent for the call, the frame and the account's three figures each alone; the lengths
     // are the slices'.
     answer(unsafe {
         archive::coder_send_counted(
@@ -86,6 +89,7 @@ pub fn send_counted(
             &mut account.count,
             &mut account.sum,
             &mut account.largest,
+            account.changeover,
         )
     })
 }
@@ -104,7 +108,7 @@ pub fn send_queue(
     account: &mut Account,
 ) -> Result<usize, Stopped> {
     let mut sent = 0;
-    // SAFETY: all is lent for the call, the frames, the account's three parts and the number sent each
+    // SAFETY: all is lent for the call, the frames, the account's three figures and the number sent each
     // alone; the lengths are the slices'.
     let queued = answer(unsafe {
         archive::coder_send_queue(
@@ -117,6 +121,7 @@ pub fn send_queue(
             &mut account.count,
             &mut account.sum,
             &mut account.largest,
+            account.changeover,
             &mut sent,
         )
     });

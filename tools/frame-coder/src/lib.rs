@@ -10,22 +10,27 @@
 //! use frame_coder::{read_open_to_vec, read_strict_to_vec, send_to_vec, Grade, Kind, Refusal};
 //!
 //! # fn main() -> Result<(), Refusal> {
-//! let (kind, grade) = (Kind::new(3)?, Grade::new(1)?);
-//! let (mut frame, energy) = send_to_vec(kind, grade, &[0x00, 0x08])?;
-//! assert_eq!((&frame[..], energy), (&[-4, 0, 0, 0, 0, 0, 0, 0][..], 16));
-//! assert_eq!(read_strict_to_vec(kind, grade, &frame)?, (vec![0x00, 0x08], 16));
+//! let (kind, grade, message) = (Kind::new(3)?, Grade::new(1)?, [0x00, 0x08]);
+//! let (even, energy) = send_to_vec(kind, grade, 0, &message)?;
+//! assert_eq!((&even[..], energy), (&[-4, 0, 0, 0, 0, 0, 0, 0][..], 16));
+//! assert_eq!(read_strict_to_vec(kind, grade, 0, &even)?, (message.to_vec(), 16));
 //!
-//! // Of the same class and energy, and so of the same message, but not the first in reading order.
-//! frame[0] = 4;
-//! assert_eq!(read_open_to_vec(kind, grade, &frame)?, (vec![0x00, 0x08], 16));
-//! assert_eq!(read_strict_to_vec(kind, grade, &frame), Err(Refusal::Unshaped));
+//! // Of the same class and energy, and so of the same message, but sent under odd numbers.
+//! let (odd, energy) = send_to_vec(kind, grade, 1, &message)?;
+//! assert_eq!((&odd[..], energy), (&[4, 0, 0, 0, 0, 0, 0, 0][..], 16));
+//! assert_eq!(read_open_to_vec(kind, grade, &odd)?, (message.to_vec(), 16));
+//! assert_eq!(read_strict_to_vec(kind, grade, 1, &odd)?, (message.to_vec(), 16));
+//! assert_eq!(read_strict_to_vec(kind, grade, 0, &odd), Err(Refusal::Unshaped));
 //! # Ok(())
 //! # }
 //! ```
 //!
 //! A message's bit k is bit k mod 8, lowest first, of byte k div 8. Bits past the last
-//! ([`message_bits`]) are spare and must be 0. Among frames of least energy the first in reading
-//! order is sent: at the first coordinate where two differ, the smaller comes first.
+//! ([`message_bits`]) are spare and must be 0.
+//!
+//! A frame carries a number, and is judged by it. Among frames of least energy an even number is sent as the
+//! first in reading order, an odd one as the last: at the first coordinate where two differ, the smaller comes
+//! first. With an account the count before the send is the number, from the account's changeover on.
 //!
 //! Bad input is refused with a [`Refusal`], and what was lent is then as it was. A queue keeps what was
 //! sent before the refused message, and says how many they are ([`Stopped`]).
@@ -51,7 +56,8 @@ pub const VERSION: &str = env!("CARGO_PKG_VERSION");
 /// A reading takes coordinates from minus this to this.
 pub const MAX_COORDINATE: i32 = 1_048_576;
 
-/// Sends: fills the frame of the message, and gives its energy.
+/// Sends under a number: fills the frame of the message, and gives its energy, which is the same under every
+/// number.
 ///
 /// ```
 /// use frame_coder::{message_length, send, Grade, Kind};
@@ -61,18 +67,21 @@ pub const MAX_COORDINATE: i32 = 1_048_576;
 /// let mut message = [0; message_length(KIND, GRADE)];
 /// message[0] = 0x20;
 /// let mut frame = [0; KIND.frame_length()];
-/// assert_eq!(send(KIND, GRADE, &message, &mut frame), Ok(64));
+/// assert_eq!(send(KIND, GRADE, 0, &message, &mut frame), Ok(64));
 /// assert_eq!(frame, [-2; 16]);
+/// assert_eq!(send(KIND, GRADE, 1, &message, &mut frame), Ok(64));
+/// assert_eq!(frame, [2; 16]);
 /// ```
 ///
 /// # Errors
 ///
 /// In this order: the message's length, the frame's length, spare bits.
-pub fn send(kind: Kind, grade: Grade, message: &[u8], frame: &mut [i32]) -> Result<u64, Refusal> {
-    by_number::send(kind.number(), grade.number(), message, frame)
+pub fn send(kind: Kind, grade: Grade, number: u32, message: &[u8], frame: &mut [i32]) -> Result<u64, Refusal> {
+    by_number::send(kind.number(), grade.number(), number, message, frame)
 }
 
-/// Reads any frame of the coding set: fills its message, and gives the frame's energy.
+/// Reads any frame of the coding set, under whatever number it was sent: fills its message, and gives the
+/// frame's energy.
 ///
 /// ```
 /// use frame_coder::{read_open, Grade, Kind, Refusal};
@@ -93,23 +102,33 @@ pub fn read_open(kind: Kind, grade: Grade, frame: &[i32], message: &mut [u8]) ->
     by_number::read_open(kind.number(), grade.number(), frame, message)
 }
 
-/// Reads a sent frame alone: fills its message, and gives the frame's energy.
+/// Reads the frame alone that is sent under the number: fills its message, and gives the frame's energy.
+///
+/// ```
+/// use frame_coder::{read_strict, Grade, Kind, Refusal};
+///
+/// let mut message = [0; 2];
+/// assert_eq!(read_strict(Kind::Three, Grade::One, 7, &[1; 8], &mut message), Ok(8));
+/// assert_eq!(message, [0x01, 0x00]);
+/// assert_eq!(read_strict(Kind::Three, Grade::One, 8, &[1; 8], &mut message), Err(Refusal::Unshaped));
+/// ```
 ///
 /// # Errors
 ///
-/// As [`read_open`], and last [`Refusal::Unshaped`] for a frame that is not the one that is sent.
-pub fn read_strict(kind: Kind, grade: Grade, frame: &[i32], message: &mut [u8]) -> Result<u64, Refusal> {
-    by_number::read_strict(kind.number(), grade.number(), frame, message)
+/// As [`read_open`], and last [`Refusal::Unshaped`] for a frame that is not the one that is sent under the
+/// number.
+pub fn read_strict(kind: Kind, grade: Grade, number: u32, frame: &[i32], message: &mut [u8]) -> Result<u64, Refusal> {
+    by_number::read_strict(kind.number(), grade.number(), number, frame, message)
 }
 
-/// Sends: the frame of the message, and its energy.
+/// Sends under a number: the frame of the message, and its energy.
 ///
 /// # Errors
 ///
 /// As [`send`], but for the frame's length.
-pub fn send_to_vec(kind: Kind, grade: Grade, message: &[u8]) -> Result<(Vec<i32>, u64), Refusal> {
+pub fn send_to_vec(kind: Kind, grade: Grade, number: u32, message: &[u8]) -> Result<(Vec<i32>, u64), Refusal> {
     let mut frame = vec![0; kind.frame_length()];
-    let energy = send(kind, grade, message, &mut frame)?;
+    let energy = send(kind, grade, number, message, &mut frame)?;
     Ok((frame, energy))
 }
 
@@ -124,13 +143,13 @@ pub fn read_open_to_vec(kind: Kind, grade: Grade, frame: &[i32]) -> Result<(Vec<
     Ok((message, energy))
 }
 
-/// Reads a sent frame alone: its message, and the frame's energy.
+/// Reads the frame alone that is sent under the number: its message, and the frame's energy.
 ///
 /// # Errors
 ///
 /// As [`read_strict`], but for the message's length.
-pub fn read_strict_to_vec(kind: Kind, grade: Grade, frame: &[i32]) -> Result<(Vec<u8>, u64), Refusal> {
+pub fn read_strict_to_vec(kind: Kind, grade: Grade, number: u32, frame: &[i32]) -> Result<(Vec<u8>, u64), Refusal> {
     let mut message = vec![0; message_length(kind, grade)];
-    let energy = read_strict(kind, grade, frame, &mut message)?;
+    let energy = read_strict(kind, grade, number, frame, &mut message)?;
     Ok((message, energy))
 }

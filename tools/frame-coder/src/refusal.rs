@@ -36,13 +36,15 @@ pub enum Refusal {
     BrokenLevel0 = 7,
     /// Reading at kinds 4 to 6: the coordinates' bits of weight 2 are not a codeword.
     BrokenLevel1 = 8,
-    /// Strict reading: the frame is not the one that is sent for its message.
+    /// Strict reading: the frame is not the one that is sent for its message under the number.
     Unshaped = 9,
     /// Sending with an account: it has 1,000,000 frames or more.
     AccountFull = 11,
     /// Reading at kind 6: the coordinates' bits of weight 4 are not a codeword. Tested after
     /// [`BrokenLevel1`](Refusal::BrokenLevel1).
     BrokenLevel2 = 13,
+    /// Opening an account: the changeover is above 1,000,000.
+    Changeover = 14,
 }
 
 impl Refusal {
@@ -59,6 +61,7 @@ impl Refusal {
         Refusal::Unshaped,
         Refusal::AccountFull,
         Refusal::BrokenLevel2,
+        Refusal::Changeover,
     ];
 
     /// Its number.
@@ -79,9 +82,10 @@ impl Refusal {
             Refusal::OverRange => "a coordinate is outside -1048576 to 1048576",
             Refusal::BrokenLevel0 => "level 0 of the frame is not a codeword",
             Refusal::BrokenLevel1 => "level 1 of the frame is not a codeword",
-            Refusal::Unshaped => "the frame is not the one that is sent for its message",
+            Refusal::Unshaped => "the frame is not the one that is sent for its message under the number",
             Refusal::AccountFull => "the account is full",
             Refusal::BrokenLevel2 => "level 2 of the frame is not a codeword",
+            Refusal::Changeover => "the changeover is above 1000000",
         }
     }
 }

@@ -5,6 +5,11 @@ use frame_coder::{
     send_to_vec, Account, Grade, Kind, Refusal, Stopped, MAX_COORDINATE, MAX_FRAME_LENGTH, MAX_MESSAGE_LENGTH,
 };
 
+/// Even and odd numbers, the last of all among them.
+const EVEN: [u32; 5] = [0, 2, 1_000_000, 1 << 31, u32::MAX - 1];
+const ODD: [u32; 5] = [1, 3, 999_999, (1 << 31) - 1, u32::MAX];
+
+/// Document 01's frames are those of number 0, and so of every even one.
 #[test]
 fn exam_frames() {
     let table: [(Kind, &[u8], &[i32], u64); 10] = [
@@ -20,37 +25,91 @@ fn exam_frames() {
         (Kind::Four, &[0x20, 0, 0, 0, 0], &[-2; 16], 64),
     ];
     for (kind, message, frame, energy) in table {
-        let mut sent = vec![99; frame.len()];
-        assert_eq!(send(kind, Grade::One, message, &mut sent), Ok(energy));
-        assert_eq!(sent, frame);
-        assert_eq!(send_to_vec(kind, Grade::One, message), Ok((sent, energy)));
-        for read in [read_open, read_strict] {
+        for number in EVEN {
+            let mut sent = vec![99; frame.len()];
+            assert_eq!(send(kind, Grade::One, number, message, &mut sent), Ok(energy));
+            assert_eq!(sent, frame);
+            assert_eq!(send_to_vec(kind, Grade::One, number, message), Ok((sent, energy)));
             let mut back = vec![99; message.len()];
-            assert_eq!(read(kind, Grade::One, frame, &mut back), Ok(energy));
+            assert_eq!(read_strict(kind, Grade::One, number, frame, &mut back), Ok(energy));
             assert_eq!(back, message);
+            assert_eq!(read_strict_to_vec(kind, Grade::One, number, frame), Ok((message.to_vec(), energy)));
         }
-        for read in [read_open_to_vec, read_strict_to_vec] {
-            assert_eq!(read(kind, Grade::One, frame), Ok((message.to_vec(), energy)));
+        let mut back = vec![99; message.len()];
+        assert_eq!(read_open(kind, Grade::One, frame, &mut back), Ok(energy));
+        assert_eq!(back, message);
+        assert_eq!(read_open_to_vec(kind, Grade::One, frame), Ok((message.to_vec(), energy)));
+    }
+}
+
+/// Frames under odd numbers, worked by hand, and the same under even ones: each is read strictly under its own numbers alone, where
+/// they differ.
+#[test]
+fn numbered_frames() {
+    type Case = (Kind, &'static [u8], &'static [i32], &'static [i32]);
+    let table: [Case; 9] = [
+        (Kind::Three, &[0x00, 0x08], &[-4, 0, 0, 0, 0, 0, 0, 0], &[4, 0, 0, 0, 0, 0, 0, 0]),
+        (Kind::Three, &[0x02, 0x08], &[0, -3, 0, 1, 0, 1, 0, 1], &[0, 1, 0, 1, 0, 1, 0, -3]),
+        (Kind::Three, &[0x01, 0x00], &[-1; 8], &[1; 8]),
+        (Kind::Three, &[0x10, 0x04], &[0, -2, 0, 0, 0, 0, 0, -2], &[0, 2, 0, 0, 0, 0, 0, 2]),
+        (Kind::Three, &[0xF0, 0x07], &[-2, 0, 0, 0, 0, 0, 0, 0], &[-2, 0, 0, 0, 0, 0, 0, 0]),
+        (Kind::Three, &[0x02, 0x00], &[0, 1, 0, 1, 0, 1, 0, 1], &[0, 1, 0, 1, 0, 1, 0, 1]),
+        (Kind::Three, &[0x00, 0x00], &[0; 8], &[0; 8]),
+        (Kind::Four, &[0x20, 0, 0, 0, 0], &[-2; 16], &[2; 16]),
+        (Kind::Four, &[0x01, 0, 0, 0, 0], &[1; 16], &[1; 16]),
+    ];
+    for (kind, message, even, odd) in table {
+        let energy = even.iter().map(|x| (x * x) as u64).sum::<u64>();
+        for (numbers, own, other) in [(EVEN, even, odd), (ODD, odd, even)] {
+            for number in numbers {
+                assert_eq!(send_to_vec(kind, Grade::One, number, message), Ok((own.to_vec(), energy)));
+                let read = Ok((message.to_vec(), energy));
+                assert_eq!(read_strict_to_vec(kind, Grade::One, number, own), read);
+                let judged = if own == other { read } else { Err(Refusal::Unshaped) };
+                assert_eq!(read_strict_to_vec(kind, Grade::One, number, other), judged);
+            }
+            assert_eq!(read_open_to_vec(kind, Grade::One, own), Ok((message.to_vec(), energy)));
         }
+    }
+}
+
+/// Over all messages the frames of an even and those of an odd number add up to zero in every coordinate; those of the even ones alone
+/// do not.
+#[test]
+fn frames_add_up_to_zero() {
+    for grade in [Grade::One, Grade::Two] {
+        let bits = message_bits(Kind::Three, grade);
+        let mut sums = [[0i64; 8]; 2];
+        for message in 0..1u32 << bits {
+            let message = &message.to_le_bytes()[..message_length(Kind::Three, grade)];
+            for (number, sum) in (8..).zip(&mut sums) {
+                let mut frame = [0; 8];
+                send(Kind::Three, grade, number, message, &mut frame).unwrap();
+                sum.iter_mut().zip(frame).for_each(|(sum, x)| *sum += i64::from(x));
+            }
+        }
+        let [even, odd] = sums;
+        assert_eq!(odd, even.map(|sum| -sum));
+        assert!(even.iter().any(|sum| *sum < 0));
     }
 }
 
 #[test]
 fn further_cases() {
     let mut message = [99; 5];
-    assert_eq!(read_strict(Kind::Four, Grade::One, &[2; 16], &mut message), Err(Refusal::Unshaped));
+    assert_eq!(read_strict(Kind::Four, Grade::One, 0, &[2; 16], &mut message), Err(Refusal::Unshaped));
     assert_eq!(message, [99; 5]);
     assert_eq!(read_open(Kind::Four, Grade::One, &[2; 16], &mut message), Ok(64));
     assert_eq!(message, [0x20, 0, 0, 0, 0]);
     let mut frame = [1, 0, 0, 0, 0, 0, 0, 0];
     assert_eq!(read_open(Kind::Three, Grade::One, &frame, &mut [0; 2]), Err(Refusal::BrokenLevel0));
-    assert_eq!(send(Kind::Three, Grade::One, &[0x00, 0x10], &mut frame), Err(Refusal::SpareBits));
+    assert_eq!(send(Kind::Three, Grade::One, 0, &[0x00, 0x10], &mut frame), Err(Refusal::SpareBits));
     assert_eq!(frame, [1, 0, 0, 0, 0, 0, 0, 0]);
     frame[0] = MAX_COORDINATE;
     assert_eq!(read_open(Kind::Three, Grade::One, &frame, &mut [0; 2]), Ok(1 << 40));
     frame[0] = MAX_COORDINATE + 1;
     assert_eq!(read_open(Kind::Three, Grade::One, &frame, &mut [0; 2]), Err(Refusal::OverRange));
-    assert_eq!(read_strict(Kind::Three, Grade::One, &frame, &mut [0; 2]), Err(Refusal::OverRange));
+    assert_eq!(read_strict(Kind::Three, Grade::One, 0, &frame, &mut [0; 2]), Err(Refusal::OverRange));
 }
 
 /// Cases of kind 6 that are worked by hand.
@@ -74,17 +133,17 @@ fn sixty_four_coordinates() {
     for (grade, bit, frame, energy) in table {
         let mut message = vec![0; message_length(Kind::Six, grade)];
         message[bit / 8] = 1 << (bit % 8);
-        assert_eq!(send_to_vec(Kind::Six, grade, &message), Ok((frame.to_vec(), energy)));
-        for read in [read_open_to_vec, read_strict_to_vec] {
-            assert_eq!(read(Kind::Six, grade, &frame), Ok((message.clone(), energy)));
-        }
+        assert_eq!(send_to_vec(Kind::Six, grade, 0, &message), Ok((frame.to_vec(), energy)));
+        assert_eq!(read_open_to_vec(Kind::Six, grade, &frame), Ok((message.clone(), energy)));
+        assert_eq!(read_strict_to_vec(Kind::Six, grade, 0, &frame), Ok((message, energy)));
     }
     use Refusal::{BrokenLevel0, BrokenLevel1, BrokenLevel2};
     let broken = [(1, BrokenLevel0), (2, BrokenLevel1), (4, BrokenLevel2), (6, BrokenLevel1), (7, BrokenLevel0)];
     for &grade in Grade::ALL {
         for (first, refusal) in broken {
-            for read in [read_open_to_vec, read_strict_to_vec] {
-                assert_eq!(read(Kind::Six, grade, &begun(&[first])), Err(refusal));
+            assert_eq!(read_open_to_vec(Kind::Six, grade, &begun(&[first])), Err(refusal));
+            for number in [0, 1] {
+                assert_eq!(read_strict_to_vec(Kind::Six, grade, number, &begun(&[first])), Err(refusal));
             }
         }
         assert_eq!(read_open_to_vec(Kind::Six, grade, &[MAX_COORDINATE; 64]).map(|read| read.1), Ok(1 << 46));
@@ -92,22 +151,25 @@ fn sixty_four_coordinates() {
     }
     let (message, energy) = read_open_to_vec(Kind::Six, Grade::One, &[4; 64]).unwrap();
     assert_eq!((message[6], energy), (2, 1024));
-    assert_eq!(read_strict_to_vec(Kind::Six, Grade::One, &[4; 64]), Err(Refusal::Unshaped));
+    assert_eq!(read_strict_to_vec(Kind::Six, Grade::One, 0, &[4; 64]), Err(Refusal::Unshaped));
+    assert_eq!(send_to_vec(Kind::Six, Grade::One, 1, &message), Ok((vec![4; 64], 1024)));
+    assert_eq!(read_strict_to_vec(Kind::Six, Grade::One, 1, &[4; 64]), Ok((message, 1024)));
 }
 
 #[test]
 fn refusals_in_order() {
     let mut frame = [7; 9];
-    assert_eq!(by_number::send(2, 0, &[0; 9], &mut frame), Err(Refusal::Kind));
-    assert_eq!(by_number::send(3, 5, &[0; 9], &mut frame), Err(Refusal::Grade));
-    assert_eq!(by_number::send(3, 1, &[255; 9], &mut frame), Err(Refusal::MessageLength));
-    assert_eq!(by_number::send(3, 1, &[255; 2], &mut frame), Err(Refusal::FrameLength));
+    assert_eq!(by_number::send(2, 0, 1, &[0; 9], &mut frame), Err(Refusal::Kind));
+    assert_eq!(by_number::send(3, 5, 1, &[0; 9], &mut frame), Err(Refusal::Grade));
+    assert_eq!(by_number::send(3, 1, 1, &[255; 9], &mut frame), Err(Refusal::MessageLength));
+    assert_eq!(by_number::send(3, 1, 1, &[255; 2], &mut frame), Err(Refusal::FrameLength));
     assert_eq!(frame, [7; 9]);
     assert_eq!(by_number::read_open(4, 1, &frame, &mut [0; 9]), Err(Refusal::FrameLength));
     assert_eq!(by_number::read_open(4, 1, &[7; 16], &mut [0; 9]), Err(Refusal::MessageLength));
     let mut broken = [0; 16];
     broken[0] = 2;
     assert_eq!(by_number::read_open(4, 1, &broken, &mut [0; 5]), Err(Refusal::BrokenLevel1));
+    assert_eq!(by_number::read_strict(4, 1, 1, &broken, &mut [0; 5]), Err(Refusal::BrokenLevel1));
 }
 
 #[test]
@@ -128,27 +190,40 @@ fn kinds_and_grades() {
         let (bits, bytes) = (message_bits(kind, grade), message_length(kind, grade));
         assert!(kind.frame_length() <= MAX_FRAME_LENGTH && bytes <= MAX_MESSAGE_LENGTH);
         for length in 0..=MAX_MESSAGE_LENGTH + 1 {
-            let sent = send_to_vec(kind, grade, &vec![0; length]);
+            let sent = send_to_vec(kind, grade, 0, &vec![0; length]);
             assert_eq!(sent.err(), (length != bytes).then_some(Refusal::MessageLength));
         }
         for k in 0..8 * bytes {
             let mut message = vec![0; bytes];
             message[k / 8] = 1 << (k % 8);
-            match send_to_vec(kind, grade, &message) {
-                Ok((frame, energy)) if k < bits => {
-                    assert_eq!(frame.iter().map(|x| i64::from(*x).pow(2)).sum::<i64>() as u64, energy);
-                    assert_eq!(read_strict_to_vec(kind, grade, &frame), Ok((message, energy)));
+            for number in [EVEN[k % 5], ODD[k % 5]] {
+                match send_to_vec(kind, grade, number, &message) {
+                    Ok((frame, energy)) if k < bits => {
+                        assert_eq!(frame.iter().map(|x| i64::from(*x).pow(2)).sum::<i64>() as u64, energy);
+                        assert_eq!(read_strict_to_vec(kind, grade, number, &frame), Ok((message.clone(), energy)));
+                    }
+                    sent => assert_eq!((sent, k < bits), (Err(Refusal::SpareBits), false)),
                 }
-                sent => assert_eq!((sent, k < bits), (Err(Refusal::SpareBits), false)),
             }
         }
     }
 }
 
 #[test]
+fn opening() {
+    for changeover in [0, 1, 999_999, 1_000_000] {
+        let account = Account::open(changeover).unwrap();
+        assert_eq!((account.count(), account.sum().to_bits(), account.largest()), (0, 0, 0));
+        assert_eq!((account.changeover(), account.number()), (changeover, 0));
+    }
+    for changeover in [1_000_001, 1 << 31, u32::MAX] {
+        assert_eq!(Account::open(changeover), Err(Refusal::Changeover));
+    }
+}
+
+#[test]
 fn account() {
-    let mut account = Account::begin();
-    assert_eq!(account, Account::default());
+    let mut account = Account::open(0).unwrap();
     let mut frame = [0; 8];
     let mut send = |account: &mut Account, message: [u8; 2]| {
         let answer = account.send(Kind::Three, Grade::One, &message, &mut frame);
@@ -156,25 +231,56 @@ fn account() {
     };
     let sent = [0, 1, 0, 1, 0, 1, 0, 1];
     assert_eq!(send(&mut account, [0x02, 0x00]), (Ok(4), sent));
-    assert_eq!(account, Account::from_parts(1, 0.5, 4));
+    assert_eq!(account, Account::from_parts(1, 0.5, 4, 0));
     assert_eq!(send(&mut account, [0x00, 0x10]), (Err(Refusal::SpareBits), sent));
-    assert_eq!(account, Account::from_parts(1, 0.5, 4));
-    for count in [Account::MAX_COUNT, u32::MAX] {
-        let full = Account::from_parts(count, -1.5, 3);
+    assert_eq!(account, Account::from_parts(1, 0.5, 4, 0));
+    for (count, changeover) in [(Account::MAX_COUNT, 0), (u32::MAX, u32::MAX)] {
+        let full = Account::from_parts(count, -1.5, 3, changeover);
         account = full;
         assert!(account.is_full());
         assert_eq!(send(&mut account, [0x00, 0x18]), (Err(Refusal::SpareBits), sent));
         assert_eq!(send(&mut account, [0x00, 0x08]), (Err(Refusal::AccountFull), sent));
         assert_eq!(account, full);
     }
-    account = Account::from_parts(999_999, 0.25, 3);
+    account = Account::from_parts(999_999, 0.25, 3, 7);
     assert!(!account.is_full());
     assert_eq!(send(&mut account, [0x00, 0x00]), (Ok(0), [0; 8]));
-    assert_eq!((account.count(), account.sum(), account.largest()), (1_000_000, 0.25, 3));
+    assert_eq!(account, Account::from_parts(1_000_000, 0.25, 3, 7));
     assert!(account.is_full());
-    let mut account = Account::begin();
+    let mut account = Account::open(1_000_000).unwrap();
     assert_eq!(account.send_to_vec(Kind::Three, Grade::One, &[0x00, 0x04]), Ok((vec![0, 0, 0, 0, 0, 0, 0, 2], 4)));
     assert_eq!((account.count(), account.sum(), account.largest()), (1, 0.5, 4));
+}
+
+/// The message 00 08 over and over: below the changeover as −4 0 .., from it on so at even counts, and at odd ones as 4 0 ..; the figures
+/// are the same with every changeover.
+#[test]
+fn across_the_changeover() {
+    let (kind, grade, message) = (Kind::Three, Grade::One, [0x00, 0x08]);
+    for changeover in 0..8 {
+        let mut account = Account::open(changeover).unwrap();
+        for count in 0..7 {
+            let number = account.number();
+            assert_eq!(number, if count < changeover { 0 } else { count });
+            assert_eq!(number, account.number_at(count));
+            // A refused message takes no number.
+            assert_eq!(account.send(kind, grade, &[0x00, 0x10], &mut [0; 8]), Err(Refusal::SpareBits));
+            let (frame, energy) = account.send_to_vec(kind, grade, &message).unwrap();
+            let first = if number.is_multiple_of(2) { -4 } else { 4 };
+            assert_eq!((&frame[..], energy), (&[first, 0, 0, 0, 0, 0, 0, 0][..], 16));
+            assert_eq!(read_strict_to_vec(kind, grade, number, &frame), Ok((message.to_vec(), 16)));
+            assert_eq!(read_strict_to_vec(kind, grade, number + 1, &frame), Err(Refusal::Unshaped));
+            assert_eq!(account, Account::from_parts(count + 1, 2.0 * f64::from(count + 1), 16, changeover));
+        }
+    }
+    // Accounts from elsewhere, with a changeover that opening would refuse too.
+    for (count, changeover, first) in
+        [(999_999, 999_999, 4), (999_999, 1_000_000, -4), (5, u32::MAX, -4), (5, 5, 4), (6, 5, -4)]
+    {
+        let mut account = Account::from_parts(count, 0.0, 0, changeover);
+        assert_eq!(account.send_to_vec(kind, grade, &message).unwrap().0[0], first);
+        assert_eq!(account, Account::from_parts(count + 1, 2.0, 16, changeover));
+    }
 }
 
 /// Frames whose blocks differ, worked by hand: at kind 4 bits 20 and 28 begin the numbers of the two blocks, and each makes
@@ -182,7 +288,7 @@ fn account() {
 #[test]
 fn largest_block() {
     let sent = |kind: Kind, bits: &[usize], old: u64| {
-        let mut account = Account::from_parts(7, 1.5, old);
+        let mut account = Account::from_parts(7, 1.5, old, 0);
         let mut message = vec![0; message_length(kind, Grade::One)];
         bits.iter().for_each(|bit| message[bit / 8] |= 1 << (bit % 8));
         let (_, energy) = account.send_to_vec(kind, Grade::One, &message).unwrap();
@@ -201,7 +307,8 @@ fn largest_block() {
     }
 }
 
-/// Every message of one bit as one queue, and the same one by one.
+/// Every message of one bit as one queue, and the same one by one, across the changeover and on either side of it; each frame is judged
+/// by its number.
 #[test]
 fn queue_is_one_by_one() {
     for (&kind, &grade) in Kind::ALL.iter().flat_map(|kind| Grade::ALL.iter().map(move |grade| (kind, grade))) {
@@ -210,33 +317,41 @@ fn queue_is_one_by_one() {
         for (k, message) in messages.chunks_exact_mut(bytes).enumerate() {
             message[k / 8] = 1 << (k % 8);
         }
-        let (mut one, mut account) = (vec![99; number * length], Account::begin());
-        for (message, frame) in messages.chunks_exact(bytes).zip(one.chunks_exact_mut(length)) {
-            account.send(kind, grade, message, frame).unwrap();
-        }
-        assert_eq!(account.count() as usize, number);
+        let all = number as u32;
+        for changeover in [0, 1, 2, all / 2, all / 2 + 1, all - 1, all, Account::MAX_COUNT] {
+            let begun = Account::open(changeover).unwrap();
+            let (mut one, mut account) = (vec![99; number * length], begun);
+            for (message, frame) in messages.chunks_exact(bytes).zip(one.chunks_exact_mut(length)) {
+                let judged = account.number();
+                let energy = account.send(kind, grade, message, frame).unwrap();
+                assert_eq!(send_to_vec(kind, grade, judged, message), Ok((frame.to_vec(), energy)));
+                assert_eq!(read_strict_to_vec(kind, grade, judged, frame), Ok((message.to_vec(), energy)));
+            }
+            assert_eq!((account.count(), account.changeover()), (all, changeover));
 
-        let (mut frames, mut queue) = (vec![99; number * length], Account::begin());
-        assert_eq!(queue.send_queue(kind, grade, &messages, &mut frames), Ok(number));
-        assert_eq!((&frames, queue), (&one, account));
-        queue = Account::begin();
-        assert_eq!(queue.send_queue_to_vec(kind, grade, &messages), (one, Ok(number)));
-        assert_eq!(queue, account);
+            let (mut frames, mut queue) = (vec![99; number * length], begun);
+            assert_eq!(queue.send_queue(kind, grade, &messages, &mut frames), Ok(number));
+            assert_eq!((&frames, queue), (&one, account));
+            queue = begun;
+            assert_eq!(queue.send_queue_to_vec(kind, grade, &messages), (one, Ok(number)));
+            assert_eq!(queue, account);
+        }
     }
 }
 
 /// Four messages of kind 3, grade 1, with the powers 2, 0.5, 1 and 0.5; each place refused for its spare bits, and for an account that
-/// is full there.
+/// is full there. All are below the changeover.
 #[test]
 fn queue_stops() {
     let (kind, grade) = (Kind::Three, Grade::One);
+    let parts = |count, sum, largest| Account::from_parts(count, sum, largest, Account::MAX_COUNT);
     let good = [0x00, 0x08, 0x02, 0x00, 0x01, 0x00, 0x10, 0x00];
     let whole = [[-4, 0, 0, 0, 0, 0, 0, 0], [0, 1, 0, 1, 0, 1, 0, 1], [-1; 8], [0, 2, 0, 0, 0, 0, 0, 0]].concat();
     let sums = [0.0, 2.0, 2.5, 3.5, 4.0];
     let check = |messages: &[u8], count: u32, stopped: Stopped| {
         let Stopped { sent, .. } = stopped;
-        let before = Account::from_parts(count, 0.25, 3);
-        let after = Account::from_parts(count + sent as u32, 0.25 + sums[sent], if sent == 0 { 3 } else { 16 });
+        let before = parts(count, 0.25, 3);
+        let after = parts(count + sent as u32, 0.25 + sums[sent], if sent == 0 { 3 } else { 16 });
         let (mut frames, mut account) = (vec![99; 32], before);
         assert_eq!(account.send_queue(kind, grade, messages, &mut frames), Err(stopped));
         assert_eq!((&frames[..8 * sent], &frames[8 * sent..]), (&whole[..8 * sent], &[99; 32][8 * sent..]));
@@ -259,15 +374,15 @@ fn queue_stops() {
             }
         }
     }
-    let mut account = Account::from_parts(Account::MAX_COUNT - 4, 0.25, 3);
+    let mut account = parts(Account::MAX_COUNT - 4, 0.25, 3);
     assert_eq!(account.send_queue_to_vec(kind, grade, &good), (whole, Ok(4)));
-    assert_eq!(account, Account::from_parts(Account::MAX_COUNT, 4.25, 16));
+    assert_eq!(account, parts(Account::MAX_COUNT, 4.25, 16));
 }
 
 /// The tests of a whole queue, each with all that is tested later wrong too.
 #[test]
 fn queue_refusals_in_order() {
-    let full = Account::from_parts(Account::MAX_COUNT, -0.0, 3);
+    let full = Account::from_parts(Account::MAX_COUNT, -0.0, 3, 2);
     let check = |kind, grade, bytes: usize, coordinates: usize, expected: Result<usize, Refusal>| {
         let (mut frames, mut account) = (vec![99; coordinates], full);
         let queued = by_number::send_queue(kind, grade, &vec![255; bytes], &mut frames, &mut account);
@@ -298,20 +413,30 @@ fn queue_refusals_in_order() {
     }
 }
 
-/// More messages than an account takes, from its beginning: all 4096 messages of kind 3, grade 1, over and over.
+/// More messages than an account takes, from its opening: the 4096 messages of kind 3, grade 1, over and over, each twice in turn and so
+/// under an even and an odd number. 61 rounds are sent from the changeover on, and add up to zero in every coordinate.
 #[test]
 fn queue_of_a_million() {
-    let full = Account::MAX_COUNT as usize;
-    let messages: Vec<u8> = (0..=full).flat_map(|i| ((i % 4096) as u16).to_le_bytes()).collect();
-    let (mut frames, mut account) = (vec![99; 8 * (full + 1)], Account::begin());
+    const FULL: usize = Account::MAX_COUNT as usize;
+    const CHANGEOVER: usize = FULL - 61 * 2 * 4096;
+    let messages: Vec<u8> = (0..=FULL).flat_map(|i| ((i / 2 % 4096) as u16).to_le_bytes()).collect();
+    let (mut frames, mut account) = (vec![99; 8 * (FULL + 1)], Account::open(CHANGEOVER as u32).unwrap());
     let queued = account.send_queue(Kind::Three, Grade::One, &messages, &mut frames);
-    assert_eq!(queued, Err(Stopped { sent: full, refusal: Refusal::AccountFull }));
-    let (sent, kept) = frames.split_at(8 * full);
+    assert_eq!(queued, Err(Stopped { sent: FULL, refusal: Refusal::AccountFull }));
+    let (sent, kept) = frames.split_at(8 * FULL);
     assert_eq!(kept, [99; 8]);
     let energies = sent.chunks_exact(8).map(|frame| frame.iter().map(|x| (x * x) as u64).sum::<u64>());
     let (energy, largest) = energies.fold((0, 0), |(sum, most), energy| (sum + energy, energy.max(most)));
     // A whole number of eighths, and so exact.
-    assert_eq!(account, Account::from_parts(Account::MAX_COUNT, energy as f64 / 8.0, largest));
+    assert_eq!(account, Account::from_parts(Account::MAX_COUNT, energy as f64 / 8.0, largest, CHANGEOVER as u32));
+
+    let total = |frames: &[i32]| {
+        let sum = |p: usize| frames.iter().skip(p).step_by(8).sum::<i32>();
+        [0, 1, 2, 3, 4, 5, 6, 7].map(sum)
+    };
+    let (old, new) = sent.split_at(8 * CHANGEOVER);
+    assert_eq!(total(new), [0; 8]);
+    assert!(total(old)[0] < 0);
 }
 
 #[test]
@@ -323,7 +448,9 @@ fn refusals() {
         }
     }
     let numbers: Vec<u8> = Refusal::ALL.iter().map(|refusal| refusal.number()).collect();
-    assert_eq!(numbers, [1, 2, 3, 4, 5, 6, 7, 8, 9, 11, 13]);
-    assert_eq!(Refusal::Unshaped.to_string(), "refused 9: the frame is not the one that is sent for its message");
+    assert_eq!(numbers, [1, 2, 3, 4, 5, 6, 7, 8, 9, 11, 13, 14]);
+    let unshaped = "refused 9: the frame is not the one that is sent for its message under the number";
+    assert_eq!(Refusal::Unshaped.to_string(), unshaped);
     assert_eq!(Refusal::BrokenLevel2.to_string(), "refused 13: level 2 of the frame is not a codeword");
+    assert_eq!(Refusal::Changeover.to_string(), "refused 14: the changeover is above 1000000");
 }

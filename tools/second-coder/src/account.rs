@@ -1,7 +1,8 @@
-//! The account: a count of frames, the sum of their powers, and the largest energy of their blocks. Sending with it, one message or a queue.
+//! The account: a count of frames, the sum of their powers, the largest energy of their blocks, and the changeover: the count from
+//! which on a frame goes by the tie rule of its number, which is the count before it. Sending with it, one message or a queue.
 
 use crate::class;
-use crate::frame::{send_into, Format, Sent};
+use crate::frame::{send_by, Format, Sent, Tie};
 use crate::refusal;
 
 #[derive(Clone, Copy, Debug)]
@@ -9,10 +10,34 @@ pub struct Account {
     pub count: u32,
     pub sum: f64,
     pub largest: u64,
+    pub changeover: u32,
 }
 
-pub const BEGUN: Account = Account { count: 0, sum: 0.0, largest: 0 };
 pub const FULL: u32 = 1_000_000;
+
+impl Account {
+    /// An account without a frame.
+    pub const fn begun(changeover: u32) -> Account {
+        Account { count: 0, sum: 0.0, largest: 0, changeover }
+    }
+
+    /// The rule for the next frame: the old one, the first of the least, below the changeover, and that of its number from there on.
+    pub fn tie(&self) -> Tie {
+        if self.count >= self.changeover {
+            Tie::of(self.count)
+        } else {
+            Tie::First
+        }
+    }
+}
+
+/// Opening an account: the number, and the account that is handed out, with zero in every figure where the changeover is refused.
+pub fn open(changeover: u32) -> (u8, Account) {
+    match changeover {
+        0..=1_000_000 => (0, Account::begun(changeover)),
+        _ => (refusal::CHANGEOVER, Account::begun(0)),
+    }
+}
 
 /// The largest energy among the frame's blocks of 8 coordinates.
 pub fn largest_block(frame: &[i64]) -> u64 {
@@ -27,13 +52,13 @@ pub fn send_counted(
     coordinates: usize,
     account: Account,
 ) -> Result<(Sent, Account), u8> {
-    let sent = send_into(kind, grade, message, coordinates)?;
+    let sent = send_by(kind, grade, account.tie(), message, coordinates)?;
     if account.count >= FULL {
         return Err(refusal::ACCOUNT_FULL);
     }
     let power = sent.energy as f64 / coordinates as f64;
     let largest = account.largest.max(largest_block(&sent.frame));
-    Ok((sent, Account { count: account.count + 1, sum: account.sum + power, largest }))
+    Ok((sent, Account { count: account.count + 1, sum: account.sum + power, largest, ..account }))
 }
 
 /// What sending a queue gives: the refusal number, 0 where no message is refused, the number of messages sent, and the account.
@@ -75,9 +100,13 @@ fn send_each(kind: u8, grade: u8, messages: &[u8], frames: &mut [i64], queued: &
 }
 
 #[cfg(test)]
-mod tests {
+pub mod tests {
     use super::*;
+    use crate::frame::send_into;
     use crate::vectors::with_bits;
+
+    /// An account that goes by the old rule throughout.
+    const BEGUN: Account = Account::begun(FULL);
 
     #[test]
     fn power_is_energy_by_length() {
@@ -101,7 +130,7 @@ mod tests {
         let frame = |first: [i64; 8], second: [i64; 8]| [first, second].concat();
         let (one, two) = ([0, 4, 0, 0, 0, 0, 0, 0], [0, -4, 0, 0, 0, 0, 0, -4]);
         let format = Format::new(4, 1).unwrap();
-        let sent = |bits: &[usize]| send_into(4, 1, &with_bits(&format, bits), 16).unwrap().frame;
+        let sent = |bits: &[usize]| send_into(4, 1, 0, &with_bits(&format, bits), 16).unwrap().frame;
         assert_eq!(sent(&[20, 26, 28]), frame(two, one));
         assert_eq!(sent(&[20, 28, 34]), frame(one, two));
         for bits in [[20, 26, 28], [20, 28, 34]] {
@@ -139,6 +168,109 @@ mod tests {
         assert_eq!(send_counted(3, 1, &[0, 0x10], 8, account).err(), Some(refusal::SPARE_BITS));
     }
 
+    /// The rule for the next frame of an account, by someone who does it wrong.
+    pub type Rule = fn(&Account) -> Tie;
+
+    pub const WRONG_RULES: [(&str, Rule); 9] = [
+        ("the old rule throughout", |_| Tie::First),
+        ("the changeover left out", |account| Tie::of(account.count)),
+        ("parity exchanged", |account| match account.tie() {
+            Tie::First if account.count >= account.changeover => Tie::Last,
+            _ => Tie::First,
+        }),
+        ("the count after the send", |account| Account { count: account.count.wrapping_add(1), ..*account }.tie()),
+        ("the old rule at the changeover", |account| match account.count > account.changeover {
+            true => Tie::of(account.count),
+            false => Tie::First,
+        }),
+        ("the new rule one frame too soon", |account| match account.count.wrapping_add(1) >= account.changeover {
+            true => Tie::of(account.count),
+            false => Tie::First,
+        }),
+        ("old and new exchanged", |account| match account.count >= account.changeover {
+            true => Tie::First,
+            false => Tie::of(account.count),
+        }),
+        ("frames numbered from the changeover", |account| match account.count.checked_sub(account.changeover) {
+            Some(number) => Tie::of(number),
+            None => Tie::First,
+        }),
+        ("a changeover above 1,000,000 taken for none", |account| match account.changeover {
+            0..=FULL => account.tie(),
+            _ => Tie::of(account.count),
+        }),
+    ];
+
+    #[test]
+    fn opening() {
+        let figures = |account: Account| (account.count, account.sum.to_bits(), account.largest, account.changeover);
+        for (changeover, number, kept) in [
+            (0, 0, 0),
+            (1, 0, 1),
+            (999_999, 0, 999_999),
+            (1_000_000, 0, 1_000_000),
+            (1_000_001, refusal::CHANGEOVER, 0),
+            (1 << 31, refusal::CHANGEOVER, 0),
+            (u32::MAX, refusal::CHANGEOVER, 0),
+        ] {
+            let opened = open(changeover);
+            assert_eq!((opened.0, figures(opened.1)), (number, (0, 0, 0, kept)));
+        }
+    }
+
+    /// The first coordinates of the frames of 00 08, which are −4 by the old rule and under even numbers and 4 under odd ones, as often
+    /// as the account takes it, five times at most.
+    fn firsts(changeover: u32, count: u32) -> Vec<i64> {
+        let mut account = Account { count, sum: 0.5, largest: 7, changeover };
+        let mut firsts = Vec::new();
+        while firsts.len() < 5 {
+            let Ok((sent, grown)) = send_counted(3, 1, &[0x00, 0x08], 8, account) else { break };
+            assert_eq!(sent.energy, 16);
+            assert_eq!((grown.count, grown.changeover, grown.largest), (account.count + 1, changeover, 16));
+            assert_eq!(grown.sum, account.sum + 2.0);
+            firsts.push(sent.frame[0]);
+            account = grown;
+        }
+        firsts
+    }
+
+    #[test]
+    fn the_rule_changes_at_the_changeover() {
+        assert_eq!(firsts(0, 0), [-4, 4, -4, 4, -4]);
+        assert_eq!(firsts(1, 0), [-4, 4, -4, 4, -4]);
+        assert_eq!(firsts(2, 0), [-4, -4, -4, 4, -4]);
+        assert_eq!(firsts(3, 0), [-4, -4, -4, 4, -4]);
+        assert_eq!(firsts(4, 0), [-4, -4, -4, -4, -4]);
+        assert_eq!(firsts(5, 1), [-4, -4, -4, -4, 4]);
+        assert_eq!(firsts(0, 1), [4, -4, 4, -4, 4]);
+        assert_eq!(firsts(2, 2), [-4, 4, -4, 4, -4]);
+        assert_eq!(firsts(3, 3), [4, -4, 4, -4, 4]);
+        assert_eq!(firsts(0, FULL - 3), [4, -4, 4]);
+        assert_eq!(firsts(FULL - 1, FULL - 3), [-4, -4, 4]);
+        for changeover in [FULL, FULL + 1, u32::MAX] {
+            assert_eq!(firsts(changeover, FULL - 3), [-4, -4, -4]);
+        }
+        for count in [FULL, FULL + 1, u32::MAX] {
+            assert_eq!(firsts(0, count), []);
+        }
+    }
+
+    #[test]
+    fn a_queue_goes_through_its_changeover() {
+        let first = |changeover, count| {
+            let account = Account { count, changeover, ..BEGUN };
+            let mut frames = vec![9; 40];
+            let queued = send_queue(3, 1, &[0x00, 0x08].repeat(5), &mut frames, account);
+            assert_eq!(queued.account.changeover, changeover);
+            frames.chunks_exact(8).take(queued.sent).map(|frame| frame[0]).collect::<Vec<_>>()
+        };
+        for count in [0, 1, 2, 3, FULL - 5, FULL - 2, FULL] {
+            for changeover in [0, 1, 2, 3, 4, 5, 6, FULL - 4, FULL - 1, FULL, u32::MAX] {
+                assert_eq!(first(changeover, count), firsts(changeover, count));
+            }
+        }
+    }
+
     /// What a queue gives: number, messages sent, the account's figures, and the coordinates, which were 9.
     type Given = (u8, usize, (u32, f64, u64), Vec<i64>);
 
@@ -164,13 +296,13 @@ mod tests {
         assert_eq!(whole, (0, 2, (2, 2.5, 16), [FIRST, SECOND].concat()));
         let stopped = queue(&[0x00, 0x08, 0x02, 0x00, 0x00, 0x10, 0x01, 0x00], 32, BEGUN);
         assert_eq!(stopped, (refusal::SPARE_BITS, 2, (2, 2.5, 16), [FIRST, SECOND, [9; 8], [9; 8]].concat()));
-        let at_once = queue(&[0x00, 0x10, 0x00, 0x08], 16, Account { count: 7, sum: 0.25, largest: 3 });
+        let at_once = queue(&[0x00, 0x10, 0x00, 0x08], 16, Account { count: 7, sum: 0.25, largest: 3, ..BEGUN });
         assert_eq!(at_once, (refusal::SPARE_BITS, 0, (7, 0.25, 3), vec![9; 16]));
     }
 
     #[test]
     fn an_account_is_full_in_the_middle_of_a_queue() {
-        let account = Account { count: FULL - 1, sum: 3.0, largest: 5 };
+        let account = Account { count: FULL - 1, sum: 3.0, largest: 5, ..BEGUN };
         let stopped = queue(&[0x02, 0x00, 0x00, 0x08, 0x00, 0x10], 24, account);
         assert_eq!(stopped, (refusal::ACCOUNT_FULL, 1, (FULL, 3.5, 5), [SECOND, [9; 8], [9; 8]].concat()));
         // The full account's message has a spare bit set: that is tested first.
@@ -183,13 +315,16 @@ mod tests {
     #[test]
     fn an_empty_queue_sends_none() {
         for count in [0, 1, FULL - 1, FULL, u32::MAX] {
-            assert_eq!(queue(&[], 0, Account { count, sum: -0.5, largest: 9 }), (0, 0, (count, -0.5, 9), vec![]));
+            assert_eq!(
+                queue(&[], 0, Account { count, sum: -0.5, largest: 9, ..BEGUN }),
+                (0, 0, (count, -0.5, 9), vec![])
+            );
         }
     }
 
     #[test]
     fn lengths_of_a_queue_before_anything_is_sent() {
-        let account = Account { count: FULL, sum: 1.0, largest: 2 };
+        let account = Account { count: FULL, sum: 1.0, largest: 2, ..BEGUN };
         let number = |kind, grade, bytes: usize, coordinates: usize| {
             let (number, sent, figures, frames) = queue_of(kind, grade, &vec![0xFF; bytes], coordinates, account);
             assert_eq!((sent, figures, frames), (0, (FULL, 1.0, 2), vec![9; coordinates]));

@@ -143,5 +143,6 @@ mod tests {
         let all = least_members(&block, 4);
         assert_eq!(all.len(), 16);
         assert_eq!(all[0], [-4, 0, 0, 0, 0, 0, 0, 0]);
+        assert_eq!(all[15], [4, 0, 0, 0, 0, 0, 0, 0]);
     }
 }

@@ -109,6 +109,31 @@ pub fn leader(format: &Format, message: &[u8]) -> Vec<i64> {
     leader
 }
 
+/// Which one is sent of several frames of least energy: the first in reading order, or the last.
+#[derive(Clone, Copy, Debug)]
+pub enum Tie {
+    First,
+    Last,
+}
+
+impl Tie {
+    /// The rule of a frame's number: an even one has the first, an odd one the last.
+    pub fn of(number: u32) -> Tie {
+        match number % 2 {
+            0 => Tie::First,
+            _ => Tie::Last,
+        }
+    }
+
+    /// Of blocks in reading order, the one that is sent.
+    fn choose(self, all: &[Block]) -> Block {
+        match self {
+            Tie::First => all[0],
+            Tie::Last => all[all.len() - 1],
+        }
+    }
+}
+
 /// A sent frame, its energy, and the number of frames of least energy in its class.
 pub struct Sent {
     pub frame: Vec<i64>,
@@ -116,21 +141,23 @@ pub struct Sent {
     pub least: u64,
 }
 
-/// The first in reading order of the least members of the frame's class.
-pub fn shaped(format: &Format, leader: &[i64]) -> Sent {
+/// The first or the last in reading order of the least members of the frame's class. Each block has its least members for itself, so
+/// the first frame has the first of each block, and the last the last.
+pub fn shaped(format: &Format, tie: Tie, leader: &[i64]) -> Sent {
     let mut sent = Sent { frame: Vec::new(), energy: 0, least: 1 };
     for block in leader.chunks_exact(8) {
         let block: Block = block.try_into().unwrap();
         let all = class::least_members(&block, format.scale());
-        sent.energy += class::energy(&all[0]);
+        let chosen = tie.choose(&all);
+        sent.energy += class::energy(&chosen);
         sent.least *= all.len() as u64;
-        sent.frame.extend(all[0]);
+        sent.frame.extend(chosen);
     }
     sent
 }
 
-/// Sending, with the number of coordinates that the caller lends for the frame.
-pub fn send_into(kind: u8, grade: u8, message: &[u8], coordinates: usize) -> Result<Sent, u8> {
+/// Sending by one rule for ties, with the number of coordinates that the caller lends for the frame.
+pub fn send_by(kind: u8, grade: u8, tie: Tie, message: &[u8], coordinates: usize) -> Result<Sent, u8> {
     let format = Format::new(kind, grade)?;
     if message.len() != format.message_bytes() {
         return Err(refusal::MESSAGE_LENGTH);
@@ -139,13 +166,18 @@ pub fn send_into(kind: u8, grade: u8, message: &[u8], coordinates: usize) -> Res
         return Err(refusal::FRAME_LENGTH);
     }
     check_message(&format, message)?;
-    Ok(shaped(&format, &leader(&format, message)))
+    Ok(shaped(&format, tie, &leader(&format, message)))
 }
 
-/// Sending, with a frame of the right length lent.
-pub fn send(kind: u8, grade: u8, message: &[u8]) -> Result<Sent, u8> {
+/// Sending under a number, with the number of coordinates that the caller lends for the frame.
+pub fn send_into(kind: u8, grade: u8, number: u32, message: &[u8], coordinates: usize) -> Result<Sent, u8> {
+    send_by(kind, grade, Tie::of(number), message, coordinates)
+}
+
+/// Sending under a number, with a frame of the right length lent.
+pub fn send(kind: u8, grade: u8, number: u32, message: &[u8]) -> Result<Sent, u8> {
     let coordinates = Format::new(kind, grade).map_or(0, |format| format.length());
-    send_into(kind, grade, message, coordinates)
+    send_into(kind, grade, number, message, coordinates)
 }
 
 /// s1 to s8 of a block v: in their ranges, and v − s a point of 2^b times E8. For each of the two
@@ -203,10 +235,10 @@ pub fn read_open_into(kind: u8, grade: u8, frame: &[i64], bytes: usize) -> Resul
     Ok((message, class::energy(frame)))
 }
 
-/// Reading strictly: the frame must be the sent frame of the message that the open reading gives.
-pub fn read_strict_into(kind: u8, grade: u8, frame: &[i64], bytes: usize) -> Result<(Vec<u8>, u64), u8> {
+/// Reading strictly under a number: the frame must be the one that is sent under it for the message that the open reading gives.
+pub fn read_strict_into(kind: u8, grade: u8, number: u32, frame: &[i64], bytes: usize) -> Result<(Vec<u8>, u64), u8> {
     let (message, energy) = read_open_into(kind, grade, frame, bytes)?;
-    if send(kind, grade, &message)?.frame != frame {
+    if send(kind, grade, number, &message)?.frame != frame {
         return Err(refusal::UNSHAPED);
     }
     Ok((message, energy))
@@ -217,9 +249,9 @@ pub fn read_open(kind: u8, grade: u8, frame: &[i64]) -> Result<(Vec<u8>, u64), u
     read_open_into(kind, grade, frame, Format::new(kind, grade).map_or(0, |format| format.message_bytes()))
 }
 
-/// Reading strictly, with message bytes of the right number lent.
-pub fn read_strict(kind: u8, grade: u8, frame: &[i64]) -> Result<(Vec<u8>, u64), u8> {
-    read_strict_into(kind, grade, frame, Format::new(kind, grade).map_or(0, |format| format.message_bytes()))
+/// Reading strictly under a number, with message bytes of the right number lent.
+pub fn read_strict(kind: u8, grade: u8, number: u32, frame: &[i64]) -> Result<(Vec<u8>, u64), u8> {
+    read_strict_into(kind, grade, number, frame, Format::new(kind, grade).map_or(0, |format| format.message_bytes()))
 }
 
 #[cfg(test)]
@@ -227,9 +259,15 @@ mod tests {
     use super::*;
     use crate::random::Random;
 
-    fn sent(kind: u8, grade: u8, message: &[u8]) -> (Vec<i64>, u64) {
-        let sent = send(kind, grade, message).unwrap();
+    /// The frame and the energy under a number.
+    fn numbered(kind: u8, grade: u8, number: u32, message: &[u8]) -> (Vec<i64>, u64) {
+        let sent = send(kind, grade, number, message).unwrap();
         (sent.frame, sent.energy)
+    }
+
+    /// By the old rule, which is that of number 0.
+    fn sent(kind: u8, grade: u8, message: &[u8]) -> (Vec<i64>, u64) {
+        numbered(kind, grade, 0, message)
     }
 
     #[test]
@@ -261,18 +299,18 @@ mod tests {
     #[test]
     fn further_cases() {
         assert_eq!(read_open(4, 1, &[2; 16]), Ok((vec![0x20, 0, 0, 0, 0], 64)));
-        assert_eq!(read_strict(4, 1, &[2; 16]), Err(refusal::UNSHAPED));
+        assert_eq!(read_strict(4, 1, 0, &[2; 16]), Err(refusal::UNSHAPED));
         for grade in 1..=4 {
             assert_eq!(read_open(3, grade, &[1, 0, 0, 0, 0, 0, 0, 0]), Err(refusal::BROKEN_LEVEL_0));
         }
-        assert_eq!(send(3, 1, &[0x00, 0x10]).err(), Some(refusal::SPARE_BITS));
+        assert_eq!(send(3, 1, 0, &[0x00, 0x10]).err(), Some(refusal::SPARE_BITS));
         for end in [-1i64, 1] {
             let mut frame = [0; 8];
             frame[3] = 1_048_576 * end;
             assert_eq!(read_open(3, 1, &frame), Ok((vec![0, 0], 1 << 40)));
             frame[3] += end;
             assert_eq!(read_open(3, 1, &frame), Err(refusal::OVER_RANGE));
-            assert_eq!(read_strict(3, 1, &frame), Err(refusal::OVER_RANGE));
+            assert_eq!(read_strict(3, 1, 0, &frame), Err(refusal::OVER_RANGE));
         }
     }
 
@@ -309,29 +347,29 @@ mod tests {
             for (first, number) in [(1, 7), (2, 8), (3, 7), (4, 13), (5, 7), (6, 8), (7, 7), (-1, 7), (-2, 8), (-4, 13)]
             {
                 assert_eq!(read_open(6, grade, &begun(&[first])), Err(number));
-                assert_eq!(read_strict(6, grade, &begun(&[first])), Err(number));
+                assert_eq!(read_strict(6, grade, 0, &begun(&[first])), Err(number));
             }
             // Two coordinates moved by 4 are at squared distance 32, and of the coding set again.
-            assert_eq!(read_strict(6, grade, &begun(&[4, 4])).unwrap().1, 32);
+            assert_eq!(read_strict(6, grade, 0, &begun(&[4, 4])).unwrap().1, 32);
         }
         assert_eq!(read_open(6, 1, &[4; 64]), Ok((one_bit(1, 49), 1024)));
-        assert_eq!(read_strict(6, 1, &[4; 64]), Err(refusal::UNSHAPED));
+        assert_eq!(read_strict(6, 1, 0, &[4; 64]), Err(refusal::UNSHAPED));
         for end in [-1_048_576, 1_048_576] {
             assert_eq!(read_open(6, 4, &[end; 64]), Ok((vec![0; 46], 1 << 46)));
-            assert_eq!(read_strict(6, 4, &[end; 64]), Err(refusal::UNSHAPED));
+            assert_eq!(read_strict(6, 4, 0, &[end; 64]), Err(refusal::UNSHAPED));
             let past = begun(&[4, end + end.signum()]);
             assert_eq!(read_open(6, 4, &past), Err(refusal::OVER_RANGE));
-            assert_eq!(read_strict(6, 4, &past), Err(refusal::OVER_RANGE));
+            assert_eq!(read_strict(6, 4, 0, &past), Err(refusal::OVER_RANGE));
         }
     }
 
     #[test]
     fn order_of_refusals() {
-        assert_eq!(send_into(2, 0, &[0; 9], 9).err(), Some(refusal::KIND));
-        assert_eq!(send_into(3, 0, &[0; 9], 9).err(), Some(refusal::GRADE));
-        assert_eq!(send_into(3, 1, &[255; 9], 9).err(), Some(refusal::MESSAGE_LENGTH));
-        assert_eq!(send_into(3, 1, &[255; 2], 9).err(), Some(refusal::FRAME_LENGTH));
-        assert_eq!(send_into(3, 1, &[255; 2], 8).err(), Some(refusal::SPARE_BITS));
+        assert_eq!(send_into(2, 0, 0, &[0; 9], 9).err(), Some(refusal::KIND));
+        assert_eq!(send_into(3, 0, 0, &[0; 9], 9).err(), Some(refusal::GRADE));
+        assert_eq!(send_into(3, 1, 0, &[255; 9], 9).err(), Some(refusal::MESSAGE_LENGTH));
+        assert_eq!(send_into(3, 1, 0, &[255; 2], 9).err(), Some(refusal::FRAME_LENGTH));
+        assert_eq!(send_into(3, 1, 0, &[255; 2], 8).err(), Some(refusal::SPARE_BITS));
         let far = 1_048_577;
         assert_eq!(read_open_into(7, 9, &[far; 9], 9), Err(refusal::KIND));
         assert_eq!(read_open_into(4, 5, &[far; 9], 9), Err(refusal::GRADE));
@@ -343,21 +381,109 @@ mod tests {
         assert_eq!(read_open_into(4, 1, &frame, 5), Err(refusal::BROKEN_LEVEL_0));
         frame[0] = 2;
         assert_eq!(read_open_into(4, 1, &frame, 5), Err(refusal::BROKEN_LEVEL_1));
-        assert_eq!(send_into(6, 1, &[255; 46], 63).err(), Some(refusal::MESSAGE_LENGTH));
-        assert_eq!(send_into(6, 4, &[255; 46], 63).err(), Some(refusal::FRAME_LENGTH));
+        assert_eq!(send_into(6, 1, 0, &[255; 46], 63).err(), Some(refusal::MESSAGE_LENGTH));
+        assert_eq!(send_into(6, 4, 0, &[255; 46], 63).err(), Some(refusal::FRAME_LENGTH));
         assert_eq!(read_open_into(6, 5, &[far; 63], 9), Err(refusal::GRADE));
         assert_eq!(read_open_into(6, 4, &[far; 63], 9), Err(refusal::FRAME_LENGTH));
         assert_eq!(read_open_into(6, 4, &[far; 64], 9), Err(refusal::MESSAGE_LENGTH));
         assert_eq!(read_open_into(6, 4, &[far; 64], 46), Err(refusal::OVER_RANGE));
     }
 
+    /// Numbers of each parity: the ends, and some between.
+    const EVEN: [u32; 6] = [0, 2, 1_000_000, 1 << 31, u32::MAX - 3, u32::MAX - 1];
+    const ODD: [u32; 6] = [1, 3, 999_999, (1 << 31) + 1, u32::MAX - 2, u32::MAX];
+
+    #[test]
+    fn frames_of_odd_numbers() {
+        for (kind, message, even, odd) in [
+            (3, &[0x00, 0x08][..], vec![-4, 0, 0, 0, 0, 0, 0, 0], vec![4, 0, 0, 0, 0, 0, 0, 0]),
+            (3, &[0x02, 0x08], vec![0, -3, 0, 1, 0, 1, 0, 1], vec![0, 1, 0, 1, 0, 1, 0, -3]),
+            (3, &[0x01, 0x00], vec![-1; 8], vec![1; 8]),
+            (3, &[0x10, 0x04], vec![0, -2, 0, 0, 0, 0, 0, -2], vec![0, 2, 0, 0, 0, 0, 0, 2]),
+            (3, &[0x02, 0x00], vec![0, 1, 0, 1, 0, 1, 0, 1], vec![0, 1, 0, 1, 0, 1, 0, 1]),
+            (4, &[0x20, 0, 0, 0, 0], vec![-2; 16], vec![2; 16]),
+            (4, &[0x01, 0, 0, 0, 0], vec![1; 16], vec![1; 16]),
+            (6, &one_bit(1, 49), vec![-4; 64], vec![4; 64]),
+            // The top bit of the fourth block's s8: M at one place of 16, the first of which is −M and the last M, both at the first.
+            (6, &one_bit(1, 112 + 31), place(24, -16), place(24, 16)),
+        ] {
+            for (numbers, frame) in [(EVEN, &even), (ODD, &odd)] {
+                for number in numbers {
+                    assert_eq!(numbered(kind, 1, number, message), (frame.clone(), class::energy(frame)));
+                }
+            }
+        }
+    }
+
+    /// 64 coordinates, all 0 but one.
+    fn place(p: usize, x: i64) -> Vec<i64> {
+        let mut frame = vec![0; 64];
+        frame[p] = x;
+        frame
+    }
+
+    #[test]
+    fn strict_readings_under_a_number() {
+        let message = vec![0x00, 0x08];
+        for (numbers, first) in [(EVEN, -4), (ODD, 4)] {
+            for number in numbers {
+                let frame = |x| [x, 0, 0, 0, 0, 0, 0, 0];
+                assert_eq!(read_strict(3, 1, number, &frame(first)), Ok((message.clone(), 16)));
+                assert_eq!(read_strict(3, 1, number, &frame(-first)), Err(refusal::UNSHAPED));
+                // The same energy, and neither the first nor the last.
+                assert_eq!(read_strict(3, 1, number, &[0, 0, 0, -4, 0, 0, 0, 0]), Err(refusal::UNSHAPED));
+                // No tie: the frame passes under every number.
+                assert_eq!(read_strict(3, 1, number, &[0, 1, 0, 1, 0, 1, 0, 1]), Ok((vec![0x02, 0x00], 4)));
+            }
+        }
+        // A frame with the first of one block and the last of the other passes under no number.
+        let mixed = [[0, -4, 0, 0, 0, 0, 0, -4], [0, 4, 0, 0, 0, 0, 0, 4]].concat();
+        let (message, energy) = read_open(4, 1, &mixed).unwrap();
+        assert_eq!(energy, 64);
+        for number in [EVEN, ODD].concat() {
+            assert_eq!(read_strict(4, 1, number, &mixed), Err(refusal::UNSHAPED));
+            assert_eq!(numbered(4, 1, number, &message).1, 64);
+        }
+    }
+
     #[test]
     fn every_message_of_kind_3_grade_1_comes_back() {
-        for number in 0..1u32 << 12 {
-            let message = [number as u8, (number >> 8) as u8];
-            let sent = send(3, 1, &message).unwrap();
-            assert_eq!(read_strict(3, 1, &sent.frame), Ok((message.to_vec(), sent.energy)));
+        for message in (0..1u32 << 12).map(|bits| bits.to_le_bytes()[..2].to_vec()) {
+            for number in [0, 1] {
+                let (frame, energy) = numbered(3, 1, number, &message);
+                assert_eq!(read_strict(3, 1, number, &frame), Ok((message.clone(), energy)));
+            }
         }
+    }
+
+    /// The frames of all messages of kind 3 and a grade, under two numbers, added up.
+    fn total(grade: u8, numbers: [u32; 2]) -> [i64; 8] {
+        let format = Format::new(3, grade).unwrap();
+        let mut total = [0; 8];
+        for bits in 0..1u32 << format.message_bits() {
+            let message = &bits.to_le_bytes()[..format.message_bytes()];
+            for number in numbers {
+                let (frame, _) = numbered(3, grade, number, message);
+                total.iter_mut().zip(frame).for_each(|(sum, x)| *sum += x);
+            }
+        }
+        total
+    }
+
+    #[test]
+    fn even_and_odd_frames_of_all_messages_add_up_to_zero() {
+        for numbers in [[0, 1], [1, 0], [u32::MAX - 1, 1], [1_000_000, u32::MAX]] {
+            assert_eq!(total(1, numbers), [0; 8]);
+        }
+        // Of one rule they do not: the transformer saturates.
+        assert!(total(1, [0, 2])[0] < 0);
+        assert!(total(1, [1, 3])[0] > 0);
+    }
+
+    /// The same of the 2^20 messages of grade 2.
+    #[test]
+    fn so_do_those_of_grade_2() {
+        assert_eq!(total(2, [0, 1]), [0; 8]);
     }
 
     #[test]
@@ -365,14 +491,15 @@ mod tests {
         let mut random = Random::new(1);
         for round in 0..1200 {
             let (kind, grade) = (3 + (round % 4) as u8, 1 + (round / 4 % 4) as u8);
+            let number = random.draw() as u32;
             let format = Format::new(kind, grade).unwrap();
             let message = crate::vectors::dense(&format, &mut random);
-            let sent = send(kind, grade, &message).unwrap();
-            assert!(sent.frame.iter().all(|x| (-format.scale()..format.scale()).contains(x)));
-            assert_eq!(read_strict(kind, grade, &sent.frame), Ok((message.clone(), sent.energy)));
+            let sent = send(kind, grade, number, &message).unwrap();
+            assert!(sent.frame.iter().all(|x| (-format.scale()..=format.scale()).contains(x)));
+            assert_eq!(read_strict(kind, grade, number, &sent.frame), Ok((message.clone(), sent.energy)));
             let moved = crate::vectors::moved_by_point(&format, &sent.frame, &mut random);
             assert_eq!(read_open(kind, grade, &moved).unwrap().0, message);
-            assert_eq!(read_strict(kind, grade, &moved), Err(refusal::UNSHAPED));
+            assert_eq!(read_strict(kind, grade, number, &moved), Err(refusal::UNSHAPED));
         }
     }
 }

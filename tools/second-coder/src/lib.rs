@@ -1,7 +1,8 @@
 //! A second coder of document 01, written apart from the library, to check it against.
 //!
 //! It is slow and plain on purpose: codewords come from the definition by masks, and the sent
-//! frame from a search of the leader's class that keeps every member of least energy.
+//! frame from a search of the leader's class that keeps every member of least energy. Of these an
+//! even number sends the first in reading order, and an odd one the last.
 
 pub mod account;
 pub mod calls;
@@ -28,4 +29,5 @@ pub mod refusal {
     pub const ACCOUNT_FULL: u8 = 11;
     pub const LONG_SHEET: u8 = 12;
     pub const BROKEN_LEVEL_2: u8 = 13;
+    pub const CHANGEOVER: u8 = 14;
 }

@@ -16,28 +16,32 @@ fn write_files() -> std::io::Result<()> {
     let all = vectors::all_messages();
     let (file, counts) = vectors::vectors(&all);
     std::fs::write(crates("vectors/data/vectors.bin"), &file)?;
-    println!("| kind | grade | vectors | with ties | most frames of least energy |");
+    println!("| kind | grade | messages | with ties | most frames of least energy |");
     println!("|---|---|---|---|---|");
     for count in &counts {
-        println!("| {} | {} | {} | {} | {} |", count.kind, count.grade, count.vectors, count.tied, count.most);
+        println!("| {} | {} | {} | {} | {} |", count.kind, count.grade, count.messages, count.tied, count.most);
     }
-    let vectors: usize = counts.iter().map(|count| count.vectors).sum();
-    let tied: usize = counts.iter().map(|count| count.tied).sum();
+    // Each message stands there under an even and an odd number.
+    let vectors: usize = counts.iter().map(|count| 2 * count.messages).sum();
+    let tied: usize = counts.iter().map(|count| 2 * count.tied).sum();
     println!("\nvectors.bin: {vectors} vectors, {tied} with ties, {} bytes", file.len());
     // A frame moved by two is a question at kinds with a second level alone, and by four at those with a third.
-    let from = |kind| counts.iter().filter(|count| count.kind >= kind).map(|count| count.vectors).sum::<usize>();
-    let (two, four) = (from(4), from(6));
+    let from = |kind| counts.iter().filter(|count| count.kind >= kind).map(|count| 2 * count.messages).sum::<usize>();
     let checks = [
-        "vectors",
-        "sent",
-        "read openly",
-        "read strictly",
-        "moved by a whole point",
-        "moved by a half point",
-        "moved by one",
+        ("vectors", vectors),
+        ("sent", vectors),
+        ("read openly", vectors),
+        ("read strictly", vectors),
+        ("passed by the other parity", vectors - tied),
+        ("refused by the other parity", tied),
+        ("moved by a whole point", vectors),
+        ("moved by a half point", vectors),
+        ("moved by one", vectors),
+        ("moved by two", from(4)),
+        ("moved by four", from(6)),
+        ("different", 0),
     ];
-    let printed: String = checks.iter().map(|check| format!("{check} {vectors}\n")).collect();
-    let printed = format!("{printed}moved by two {two}\nmoved by four {four}\ndifferent 0\n");
+    let printed: String = checks.iter().map(|(check, count)| format!("{check} {count}\n")).collect();
     std::fs::write(crates("vectors/stdout"), printed)?;
     let (ways, sorts) = vectors::ways(&all);
     std::fs::write(crates("ways/data/ways.bin"), &ways)?;
@@ -56,16 +60,16 @@ fn write_files() -> std::io::Result<()> {
         printed += &sheet::listing(&sheet);
     }
     std::fs::write(crates("sheets/stdout"), format!("{printed}sheets {count}\ndifferent 0\n"))?;
-    let (calls, functions, numbers) = calls::call_file();
+    let (calls, calls::Counts { sorts, functions, numbers }) = calls::call_file();
     std::fs::write(crates("calls/data/calls.bin"), &calls)?;
     println!(
-        "calls.bin: {functions:?} calls of each function, {numbers:?} answered by each number, {} bytes",
+        "calls.bin: {sorts:?}, {functions:?} calls of each function, {numbers:?} answered by each number, {} bytes",
         calls.len()
     );
-    let names = ["sending", "open reading", "strict reading", "sending with an account", "beginning of an account"];
+    let names = ["sending", "open reading", "strict reading", "sending with an account", "opening of an account"];
     let mut printed: String = names.iter().zip(functions).map(|(name, count)| format!("{name} {count}\n")).collect();
-    // Every call but the beginning of an account is made of an exported function too.
-    printed += &format!("exported {}\ndifferent 0\n", functions[..4].iter().sum::<usize>());
+    // Every call is made of an exported function too.
+    printed += &format!("exported {}\ndifferent 0\n", functions.iter().sum::<usize>());
     std::fs::write(crates("calls/stdout"), printed)?;
     let (queues, sorts, numbers) = queues::queue_file();
     std::fs::write(crates("queues/data/queues.bin"), &queues)?;

@@ -1,10 +1,10 @@
 //! Queues of messages for the library to send, with what they must answer and leave, the same on every run.
 
-use crate::account::{largest_block, send_queue, Account, Queued, BEGUN, FULL};
-use crate::calls::{figures, halves, write_account, NAN, NONE};
+use crate::account::{largest_block, send_queue, Account, Queued, FULL};
+use crate::calls::{changes, figures, write_account, NAN, NEW, NONE, OLD};
 use crate::frame::{send, Format, GRADES, KINDS};
 use crate::random::Random;
-use crate::vectors::{dense, edge, with_bits};
+use crate::vectors::{dense, edge, halves, tied_edge, tied_throughout, with_bits};
 
 /// The places that the program has for message bytes and for coordinates.
 const BYTES: usize = 288;
@@ -82,8 +82,11 @@ fn several(format: &Format, count: usize, random: &mut Random) -> Vec<Vec<u8>> {
 fn document(queues: &mut Queues) {
     let messages = [[0, 0], [1, 0], [2, 0], [0x10, 0], [0, 4], [0x10, 4], [0, 8], [0xF0, 7]].map(Vec::from);
     for count in 1..=8 {
-        queues.put(3, 1, &messages[..count], BEGUN);
+        queues.put(3, 1, &messages[..count], OLD);
     }
+    // By the rule of their numbers: of those that have ties the second and the sixth are odd, and from count 1 on the seventh.
+    queues.put(3, 1, &messages, NEW);
+    queues.put(3, 1, &messages, Account { count: 1, ..NEW });
     let mut backwards = messages.clone();
     backwards.reverse();
     queues.put(3, 1, &backwards, NONE);
@@ -91,13 +94,15 @@ fn document(queues: &mut Queues) {
     for place in 0..=8 {
         let mut messages = messages.to_vec();
         messages.insert(place, spare.clone());
-        queues.put(3, 1, &messages, BEGUN);
+        queues.put(3, 1, &messages, if place % 2 == 0 { OLD } else { NEW });
     }
-    queues.put(3, 1, &[vec![0, 8], vec![2, 0], spare.clone(), vec![1, 0]], BEGUN);
-    queues.put(3, 1, &[spare], BEGUN);
+    queues.put(3, 1, &[vec![0, 8], vec![2, 0], spare.clone(), vec![1, 0]], OLD);
+    queues.put(3, 1, &[spare], OLD);
     let messages = [vec![1, 0, 0, 0, 0], vec![0x20, 0, 0, 0, 0]];
-    queues.put(4, 1, &messages, BEGUN);
-    queues.put(4, 1, &[messages[1].clone(), messages[0].clone()], BEGUN);
+    for account in [OLD, NEW] {
+        queues.put(4, 1, &messages, account);
+        queues.put(4, 1, &[messages[1].clone(), messages[0].clone()], account);
+    }
 }
 
 /// No message, with accounts of all sorts.
@@ -105,22 +110,22 @@ fn empty(queues: &mut Queues, kind: u8, grade: u8) {
     for count in [FULL - 1, FULL, FULL + 1, u32::MAX] {
         queues.put(kind, grade, &[], Account { count, ..NONE });
     }
-    for sum in [NAN, f64::INFINITY, -0.0] {
-        queues.put(kind, grade, &[], Account { sum, largest: u64::MAX, ..NONE });
+    for (sum, changeover) in [(NAN, FULL + 1), (f64::INFINITY, u32::MAX), (-0.0, 17)] {
+        queues.put(kind, grade, &[], Account { sum, largest: u64::MAX, changeover, ..NONE });
     }
-    queues.put(kind, grade, &[], BEGUN);
+    queues.put(kind, grade, &[], OLD);
 }
 
 /// Good queues of 1 to 6 messages, and one of as many as there is room for.
 fn good(queues: &mut Queues, kind: u8, grade: u8, random: &mut Random) {
     let format = Format::new(kind, grade).unwrap();
     for count in 1..=6 {
-        queues.put(kind, grade, &several(&format, count, random), BEGUN);
+        queues.put(kind, grade, &several(&format, count, random), OLD);
         let any = |_| if random.one_in(2) { edge(&format, random) } else { dense(&format, random) };
         let messages: Vec<_> = (0..count).map(any).collect();
         queues.put(kind, grade, &messages, NONE);
     }
-    queues.put(kind, grade, &several(&format, (COORDINATES - PAST) / format.length(), random), BEGUN);
+    queues.put(kind, grade, &several(&format, (COORDINATES - PAST) / format.length(), random), NEW);
 }
 
 /// Each spare bit at each place of a queue; those after it are good, or have spare bits set too.
@@ -182,7 +187,7 @@ fn lengths(queues: &mut Queues, kind: u8, grade: u8) {
         if i % 2 == grade as usize % 2 {
             queues.lend(kind, grade, &vec![0xFF; bytes], coordinates, Account { count: FULL, ..NONE });
         } else {
-            queues.lend(kind, grade, &vec![0; bytes], coordinates, BEGUN);
+            queues.lend(kind, grade, &vec![0; bytes], coordinates, OLD);
         }
     }
 }
@@ -198,7 +203,7 @@ fn wrong(queues: &mut Queues) {
         all.extend([0, 5, 6, 129, 255].map(|grade| (kind, grade, kind, 4)));
     }
     for (kind, grade, good_kind, good_grade) in all {
-        let over = Account { count: u32::MAX, sum: 0.1, largest: u64::MAX };
+        let over = Account { count: u32::MAX, sum: 0.1, largest: u64::MAX, changeover: u32::MAX };
         queues.lend(kind, grade, &[0xFF; 7], 15, over);
         let format = Format::new(good_kind, good_grade).unwrap();
         queues.lend(kind, grade, &vec![0; 3 * format.message_bytes()], 3 * format.length(), NONE);
@@ -214,14 +219,18 @@ fn elsewhere(queues: &mut Queues, random: &mut Random) {
             let (kind, grade) = (3 + ((i + j) % 4) as u8, 1 + (i % 4) as u8);
             let format = Format::new(kind, grade).unwrap();
             let mut messages = several(&format, 3, random);
-            let block = |message: &Vec<u8>| largest_block(&send(kind, grade, message).unwrap().frame);
+            if j % 2 == 1 {
+                messages[1] = tied_edge(&format, random);
+            }
+            let block = |message: &Vec<u8>| largest_block(&send(kind, grade, 0, message).unwrap().frame);
             let largest = figures(messages.iter().map(block).max().unwrap())[j];
             let count = [0, 1, 12_345, FULL - 3, FULL - 2, FULL - 1, FULL][(i + 2 * j) % 7];
-            queues.put(kind, grade, &messages, Account { count, sum, largest });
+            let account = Account { count, sum, largest, changeover: changes(count)[j % 7] };
+            queues.put(kind, grade, &messages, account);
             // Of kinds 3 and 4 again with a spare bit set.
             if kind < 5 {
                 *messages[j % 3].last_mut().unwrap() |= 0x10;
-                queues.put(kind, grade, &messages, Account { count, sum, largest });
+                queues.put(kind, grade, &messages, account);
             }
         }
     }
@@ -235,8 +244,30 @@ fn largest(queues: &mut Queues, kind: u8, grade: u8) {
         let (second, eighth) = halves(&format, place % (format.length() / 8));
         let mut messages = vec![with_bits(&format, &[second]); 4];
         messages[place] = with_bits(&format, &[second, eighth]);
-        queues.put(kind, grade, &messages, BEGUN);
-        queues.put(kind, grade, &messages, Account { count: FULL - place as u32, ..BEGUN });
+        queues.put(kind, grade, &messages, OLD);
+        queues.put(kind, grade, &messages, Account { count: FULL - place as u32, ..OLD });
+    }
+}
+
+/// Five messages with ties, from an even and from an odd count on, with a changeover before the first of them, at each place, past the
+/// last, and past those that an account may be opened with; and the same up to a full account and up to a spare bit.
+fn changeovers(queues: &mut Queues, kind: u8, grade: u8, random: &mut Random) {
+    let format = Format::new(kind, grade).unwrap();
+    let mut messages = vec![tied_throughout(&format); 5];
+    messages[2] = tied_edge(&format, random);
+    for count in [0, 7] {
+        for changeover in [0, count, count + 1, count + 2, count + 3, count + 4, count + 5, FULL, FULL + 1, u32::MAX] {
+            queues.put(kind, grade, &messages, Account { count, sum: 0.5, largest: 1, changeover });
+        }
+    }
+    for changeover in [0, FULL - 3, FULL - 2, FULL - 1, FULL] {
+        queues.put(kind, grade, &messages, Account { count: FULL - 3, changeover, ..NONE });
+    }
+    if format.message_bits() < 8 * format.message_bytes() {
+        *messages[3].last_mut().unwrap() |= 0x80;
+        for changeover in [0, 18, 19, 20, 21] {
+            queues.put(kind, grade, &messages, Account { changeover, ..NONE });
+        }
     }
 }
 
@@ -253,7 +284,7 @@ fn each(mut put: impl FnMut(&mut Queues, u8, u8)) -> Vec<Queue> {
 }
 
 /// The queues of each sort.
-fn sorts() -> [(&'static str, Vec<Queue>); 10] {
+fn sorts() -> [(&'static str, Vec<Queue>); 11] {
     let mut random = Random::new(5);
     let random = &mut random;
     [
@@ -267,6 +298,7 @@ fn sorts() -> [(&'static str, Vec<Queue>); 10] {
         ("kinds and grades", once(wrong)),
         ("accounts from elsewhere", once(|queues| elsewhere(queues, random))),
         ("largest blocks", each(largest)),
+        ("changeovers", each(|queues, kind, grade| changeovers(queues, kind, grade, random))),
     ]
 }
 
@@ -287,6 +319,8 @@ pub fn queue_file() -> (Vec<u8>, Vec<(&'static str, usize)>, [usize; 14]) {
 mod tests {
     use super::*;
     use crate::account::send_counted;
+    use crate::account::tests::WRONG_RULES;
+    use crate::frame::{send_by, Tie};
 
     type Answer = (Queued, Vec<i64>);
 
@@ -320,7 +354,26 @@ mod tests {
         (sent.frame, Account { count: count.wrapping_add(1), ..grown })
     }
 
-    const ALL: [(&str, Wrong); 18] = [
+    /// The frames that were sent, each by the rule for its place in the queue and the account before it: in its first block, and past it.
+    fn by_rules(queue: &Queue, mut answer: Answer, rule: impl Fn(usize, &Account) -> [Tie; 2]) -> Answer {
+        let (m, n) = if answer.0.sent > 0 { (format(queue).message_bytes(), format(queue).length()) } else { (1, 1) };
+        for i in 0..answer.0.sent {
+            let message = &queue.messages[m * i..][..m];
+            let account = Account { count: queue.account.count + i as u32, ..queue.account };
+            let [first, rest] =
+                rule(i, &account).map(|tie| send_by(queue.kind, queue.grade, tie, message, n).unwrap().frame);
+            answer.1[n * i..][..8].copy_from_slice(&first[..8]);
+            answer.1[n * i..][8..n].copy_from_slice(&rest[8..]);
+        }
+        answer
+    }
+
+    /// The same with one rule for the frame.
+    fn by_rule(queue: &Queue, answer: Answer, rule: impl Fn(usize, &Account) -> Tie) -> Answer {
+        by_rules(queue, answer, |i, account| [rule(i, account); 2])
+    }
+
+    const ALL: [(&str, Wrong); 28] = [
         ("all or nothing", |queue, right| match right.0.number {
             0 => right,
             number => (Queued { number, sent: 0, account: queue.account }, queue.frames()),
@@ -430,6 +483,51 @@ mod tests {
             right.0.account.sum = queue.account.sum + powers;
             right
         }),
+        ("the number does not grow", |queue, right| by_rule(queue, right, |_, _| queue.account.tie())),
+        ("the number is the place in the queue", |queue, right| {
+            by_rule(queue, right, |i, account| match account.count >= account.changeover {
+                true => Tie::of(i as u32),
+                false => Tie::First,
+            })
+        }),
+        ("the changeover looked at once", |queue, right| {
+            by_rule(queue, right, |_, account| match queue.account.count >= queue.account.changeover {
+                true => Tie::of(account.count),
+                false => Tie::First,
+            })
+        }),
+        ("the changeover is a place in the queue", |queue, right| {
+            by_rule(queue, right, |i, account| match i as u32 >= account.changeover {
+                true => Tie::of(account.count),
+                false => Tie::First,
+            })
+        }),
+        ("the rule in the first block alone", |queue, right| {
+            by_rules(queue, right, |_, account| [account.tie(), Tie::First])
+        }),
+        ("the rule past the first block alone", |queue, right| {
+            by_rules(queue, right, |_, account| [Tie::First, account.tie()])
+        }),
+        ("the changeover given back as 0", |_, mut right| {
+            right.0.account.changeover = 0;
+            right
+        }),
+        ("the changeover given back as 0 once it is reached", |_, mut right| {
+            if right.0.sent > 0 && right.0.account.count >= right.0.account.changeover {
+                right.0.account.changeover = 0;
+            }
+            right
+        }),
+        ("a changeover above 1,000,000 cut", |_, mut right| {
+            right.0.account.changeover = right.0.account.changeover.min(FULL);
+            right
+        }),
+        ("a changeover above 1,000,000 is 14", |queue, right| match right.0.number {
+            0 if queue.account.changeover > FULL => {
+                (Queued { number: 14, sent: 0, account: queue.account }, queue.frames())
+            }
+            _ => right,
+        }),
         ("the largest block forgotten", |queue, mut right| {
             if right.0.sent > 0 {
                 right.0.account.largest =
@@ -439,7 +537,7 @@ mod tests {
         }),
     ];
 
-    /// Each wrong answer is told apart at each kind that can have it: kinds 5 and 6 have no spare bits.
+    /// Each wrong answer is told apart at each kind that can have it: kinds 5 and 6 have no spare bits, and a frame of kind 3 is one block.
     #[test]
     fn wrong_answers_are_told_apart() {
         let queues: Vec<Queue> = sorts().into_iter().flat_map(|(_, queues)| queues).collect();
@@ -449,9 +547,29 @@ mod tests {
                     let right = queue.answer();
                     queue.record(&wrong(queue, right.clone())) != queue.record(&right)
                 };
-                let spare = ["on past the refused", "a full account before spare bits"].contains(&name);
+                let none = match name {
+                    "on past the refused" | "a full account before spare bits" => kind >= 5,
+                    "the rule in the first block alone" => kind == 3,
+                    _ => false,
+                };
                 let any = queues.iter().any(|queue| queue.kind == kind && told(queue));
-                assert_eq!(any, !(spare && kind >= 5), "kind {kind}, {name}");
+                assert_eq!(any, !none, "kind {kind}, {name}");
+            }
+        }
+    }
+
+    /// So is each wrong rule of an account, at each kind and grade.
+    #[test]
+    fn wrong_rules_are_told_apart() {
+        for (_, queues) in sorts().into_iter().filter(|(name, _)| *name == "changeovers") {
+            for (name, rule) in WRONG_RULES {
+                for (kind, grade) in KINDS.flat_map(|kind| GRADES.map(move |grade| (kind, grade))) {
+                    let told = queues.iter().filter(|queue| (queue.kind, queue.grade) == (kind, grade)).any(|queue| {
+                        let right = queue.answer();
+                        by_rule(queue, right.clone(), |_, account| rule(account)).1 != right.1
+                    });
+                    assert!(told, "kind {kind}, grade {grade}, {name}");
+                }
             }
         }
     }

@@ -4,7 +4,7 @@ use std::collections::HashSet;
 use std::ops::Range;
 
 use crate::class::{twice_e8, Block};
-use crate::frame::{read_open, read_strict, send, send_into, Format, GRADES, KINDS};
+use crate::frame::{leader, read_open, read_strict, send, send_into, shaped, Format, Tie, GRADES, KINDS};
 use crate::random::Random;
 use crate::refusal;
 use crate::sheet::{listing, LONGEST, MARK};
@@ -72,6 +72,35 @@ pub fn edge(format: &Format, random: &mut Random) -> Vec<u8> {
     with_bits(format, &places)
 }
 
+/// The bits that add M/2 to the second number of block j and to the eighth: the highest of s2, the next to highest of s8.
+/// A block with the first alone has energy (M/2)², and with both twice that.
+pub fn halves(format: &Format, j: usize) -> (usize, usize) {
+    let first = format.message_bits() - format.length() * format.grade + 8 * format.grade * j;
+    (first + 2 * format.grade - 2, first + 8 * format.grade - 2)
+}
+
+/// A message on the edge that has several frames of least energy.
+pub fn tied_edge(format: &Format, random: &mut Random) -> Vec<u8> {
+    loop {
+        let message = edge(format, random);
+        if shaped(format, Tie::First, &leader(format, &message)).least > 1 {
+            return message;
+        }
+    }
+}
+
+/// A message with two frames of least energy for each of these blocks, and no other tie: M/2 at the second and the eighth place of the
+/// block, both of one sign.
+pub fn tied(format: &Format, blocks: Range<usize>) -> Vec<u8> {
+    let bits: Vec<usize> = blocks.map(|j| halves(format, j)).flat_map(|(second, eighth)| [second, eighth]).collect();
+    with_bits(format, &bits)
+}
+
+/// Such a message with a tie in every block.
+pub fn tied_throughout(format: &Format) -> Vec<u8> {
+    tied(format, 0..format.length() / 8)
+}
+
 /// A frame with a random point of the lattice, not all zeros, added in one of its blocks.
 pub fn moved_by_point(format: &Format, frame: &[i64], random: &mut Random) -> Vec<i64> {
     let block = 8 * random.below(format.length() as u64 / 8) as usize;
@@ -88,13 +117,13 @@ pub fn moved_by_point(format: &Format, frame: &[i64], random: &mut Random) -> Ve
     moved
 }
 
-/// The energy that the open reading gives of a frame with a point of the lattice added: so much at these places.
-fn energy_moved(kind: u8, grade: u8, message: &[u8], frame: &[i64], places: Range<usize>, by: i64) -> u64 {
+/// The energy that the open reading gives of the frame of a number with a point of the lattice added: so much at these places.
+fn energy_moved(vector: &Sorted, number: u32, frame: &[i64], places: Range<usize>, by: i64) -> u64 {
     let mut moved = frame.to_vec();
     moved[places].iter_mut().for_each(|x| *x += by);
-    let (read, energy) = read_open(kind, grade, &moved).unwrap();
-    assert_eq!(read, message);
-    assert_eq!(read_strict(kind, grade, &moved), Err(refusal::UNSHAPED));
+    let (read, energy) = read_open(vector.kind, vector.grade, &moved).unwrap();
+    assert_eq!(read, vector.message);
+    assert_eq!(read_strict(vector.kind, vector.grade, number, &moved), Err(refusal::UNSHAPED));
     energy
 }
 
@@ -132,10 +161,7 @@ fn messages(kind: u8, grade: u8, random: &mut Random) -> Vec<Sorted> {
         (places[0] != places[1]).then(|| with_bits(&format, &places))
     });
     add(DENSE, &mut || Some(dense(&format, random)));
-    add(TIED, &mut || {
-        let message = edge(&format, random);
-        (send(kind, grade, &message).unwrap().least > 1).then_some(message)
-    });
+    add(TIED, &mut || Some(tied_edge(&format, random)));
     let ends = [1 + bits, 1 + bits + PAIRS, 1 + bits + PAIRS + DENSE];
     let sort = |i: usize| ends.iter().filter(|&&end| end <= i).count() as u8;
     all.into_iter().enumerate().map(|(i, message)| Sorted { kind, grade, sort: sort(i), message }).collect()
@@ -148,12 +174,30 @@ pub fn all_messages() -> Vec<Sorted> {
     formats.flat_map(|(kind, grade)| messages(kind, grade, &mut random)).collect()
 }
 
-/// For sending both ways: these messages, and calls that are refused; and how many there are of each sort, the refused
-/// ones last. A record is the sort, kind, grade, message bytes and coordinates lent, one byte each, and the message.
+/// An even and an odd number for the message at a place of the file: from 0 on, about 2^31, down from the last, and any.
+pub fn numbers(place: usize, random: &mut Random) -> [u32; 2] {
+    let up = 2 * (place as u32 / 4);
+    let even = match place % 4 {
+        0 => up,
+        1 if place % 8 == 1 => (1 << 31) + up,
+        1 => (1 << 31) - up,
+        2 => u32::MAX - 1 - up,
+        _ => random.draw() as u32 & !1,
+    };
+    // Odd ones beside an even one, and any.
+    [even, if place % 4 == 3 { random.draw() as u32 | 1 } else { even + 1 }]
+}
+
+/// For sending both ways: these messages, and calls that are refused; and how many there are of each sort, the refused ones last. A record
+/// is the sort, kind, grade, message bytes and coordinates lent, one byte each, the frame's number in four, and the message.
 pub fn ways(all: &[Sorted]) -> (Vec<u8>, [usize; SORTS + 1]) {
+    let mut random = Random::new(9);
     let (mut file, mut counts) = (Vec::new(), [0; SORTS + 1]);
     let mut put = |sort: usize, kind: u8, grade: u8, message: &[u8], n: usize| {
+        let place = counts.iter().sum::<usize>();
+        let number = numbers(place, &mut random)[place / 4 % 2];
         file.extend([sort as u8, kind, grade, message.len() as u8, n as u8]);
+        file.extend(number.to_le_bytes());
         file.extend(message);
         counts[sort] += 1;
     };
@@ -165,7 +209,7 @@ pub fn ways(all: &[Sorted]) -> (Vec<u8>, [usize; SORTS + 1]) {
             let format = Format::new(kind, grade).unwrap();
             let (n, good) = (format.length(), with_bits(&format, &[0]));
             let mut refused = |kind, grade, message: &[u8], n| {
-                assert!(send_into(kind, grade, message, n).is_err());
+                assert!(send_into(kind, grade, 0, message, n).is_err());
                 put(SORTS, kind, grade, message, n);
             };
             for k in format.message_bits()..8 * good.len() {
@@ -180,48 +224,60 @@ pub fn ways(all: &[Sorted]) -> (Vec<u8>, [usize; SORTS + 1]) {
     }
     for kind in [0, 2, 7, 255] {
         let (good, n) = ([0; 46], 64);
-        assert!(send_into(kind, 4, &good, n).is_err());
+        assert!(send_into(kind, 4, 0, &good, n).is_err());
         put(SORTS, kind, 4, &good, n);
     }
     (file, counts)
 }
 
-/// The vectors of one kind and grade: how many, and how many of them have several frames of
-/// least energy.
+/// The vectors of one kind and grade: how many messages, each under an even and an odd number, and how many of them have several frames
+/// of least energy.
 pub struct Count {
     pub kind: u8,
     pub grade: u8,
-    pub vectors: usize,
+    pub messages: usize,
     pub tied: usize,
     pub most: u64,
 }
 
+/// The record of README.md for a message under a number. Gives how many frames of least energy there are.
+fn put_vector(vector: &Sorted, number: u32, file: &mut Vec<u8>) -> u64 {
+    let Sorted { kind, grade, ref message, .. } = *vector;
+    let sent = send(kind, grade, number, message).unwrap();
+    // What the strict reading answers under the number beside it, which has the other parity.
+    let other = read_strict(kind, grade, number ^ 1, &sent.frame).err().unwrap_or(0);
+    assert_eq!(other, if sent.least > 1 { refusal::UNSHAPED } else { 0 });
+    file.extend([kind, grade, message.len() as u8]);
+    file.extend(number.to_le_bytes());
+    file.push(other);
+    file.extend(message);
+    file.push(sent.frame.len() as u8);
+    for x in &sent.frame {
+        file.extend((*x as i32).to_le_bytes());
+    }
+    file.extend(sent.energy.to_le_bytes());
+    // M at two places of the first block; M/2 at each place of the last.
+    let (n, scale) = (sent.frame.len(), Format::new(kind, grade).unwrap().scale());
+    for (places, by) in [(0..2, scale), (n - 8..n, scale / 2)] {
+        file.extend(energy_moved(vector, number, &sent.frame, places, by).to_le_bytes());
+    }
+    sent.least
+}
+
 /// All vectors, in the format of README.md.
 pub fn vectors(all: &[Sorted]) -> (Vec<u8>, Vec<Count>) {
-    let (mut file, mut counts) = (Vec::new(), Vec::new());
-    for kind in KINDS {
-        for grade in GRADES {
-            let mut count = Count { kind, grade, vectors: 0, tied: 0, most: 1 };
-            for Sorted { message, .. } in all.iter().filter(|sorted| (sorted.kind, sorted.grade) == (kind, grade)) {
-                let sent = send(kind, grade, message).unwrap();
-                file.extend([kind, grade, message.len() as u8]);
-                file.extend(message);
-                file.push(sent.frame.len() as u8);
-                for x in &sent.frame {
-                    file.extend((*x as i32).to_le_bytes());
-                }
-                file.extend(sent.energy.to_le_bytes());
-                // M at two places of the first block; M/2 at each place of the last.
-                let (n, scale) = (sent.frame.len(), Format::new(kind, grade).unwrap().scale());
-                for (places, by) in [(0..2, scale), (n - 8..n, scale / 2)] {
-                    file.extend(energy_moved(kind, grade, message, &sent.frame, places, by).to_le_bytes());
-                }
-                count.vectors += 1;
-                count.tied += (sent.least > 1) as usize;
-                count.most = count.most.max(sent.least);
-            }
-            counts.push(count);
+    let (mut file, mut counts) = (Vec::new(), Vec::<Count>::new());
+    let mut random = Random::new(10);
+    for (place, vector) in all.iter().enumerate() {
+        let Sorted { kind, grade, .. } = *vector;
+        let least = numbers(place, &mut random).map(|number| put_vector(vector, number, &mut file))[0];
+        if counts.last().is_none_or(|count| (count.kind, count.grade) != (kind, grade)) {
+            counts.push(Count { kind, grade, messages: 0, tied: 0, most: 1 });
         }
+        let count = counts.last_mut().unwrap();
+        count.messages += 1;
+        count.tied += (least > 1) as usize;
+        count.most = count.most.max(least);
     }
     (file, counts)
 }
@@ -364,6 +420,37 @@ pub fn sheets() -> Vec<Vec<u8>> {
         sheet[place] ^= 1 << random.below(8);
         all.push(sheet);
     }
+    all.extend(tied_sheets());
+    all
+}
+
+/// Sheets with several records that have ties, so that the number of each record shows.
+fn tied_sheets() -> Vec<Vec<u8>> {
+    let formats: Vec<(u8, u8)> = KINDS.flat_map(|kind| GRADES.map(move |grade| (kind, grade))).collect();
+    let record = |(kind, grade): (u8, u8), message: &[u8]| [&MARK[..], &[kind, grade], message].concat();
+    let tie = |(kind, grade)| record((kind, grade), &tied_throughout(&Format::new(kind, grade).unwrap()));
+    let plain = |(kind, grade)| record((kind, grade), &with_bits(&Format::new(kind, grade).unwrap(), &[]));
+    // Five of each kind and grade.
+    let mut all: Vec<Vec<u8>> = formats.iter().map(|&format| tie(format).repeat(5)).collect();
+    // Kinds and grades in turn, each twice, and backwards; with records before them that have no tie.
+    let each: Vec<Vec<u8>> = formats.iter().map(|&format| tie(format)).collect();
+    all.push(each.iter().flat_map(|record| record.repeat(2)).collect());
+    all.push(each.iter().rev().flatten().copied().collect());
+    for count in 1..=3 {
+        all.push([plain((3, 1)).repeat(count), each.concat()].concat());
+    }
+    all.push(formats.iter().flat_map(|&format| [plain(format), tie(format), tie(format)].concat()).collect());
+    // A record that is refused after some that have ties, and more of these after it.
+    let (three, six) = (tie((3, 1)), tie((6, 1)));
+    for count in 1..=4 {
+        for bad in [&[0x4C, 0x43, 3, 1, 0, 0x10][..], &[0x4C, 0x43, 7], &[0x4C, 0x43, 4, 5], &[0x4C, 0x42, 3, 1, 0, 8]]
+        {
+            all.push([&three.repeat(count), bad, &three, &six].concat());
+        }
+        all.push([&six.repeat(count), &three[..5]].concat());
+    }
+    // Many.
+    all.push(three.repeat(300));
     all
 }
 
@@ -434,6 +521,7 @@ pub fn random_sheet(random: &mut Random) -> Vec<u8> {
 #[cfg(test)]
 mod tests {
     use super::*;
+    use crate::sheet::listing_by;
 
     #[test]
     fn full_sheets_are_full_and_good() {
@@ -442,6 +530,18 @@ mod tests {
             let sheet = full(length, &mut random);
             assert_eq!(sheet.len(), length);
             assert!(!listing(&sheet).contains("refused"));
+        }
+    }
+
+    /// Records that someone numbers wrong are told apart, at each kind and grade.
+    #[test]
+    fn wrong_numbers_are_told_apart() {
+        let sheets = tied_sheets();
+        let wrong: [fn(u32) -> u32; 5] = [|_| 0, |_| 1, |place| place + 1, |place| place.min(1), |place| place / 2];
+        for (i, number) in wrong.into_iter().enumerate() {
+            for sheet in &sheets[..16] {
+                assert_ne!(listing_by(sheet, number), listing(sheet), "{i}");
+            }
         }
     }
 

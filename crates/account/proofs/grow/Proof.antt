@@ -39,9 +39,9 @@ has-room c = sym (c .before .is-full .ensures) ∙ c .if1 .left
 add-t8 : tie.Need-add-t8
 add-t8 c = let d = c .before in omega (arith, leb-false 1000000 (account (d .before) .count) (has-room d))
 
--- the account with one more in the count, p added to the sum, and r for the largest block
+-- the account with one more in the count, p added to the sum, r for the largest block, and its changeover
 with-figures : Account → Float → ℕ → Account
-with-figures a p r = record { count = a .count + 1; sum = add binary64 (a .sum) p; largest = r }
+with-figures a p r = record { count = a .count + 1; sum = add binary64 (a .sum) p; largest = r; changeover = a .changeover }
 
 returns-2 : tie.Need-returns-2
 unfolding with-figures

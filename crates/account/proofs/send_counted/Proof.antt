@@ -5,7 +5,7 @@ use lib.ListN.{length}
 use Rattle.frames.proofs.Accepted.{all-passed, sent-leaves, refused-leaves}
 use Rattle.frames.proofs.Rows.{grade-low}
 use Rattle.frames.proofs.Demands.{least-energy}
-use Rattle.account.specs.Counted.{countedRefusal}
+use Rattle.account.specs.Counted.{numberFor, countedRefusal}
 use Rattle.account.proofs.Answers.{passed, account-refused, account-sent}
 use borrow.Author.Needs.{needs}
 use Rattle.account.proofs.send_counted.Statement.{statement}
@@ -24,7 +24,7 @@ returns c =
     let s = t .before .before .before .args in
     let e = c .refused .ensures in
     let no : c .refused .result .number ≡ 0 → ⊥ = λ z. omega (arith, z, e .0, t .if1 .taken) in
-    let n = refused-leaves (c .refused .result .number) (s .kind) (s .grade) (s .message .now) (s .frame .now) no in
+    let n = refused-leaves (c .refused .result .number) (s .kind) (s .grade) (numberFor (s .account)) (s .message .now) (s .frame .now) no in
     let a = account-refused (c .refused .result .number) (s .kind) (s .grade) (s .message .now) (s .account) no in
     (e .0 ∙ t .before .refusal .ensures, (sym (n .0), (e .1 ∙ sym (n .1), (e .2 ∙ sym a, (λ z. absurd (no z))))))
 
@@ -48,7 +48,8 @@ returns-2 c =
     let z : number ≡ 0 = e .1 .0 .0 in
     let p = all-passed (s .kind) (s .grade) (s .message .now) (length (s .frame .now))
     (passed (s .kind) (s .grade) (s .message .now) (length (s .frame .now)) (s .account) 0 (sym (accepted d)) (λ l. refl)) in
-    let t = sent-leaves number (s .kind) (s .grade) (s .message .now) (s .frame .now) z in
+    let low = grade-low (s .grade) (p .grade) in
+    let t = sent-leaves number (s .kind) (s .grade) (numberFor (s .account)) (s .message .now) (s .frame .now) z in
     let q = account-sent number (s .kind) (s .grade) (s .message .now) (s .account) z in (
       z ∙ sym (accepted d),
       (
@@ -57,7 +58,7 @@ returns-2 c =
           e .1 .0 .1 ∙ sym (t .1),
           (
             e .1 .1 ∙ sym q,
-            (λ z. least-energy (s .kind) (s .grade) (p .kind) (grade-low (s .grade) (p .grade)) (s .message .now) _ _ (e .0) (e .1 .0 .1)),
+            (λ z. least-energy (s .kind) (s .grade) (p .kind) low (numberFor (s .account)) (s .message .now) _ _ (e .0) (e .1 .0 .1)),
           ),
         ),
       ),

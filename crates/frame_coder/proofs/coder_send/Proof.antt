@@ -17,7 +17,7 @@ send-requires c κs = search needs
 answer-requires : tie.Need-answer-requires
 answer-requires c κs =
     let e = c .before .send .ensures in
-    let f = sent-fits _ _ _ _ _ (e .0) in
+    let f = sent-fits _ _ _ (c .before .before .before .before .args .number) _ _ (e .0) in
     omega (arith, e .1 .1 .0, f)
 
 same-length : tie.Need-same-length
@@ -28,9 +28,9 @@ returns c =
     let s = c .before .before .before .before .before .args in
     let r = c .before .before .send .result .number in
     let e = c .before .before .send .ensures in
-    let l = send-answer r (s .kind) (s .grade) (s .message .now) (length (s .frame .now)) (e .0) in (
+    let l = send-answer r (s .kind) (s .grade) (s .number) (s .message .now) (length (s .frame .now)) (e .0) in (
       toZ-ofZ (record { sfits = c .answer .ok }) ∙ c .answer .ensures ∙ ap (answerOf r) (e .1 .1 .0) ∙ l,
-      e .1 .0 ∙ ap (λ (n : ℕ). frameAfter n (s .kind) (s .grade) (s .message .now) (s .frame .now)) (e .0),
+      e .1 .0 ∙ ap (λ (n : ℕ). frameAfter n (s .kind) (s .grade) (s .number) (s .message .now) (s .frame .now)) (e .0),
     )
 
 pub coder-send-spec : {M : Type 1} → statement M

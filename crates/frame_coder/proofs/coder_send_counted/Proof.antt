@@ -8,10 +8,12 @@ use borrow.Author.Needs.{needs}
 use Rattle.account.specs.declared.Account.{Account}
 use Rattle.frames.specs.Sending.{frameAfter}
 use Rattle.frames.proofs.Accepted.{refused-leaves}
-use Rattle.account.specs.Counted.{countedAccount}
+use Rattle.account.specs.Counted.{numberFor, countedAccount}
+use Rattle.account.specs.History.{Call}
 use Rattle.account.proofs.Answers.{account-refused}
+use Rattle.account.proofs.History.{after-changeover}
 use Rattle.frame_coder.specs.Answer.{answerOf, accountOf, countedFrame, countedHeld}
-use Rattle.frame_coder.proofs.Bounds.{counted-fits, counted-answer}
+use Rattle.frame_coder.proofs.Bounds.{counted-fits, counted-answer, account-of}
 use Rattle.frame_coder.proofs.coder_send_counted.Statement.{statement}
 use Rattle.frame_coder.proofs.coder_send_counted.Tie as tie
 
@@ -20,7 +22,7 @@ abbrev start : tie.After-send-counted → tie.Start
 start w = w .before .before .before .before .before
 
 abbrev held : tie.After-send-counted → Account
-held w = let s = start w .args in accountOf (s .count .now) (s .sum .now) (s .largest .now)
+held w = let s = start w .args in accountOf (s .count .now) (s .sum .now) (s .largest .now) (s .changeover)
 
 send-counted-requires : tie.Need-send-counted-requires
 send-counted-requires c κs = search needs
@@ -31,12 +33,19 @@ module _ (w : tie.After-send-counted) where
   frame-is =
       let s = start w .args in
       let e = w .send-counted .ensures in
-      e .1 .0 ∙ ap (λ (n : ℕ). frameAfter n (s .kind) (s .grade) (s .message .now) (s .frame .now)) (e .0)
+      e .1 .0 ∙ ap (λ (n : ℕ). frameAfter n (s .kind) (s .grade) (numberFor (held w)) (s .message .now) (s .frame .now)) (e .0)
 
   account-is : let s = start w .args in
       countedAccount (w .send-counted .result .number) (s .kind) (s .grade) (s .message .now) (held w)
       ≡ countedHeld (s .kind) (s .grade) (s .message .now) (length (s .frame .now)) (held w)
   account-is = let s = start w .args in ap (λ (n : ℕ). countedAccount n (s .kind) (s .grade) (s .message .now) (held w)) (w .send-counted .ensures .0)
+
+  -- the changeover stays
+  changeover-is : w .send-counted .result .account .changeover ≡ start w .args .changeover
+  changeover-is =
+      let s = start w .args in
+      let c : Call = record { kind = s .kind; grade = s .grade; message = s .message .now; n = length (s .frame .now) } in
+      ap (λ (a : Account). a .changeover) (w .send-counted .ensures .1 .1 .1 .0 ∙ account-is) ∙ after-changeover (held w) c
 
 answer-requires : tie.Need-answer-requires
 answer-requires c κs = search needs
@@ -52,7 +61,7 @@ returns c =
     let e = w .send-counted .ensures in
     let r = w .send-counted .result .number in
     let l = counted-answer (s .kind) (s .grade) (s .message .now) (length (s .frame .now)) (held w) r (e .0) in
-    let z = refused-leaves r (s .kind) (s .grade) (s .message .now) (s .frame .now) (t .if1 .taken) in (
+    let z = refused-leaves r (s .kind) (s .grade) (numberFor (held w)) (s .message .now) (s .frame .now) (t .if1 .taken) in (
       toZ-ofZ (record { sfits = c .answer .ok }) ∙ c .answer .ensures ∙ ap (answerOf r) (sym (z .1)) ∙ l,
       (frame-is w, sym (account-refused r (s .kind) (s .grade) (s .message .now) (held w) (t .if1 .taken)) ∙ account-is w),
     )
@@ -75,7 +84,7 @@ returns-2 c =
     let e = w .send-counted .ensures in
     let l = counted-answer (s .kind) (s .grade) (s .message .now) (length (s .frame .now)) (held w) (w .send-counted .result .number) (e .0) in (
       toZ-ofZ (record { sfits = c .answer2 .ok }) ∙ c .answer2 .ensures ∙ ap₂ answerOf (sym (t .if1 .left)) (e .1 .1 .0) ∙ l,
-      (frame-is w, e .1 .1 .1 .0 ∙ account-is w),
+      (frame-is w, account-of (w .send-counted .result .account) (s .changeover) (changeover-is w) ∙ e .1 .1 .1 .0 ∙ account-is w),
     )
 
 pub coder-send-counted-spec : {M : Type 1} → statement M

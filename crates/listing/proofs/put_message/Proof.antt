@@ -6,7 +6,7 @@ use mathlib.Core.List.{List, _++_}
 use lib.IntN.{ℤ, pos}
 use lib.ListN.{length, take, drop, replicate, length-append}
 use lib.Seq.{length-take-le, take-at}
-use Rattle.frames.specs.Frame.{sentFrame}
+use Rattle.frames.specs.Frame.{numberedFrame}
 use Rattle.frames.specs.Sending.{sendRefusal}
 use Rattle.frames.proofs.Demands.{sent-length}
 use Rattle.frames.proofs.Rows.{grade-low}
@@ -43,7 +43,7 @@ number c =
 
 -- what sending wrote
 abbrev written : tie.Else1 → List ℤ
-written c = c .before .before .before .send .last .1 .1 .1 .0
+written c = c .before .before .before .send .last .1 .1 .1 .1 .0
 
 no-refusal : (c : tie.Else1)
     → let p = c .before .before .before .before .before in
@@ -52,21 +52,21 @@ no-refusal c = sym (c .before .before .before .send .ensures .0) ∙ c .if1 .lef
 
 sent : (c : tie.Else1)
     → let s = c .before .before .before .before .before .before .before .before .args in
-    (written c ≡ sentFrame (s .kind) (s .grade) (s .message .now))
-    × (lineOf (s .kind) (s .grade) (c .before .before .before .send .result .energy) (written c) ≡ sentLine (s .kind) (s .grade) (s .message .now))
+    (written c ≡ numberedFrame (s .kind) (s .grade) (s .number) (s .message .now))
+    × (lineOf (s .kind) (s .grade) (c .before .before .before .send .result .energy) (written c) ≡ sentLine (s .kind) (s .grade) (s .number) (s .message .now))
 sent c =
     let p = c .before .before .before .before .before in
     let s = p .before .before .before .args in
     let e = c .before .before .before .send .ensures in
     let r = c .before .before .before .send .result in
-    sent-shown (s .kind) (s .grade) (s .message .now) (take (p .positions .result) room) (r .number) (c .if1 .left) (written c) (r .energy) (e .1 .0) (e .1 .1 .0)
+    sent-shown (s .kind) (s .grade) (s .number) (s .message .now) (take (p .positions .result) room) (r .number) (c .if1 .left) (written c) (r .energy) (e .1 .0) (e .1 .1 .0)
 
 written-long : (c : tie.Else1) → length (written c) ≡ c .before .before .before .before .before .positions .result
 written-long c =
     let p = c .before .before .before .before .before in
     let s = p .before .before .before .args in
     let a = all-passed (s .kind) (s .grade) (s .message .now) (length (take (p .positions .result) room)) (no-refusal c) in
-    ap length (sent c .0) ∙ sent-length (s .kind) (s .grade) (a .kind) (grade-low (s .grade) (a .grade)) (s .message .now) ∙ sym (p .positions .ensures)
+    ap length (sent c .0) ∙ sent-length (s .kind) (s .grade) (a .kind) (grade-low (s .grade) (a .grade)) (s .number) (s .message .now) ∙ sym (p .positions .ensures)
 
 -- and it is read there again
 again : (c : tie.Else1) → let n = c .before .before .before .before .before .positions .result in take n (written c ++ drop n room) ≡ written c
@@ -114,7 +114,7 @@ returns-2 c =
     let e = c .before .before .put-line .ensures in
     let t = c .before .before in
     let line : List ℤ → List ℕ = lineOf (s .kind) (s .grade) (d .before .before .before .send .result .energy) in
-    let q : line (take (p .positions .result) (written d ++ drop (p .positions .result) room)) ≡ sentLine (s .kind) (s .grade) (s .message .now) =
+    let q : line (take (p .positions .result) (written d ++ drop (p .positions .result) room)) ≡ sentLine (s .kind) (s .grade) (s .number) (s .message .now) =
     ap line (again d) ∙ sent d .1 in (
       sym (d .if1 .left) ∙ number (d .before .before .before),
       (

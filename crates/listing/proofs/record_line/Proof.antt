@@ -54,7 +54,7 @@ returns c =
     let e = c .before .before .put-refused .ensures in
     let q : recordNumber l (s .args .p) ≡ t .test-record .result =
     number-refused l (s .args .p) (λ z. c .before .before .before .before .if1 .taken (t .test-record .ensures ∙ z)) ∙ sym (t .test-record .ensures) in
-    let r = refused-line l (s .args .p) (λ z. c .before .before .before .before .if1 .taken (sym q ∙ z)) in (
+    let r = refused-line l (s .args .p) (s .args .number) (λ z. c .before .before .before .before .if1 .taken (sym q ∙ z)) in (
       (
         subst (λ (x : List ℕ). Put (s .args .out .now) 0 x (c .before .before .put-refused .result) (c .before .before .put-refused .last .0))
             (ap refusedText (sym q) ∙ r .0) (e .0),
@@ -111,9 +111,9 @@ returns-2 c =
     let e = m .put-message .ensures in
     let q : recordNumber l (s .args .p) ≡ m .put-message .result .number = number m in
     let n : recordNumber l (s .args .p) ≡ 0 → ⊥ = λ z. c .if2 .taken (sym q ∙ z) in
-    let r = refused-line l (s .args .p) n in (
+    let r = refused-line l (s .args .p) (s .args .number) n in (
       (
-        subst (λ (x : List ℕ). Put (s .args .out .now) 0 x (m .put-message .result .length) (m .put-message .last .1 .1 .1 .0))
+        subst (λ (x : List ℕ). Put (s .args .out .now) 0 x (m .put-message .result .length) (m .put-message .last .1 .1 .1 .1 .0))
             (ap refusedText (sym q) ∙ r .0) (e .1 .1 .0 (c .if2 .taken)),
         e .1 .1 .1,
       ),
@@ -130,13 +130,13 @@ returns-3 c =
     let s = c .before .before .before .before .before .before .before .before .before .before .before .before .before .before in
     let l = s .args .sheet .now in
     let e = m .put-message .ensures in
-    let r = sent-line l (s .args .p) (number m ∙ c .if2 .left) in
+    let r = sent-line l (s .args .p) (s .args .number) (number m ∙ c .if2 .left) in
     let k = kindAt l (s .args .p) in
     let g = gradeAt l (s .args .p) in
     let q : b .message-bytes .result ≡ messageBytes k g = b .message-bytes .ensures in (
       (
-        subst (λ (x : List ℕ). Put (s .args .out .now) 0 x (m .put-message .result .length) (m .put-message .last .1 .1 .1 .0))
-            (ap (sentLine k g) (message-is l (s .args .p) (b .message-bytes .result) q) ∙ r .0) (e .1 .0 (c .if2 .left)),
+        subst (λ (x : List ℕ). Put (s .args .out .now) 0 x (m .put-message .result .length) (m .put-message .last .1 .1 .1 .1 .0))
+            (ap (sentLine k g (s .args .number)) (message-is l (s .args .p) (b .message-bytes .result) q) ∙ r .0) (e .1 .0 (c .if2 .left)),
         e .1 .1 .1,
       ),
       (ap (λ (x : ℕ). s .args .p + 4 + x) q ∙ r .1, omega arith, record-ends b),

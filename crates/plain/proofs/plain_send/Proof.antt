@@ -16,11 +16,12 @@ use borrow.Author.Needs.{needs}
 use Rattle.plain.proofs.plain_send.Statement.{statement}
 use Rattle.plain.proofs.plain_send.Tie as tie
 
--- what the number and the energy answer, and the frame that stands with them
-answered : (number energy k b : ℕ) (bytes : List ℕ) (f g : List ℤ) → number ≡ sendRefusal k b bytes (length f) → energy ≡ energySent number k b bytes
-    → g ≡ frameAfter number k b bytes f → (answerOf number energy ≡ sendAnswer k b bytes (length f)) × (g ≡ sendFrame k b bytes f)
-answered number energy k b bytes f g is e after =
-    (ap (answerOf number) e ∙ send-answer number k b bytes (length f) is, after ∙ ap (λ (n : ℕ). frameAfter n k b bytes f) is)
+-- what the refusal number and the energy answer, and the frame that stands with them
+answered : (refusal energy k b number : ℕ) (bytes : List ℕ) (f g : List ℤ) → refusal ≡ sendRefusal k b bytes (length f)
+    → energy ≡ energySent refusal k b number bytes → g ≡ frameAfter refusal k b number bytes f
+    → (answerOf refusal energy ≡ sendAnswer k b number bytes (length f)) × (g ≡ sendFrame k b number bytes f)
+answered refusal energy k b number bytes f g is e after =
+    (ap (answerOf refusal) e ∙ send-answer refusal k b number bytes (length f) is, after ∙ ap (λ (n : ℕ). frameAfter n k b number bytes f) is)
 
 test-requires : tie.Need-test-requires
 test-requires c κs = search needs
@@ -32,9 +33,9 @@ returns : tie.Need-returns
 returns c =
     let t = c .before in
     let s = t .before .before .before .args in
-    let number = t .before .test .result in
-    let n = refused-leaves number (s .kind) (s .grade) (s .message .now) (s .frame .now) (λ e. omega (arith, e)) in
-    let a = answered number 0 (s .kind) (s .grade) (s .message .now) (s .frame .now) (s .frame .now) (t .before .test .ensures) (sym (n .1)) (sym (n .0)) in
+    let r = t .before .test .result in
+    let n = refused-leaves r (s .kind) (s .grade) (s .number) (s .message .now) (s .frame .now) (λ e. omega (arith, e)) in
+    let a = answered r 0 (s .kind) (s .grade) (s .number) (s .message .now) (s .frame .now) (s .frame .now) (t .before .test .ensures) (sym (n .1)) (sym (n .0)) in
     (toZ-ofZ (record { sfits = c .answer .ok }) ∙ c .answer .ensures ∙ a .0, a .1)
 
 -- past the tests a frame can be written
@@ -51,21 +52,21 @@ write-sent-requires c κs =
     let a = passed (c .before) in
     (a .kind, grade-low (s .grade) (a .grade), grade-high (s .grade) (a .grade), a .long, a .positions)
 
--- what is sent, by the number 0
+-- what is sent, where no test refuses
 sent : (w : tie.After-write-sent) → let s = w .before .before .before .before .before .args in
-    (w .write-sent .last .1 .1 .1 .0 ≡ frameAfter (w .before .before .before .test .result) (s .kind) (s .grade) (s .message .now) (s .frame .now))
-    × (w .write-sent .result ≡ energySent (w .before .before .before .test .result) (s .kind) (s .grade) (s .message .now))
+    (w .write-sent .last .1 .1 .1 .1 .0 ≡ frameAfter (w .before .before .before .test .result) (s .kind) (s .grade) (s .number) (s .message .now) (s .frame .now))
+    × (w .write-sent .result ≡ energySent (w .before .before .before .test .result) (s .kind) (s .grade) (s .number) (s .message .now))
 sent w =
     let d = w .before .before in
     let s = d .before .before .before .args in
     let f = w .write-sent .ensures in
-    let t = sent-leaves (d .before .test .result) (s .kind) (s .grade) (s .message .now) (s .frame .now) (omega (arith, d .if1 .left)) in
+    let t = sent-leaves (d .before .test .result) (s .kind) (s .grade) (s .number) (s .message .now) (s .frame .now) (omega (arith, d .if1 .left)) in
     (f .0 ∙ sym (t .0), f .1 ∙ sym (t .1))
 
 answer-requires-2 : tie.Need-answer-requires-2
 answer-requires-2 c κs =
     let w = c .before in
-    omega (arith, sent w .1, sent-fits _ _ _ _ _ (w .before .before .before .test .ensures))
+    omega (arith, sent w .1, sent-fits _ _ _ (w .before .before .before .before .before .args .number) _ _ (w .before .before .before .test .ensures))
 
 same-length : tie.Need-same-length
 same-length c = search needs
@@ -75,7 +76,8 @@ returns-2 c =
     let w = c .before .before in
     let d = w .before .before in
     let s = d .before .before .before .args in
-    let a = answered (d .before .test .result) (w .write-sent .result) (s .kind) (s .grade) (s .message .now) (s .frame .now) (w .write-sent .last .1 .1 .1 .0)
+    let a = answered (d .before .test .result) (w .write-sent .result) (s .kind) (s .grade) (s .number) (s .message .now) (s .frame .now)
+    (w .write-sent .last .1 .1 .1 .1 .0)
     (d .before .test .ensures) (sent w .1) (sent w .0) in
     (toZ-ofZ (record { sfits = c .answer2 .ok }) ∙ c .answer2 .ensures ∙ a .0, a .1)
 

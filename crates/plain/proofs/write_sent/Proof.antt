@@ -25,7 +25,7 @@ returns c =
     let l = h .before .before .before in
     let s = l .before .before .before in
     let e = h .shape-leader .ensures in
-    let is = sent-is (s .args .kind) (s .args .grade) (s .args .message .now) _ (l .write-leader .ensures) in
+    let is = sent-is (s .args .kind) (s .args .grade) (s .args .message .now) _ (l .write-leader .ensures) (s .args .number) in
     (e .0 ∙ is, e .1 .0 ∙ ap energy is)
 
 pub write-sent-spec : {M : Type 1} → statement M

@@ -1,5 +1,5 @@
 -- `write_listing` is safe and ends: every line fits its room, and each turn goes further in the sheet. Assumes nothing.
-use Prim.Native.Nat.{_-_}
+use Prim.Native.Nat.{_-_, _<_, _≤_}
 use native.Mathlib.Omega.{arith}
 use mathlib.Core.Path.{_≡_, sym}
 use lib.ListN.{length}
@@ -9,14 +9,14 @@ use Rattle.printing.proofs.write_listing.Statement.{statement}
 use Rattle.printing.proofs.write_listing.Tie as tie
 
 abbrev Inv-loop : tie.InvT-loop
-Inv-loop sheet to n out₀ p₀ out p = length out ≡ 1024
+Inv-loop sheet to n out₀ p₀ number₀ out p number = (length out ≡ 1024) × (number ≤ p)
 
 abbrev μ-loop : tie.MeasureT-loop
-μ-loop sheet to n out₀ p₀ out p = length sheet - p
+μ-loop sheet to n out₀ p₀ number₀ out p number = length sheet - p
 
 -- the room for a line keeps its length
-same-room : (c : tie.After-line Inv-loop μ-loop) → length (c .line .last .1 .1 .0) ≡ 1024
-same-room c = omega (arith, c .line .kept .1 .1 .0, c .before .before .before .loop .inv)
+same-room : (c : tie.After-line Inv-loop μ-loop) → length (c .line .last .1 .1 .1 .0) ≡ 1024
+same-room c = omega (arith, c .line .kept .1 .1 .1 .0, c .before .before .before .loop .inv .0)
 
 slice-aggregate-begin : tie.Need-slice-aggregate-begin Inv-loop μ-loop
 slice-aggregate-begin c = search needs
@@ -53,7 +53,7 @@ array-share-prefix-out-2 c = search needs
 slice-aggregate-write-all-2 : tie.Need-slice-aggregate-write-all-2 Inv-loop μ-loop
 slice-aggregate-write-all-2 c =
     let l = c .before .before in
-    sym (length-take-le (l .line .result .length) (l .line .last .1 .1 .0) (omega (arith, same-room l, l .line .ensures .1 .0)))
+    sym (length-take-le (l .line .result .length) (l .line .last .1 .1 .1 .0) (omega (arith, same-room l, l .line .ensures .1 .0)))
 
 write-all-requires-2 : tie.Need-write-all-requires-2 Inv-loop μ-loop
 write-all-requires-2 c κs = search needs
@@ -61,14 +61,26 @@ write-all-requires-2 c κs = search needs
 returns-2 : tie.Need-returns-2 Inv-loop μ-loop
 returns-2 c = search needs
 
-loop-less : tie.Need-loop-less Inv-loop μ-loop
-loop-less c =
+-- each turn goes further
+goes-on : (c : tie.Else2 Inv-loop μ-loop) → let l = c .before .before .before .before in l .before .before .before .loop .p < l .line .result .next
+goes-on c =
     let l = c .before .before .before .before in
-    let t = l .before .before in
-    omega (arith, l .line .ensures .1 .1 .1 (t .loop-test .taken), t .loop-test .taken)
+    l .line .ensures .1 .1 .1 (l .before .before .loop-test .taken)
+
+add-number : tie.Need-add-number Inv-loop μ-loop
+add-number c =
+    let t = c .before .before .before .before .before .before in
+    let a = t .before in
+    let s = a .before .before .before .before .before .before .before .before in
+    omega (arith, a .loop .inv .1, t .loop-test .taken, s .pre)
+
+loop-less : tie.Need-loop-less Inv-loop μ-loop
+loop-less c = omega (arith, goes-on c, c .before .before .before .before .before .before .loop-test .taken)
 
 loop-again : tie.Need-loop-again Inv-loop μ-loop
-loop-again c = search needs
+loop-again c =
+    let l = c .before .before .before .before in
+    (same-room l, omega (arith, goes-on c, l .before .before .before .loop .inv .1))
 
 returns-3 : tie.Need-returns-3 Inv-loop μ-loop
 returns-3 c = search needs
@@ -92,6 +104,7 @@ write-listing-spec =
     slice-aggregate-write-all-2
     write-all-requires-2
     returns-2
+    add-number
     loop-less
     loop-again
     returns-3)

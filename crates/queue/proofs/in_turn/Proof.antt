@@ -8,10 +8,10 @@ use lib.ListN.{length, take, drop, length-take, length-drop}
 use borrow.Author.Tests.{eq-eqb}
 use borrow.Author.Needs.{needs}
 use Rattle.frames.specs.Kind.{messageBytes}
-use Rattle.frames.specs.Frame.{sentFrame}
+use Rattle.frames.specs.Frame.{numberedFrame}
 use Rattle.frames.proofs.Rows.{grade-high}
 use Rattle.account.specs.Power.{grown}
-use Rattle.account.specs.Counted.{countedRefusal}
+use Rattle.account.specs.Counted.{numberFor, countedRefusal}
 use Rattle.account.specs.History.{Call, answer}
 use Rattle.account.proofs.History.{after-sent}
 use Rattle.queue.specs.Queue.{messagesIn, piece}
@@ -201,7 +201,7 @@ loop-again c =
     let s = at-start a .args in
     let t = turn l in
     let e = w .write-counted .ensures in
-    let sent = ap (sentFrame (s .kind) (s .grade)) (part-is (a .loop .i) (s .messages .now) (t .message)) in
+    let sent = ap (numberedFrame (s .kind) (s .grade) (numberFor (a .loop .grown))) (part-is (a .loop .i) (s .messages .now) (t .message)) in
     let z : answer (a .loop .grown) (the-call a) ≡ 0 = sym (answer-is (d .before)) ∙ accepted d in
     one-further (s .kind) (s .grade) (s .messages .now) (a .loop .inv) (t .inside) z
     (subst (λ (n : ℕ). n * a .loop .i + n ≤ length (a .loop .frames)) (t .frame) (t .coordinates)) (e .0 ∙ sent) (sym (t .frame))

@@ -35,7 +35,7 @@ module _ (c : tie.Else1) where
   passed =
       let a = start .args in
       let r = called .tests .ensures .0 in
-      fits (a .kind) (a .grade) (a .frame .now) (length (a .message .now)) (a .strict)
+      fits (a .kind) (a .grade) (a .frame .now) (length (a .message .now)) (a .which)
       (λ e. omega (arith, e, r)) (λ e. omega (arith, e, r)) (λ e. omega (arith, e, r)) (λ e. omega (arith, e, r)) (λ e. omega (arith, e, r))
 
 energy-requires : tie.Need-energy-requires

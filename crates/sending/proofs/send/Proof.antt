@@ -17,7 +17,7 @@ refusal-requires c κs = search needs
 returns : tie.Need-returns
 returns c =
     let s = c .before .before .before .args in
-    let n = refused-leaves (c .before .refusal .result) (s .kind) (s .grade) (s .message .now) (s .frame .now) (λ e. omega (arith, e)) in
+    let n = refused-leaves (c .before .refusal .result) (s .kind) (s .grade) (s .number) (s .message .now) (s .frame .now) (λ e. omega (arith, e)) in
     (c .before .refusal .ensures, (sym (n .0), (sym (n .1), (λ e. absurd (omega (arith, e))))))
 
 -- past the first four tests a frame can be written
@@ -43,13 +43,13 @@ returns-2 c =
     let s = d .before .before .before .args in
     let a = passed d in
     let f = c .before .write-sent .ensures in
-    let t = sent-leaves (d .before .refusal .result) (s .kind) (s .grade) (s .message .now) (s .frame .now) (omega arith) in (
+    let t = sent-leaves (d .before .refusal .result) (s .kind) (s .grade) (s .number) (s .message .now) (s .frame .now) (omega arith) in (
       d .before .refusal .ensures,
       (
         f .0 ∙ sym (t .0),
         (
           f .1 .0 ∙ sym (t .1),
-          (λ e. least-energy (s .kind) (s .grade) (a .kind) (grade-low (s .grade) (a .grade)) (s .message .now) _ _ (f .0) (f .1 .0)),
+          (λ e. least-energy (s .kind) (s .grade) (a .kind) (grade-low (s .grade) (a .grade)) (s .number) (s .message .now) _ _ (f .0) (f .1 .0)),
         ),
       ),
     )

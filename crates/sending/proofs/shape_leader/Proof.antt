@@ -4,9 +4,9 @@ use mathlib.Core.Path.{_≡_, ap, _∙_}
 use native.Mathlib.Omega.{arith}
 use Rattle.e8.specs.Energy.{energy}
 use Rattle.e8.specs.Largest.{largestBlock}
-use Rattle.e8.specs.Least.{leastFrame}
+use Rattle.e8.specs.Ties.{leastFrameBy}
 use Rattle.frames.specs.Kind.{blocks}
-use Rattle.frames.specs.Frame.{half}
+use Rattle.frames.specs.Frame.{half, isOdd}
 use Rattle.frames.proofs.Limits.{few-levels}
 use Rattle.sending.proofs.Sent.{least-is, shape-takes, energy-takes}
 use borrow.Author.Needs.{needs}
@@ -25,28 +25,34 @@ add-k c = omega (arith, few c)
 sub-k : tie.Need-sub-k
 sub-k c = search needs
 
+is-odd-requires : tie.Need-is-odd-requires
+is-odd-requires c κs = search needs
+
 cast-shape : tie.Need-cast-shape
-cast-shape c = omega (arith, few c)
+cast-shape c = omega (arith, few (c .before))
 
 shape-requires : tie.Need-shape-requires
 shape-requires c κs =
-    let s = c .before .before in
+    let s = c .before .before .before in
     let t = shape-takes (s .args .kind) (s .args .grade) (s .pre .0) (s .pre .1) (s .pre .2) (s .args .frame .now) (s .pre .3) (s .pre .4) in
-    (omega (arith, few (c .before)), t .0, t .1, t .2, t .3)
+    (omega (arith, few (c .before .before)), t .0, t .1, t .2, t .3)
 
-shaped : (h : tie.After-shape) → let s = h .before .before .before in
-    h .shape .last .1 .0 ≡ leastFrame (half (s .args .kind) (s .args .grade)) (blocks (s .args .kind)) (s .args .frame .now)
+shaped : (h : tie.After-shape) → let s = h .before .before .before .before in
+    h .shape .last .1 .1 .0 ≡ leastFrameBy (isOdd (s .args .number)) (half (s .args .kind) (s .args .grade)) (blocks (s .args .kind)) (s .args .frame .now)
 shaped h =
-    let v = h .before .before in
+    let o = h .before .before in
+    let v = o .before in
     let s = v .before in
     h .shape .ensures
-    ∙ least-is (s .args .kind) (s .args .grade) (s .pre .0) (s .pre .1) (s .pre .2) (s .args .frame .now) (s .pre .3) (v .levels .result) (v .levels .ensures)
+    ∙ least-is (s .args .kind) (s .args .grade) (s .pre .0) (s .pre .1) (s .pre .2) (s .args .frame .now) (s .pre .3) (o .is-odd .result)
+    (v .levels .result) (v .levels .ensures)
+    ∙ ap (λ last. leastFrameBy last (half (s .args .kind) (s .args .grade)) (blocks (s .args .kind)) (s .args .frame .now)) (o .is-odd .ensures)
 
 shaped-energies-requires : tie.Need-shaped-energies-requires
 shaped-energies-requires c κs =
     let h = c .before .before in
-    let s = h .before .before .before in
-    energy-takes (s .args .kind) (s .args .grade) (s .pre .0) (s .pre .1) (s .pre .2) (s .args .frame .now) (s .pre .3) _ (shaped h)
+    let s = h .before .before .before .before in
+    energy-takes (s .args .kind) (s .args .grade) (s .pre .0) (s .pre .1) (s .pre .2) (s .args .frame .now) (s .pre .3) (isOdd (s .args .number)) _ (shaped h)
 
 same-length : tie.Need-same-length
 same-length c = search needs
@@ -64,6 +70,7 @@ shape-leader-spec =
     levels-requires
     add-k
     sub-k
+    is-odd-requires
     cast-shape
     shape-requires
     shaped-energies-requires

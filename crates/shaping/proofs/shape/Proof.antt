@@ -8,24 +8,24 @@ use borrow.Rule.Slice.PartMut.{putMid}
 use Rattle.e8.specs.Energy.{Within}
 use Rattle.e8.proofs.Within.{within-part}
 use Rattle.e8.specs.Lattice.{part}
-use Rattle.e8.specs.Least.{leastBlock}
+use Rattle.e8.specs.Ties.{leastBlockBy}
 use Rattle.shaping.proofs.Blocks.{Made, Over, over-start, over-same, over-end, over-next, over-step}
 use Rattle.shaping.proofs.Shaped.{least-at, least-to, least-made}
 use Rattle.shaping.proofs.shape.Statement.{statement}
 use Rattle.shaping.proofs.shape.Tie as tie
 
 abbrev Inv-loop : tie.InvT-loop
-Inv-loop k frame₀ n j₀ frame j = Over (least-to k frame₀) frame₀ j frame
+Inv-loop last k frame₀ n j₀ frame j = Over (least-to last k frame₀) frame₀ j frame
 
 abbrev μ-loop : tie.MeasureT-loop
-μ-loop k frame₀ n j₀ frame j = length frame₀ / 8 - j
+μ-loop last k frame₀ n j₀ frame j = length frame₀ / 8 - j
 
 -- the frame is whole blocks
 whole : (s : tie.Start Inv-loop μ-loop) → length (s .args .frame .now) ≡ 8 * (length (s .args .frame .now) / 8)
 whole s = omega arith
 
-made : (s : tie.Start Inv-loop μ-loop) → Made (length (s .args .frame .now) / 8) (least-at (s .args .k) (s .args .frame .now)) (least-to (s .args .k) (s .args .frame .now))
-made s = least-made (s .args .k) (s .args .frame .now) (length (s .args .frame .now) / 8) (whole s)
+made : (s : tie.Start Inv-loop μ-loop) → Made (length (s .args .frame .now) / 8) (least-at (s .args .last) (s .args .k) (s .args .frame .now)) (least-to (s .args .last) (s .args .k) (s .args .frame .now))
+made s = least-made (s .args .last) (s .args .k) (s .args .frame .now) (length (s .args .frame .now) / 8) (whole s)
 
 same : (a : tie.At-loop Inv-loop μ-loop) → length (a .loop .frame) ≡ length (a .before .args .frame .now)
 same a = over-same (made (a .before)) (whole (a .before)) (a .loop .inv)
@@ -60,8 +60,8 @@ x-is c =
     let a = c .before .before .before .before in
     c .load .ensures ∙ over-next (made (a .before)) (whole (a .before)) (a .loop .inv)
 
-least-requires : tie.Need-least-requires Inv-loop μ-loop
-least-requires c κs =
+least-by-requires : tie.Need-least-by-requires Inv-loop μ-loop
+least-by-requires c κs =
     let a = c .before .before .before .before in
     (a .before .pre .0, subst (Within (2 ^ 24)) (sym (x-is c)) (within-part (2 ^ 24) (a .loop .j) (a .before .args .frame .now) (a .before .pre .3)))
 
@@ -82,13 +82,13 @@ store-requires c κs = simp (length-take, length-drop) (omega (arith, same (c .b
 
 -- one block more is shaped
 y-is : (c : tie.After-store Inv-loop μ-loop) → let a = c .before .before .before .before .before .before .before in
-    c .store .last .1 .0 ≡ least-at (a .before .args .k) (a .before .args .frame .now) (a .loop .j)
+    c .store .last .1 .0 ≡ least-at (a .before .args .last) (a .before .args .k) (a .before .args .frame .now) (a .loop .j)
 y-is c =
     let a = c .before .before .before .before .before .before .before in
-    c .store .ensures ∙ c .before .before .least .ensures ∙ ap (leastBlock (2 ^ a .before .args .k)) (x-is (c .before .before .before))
+    c .store .ensures ∙ c .before .before .least-by .ensures ∙ ap (leastBlockBy (a .before .args .last) (2 ^ a .before .args .k)) (x-is (c .before .before .before))
 
 wrote : (c : tie.After-store Inv-loop μ-loop) → let a = c .before .before .before .before .before .before .before in
-    Over (least-to (a .before .args .k) (a .before .args .frame .now)) (a .before .args .frame .now) (a .loop .j + 1)
+    Over (least-to (a .before .args .last) (a .before .args .k) (a .before .args .frame .now)) (a .before .args .frame .now) (a .loop .j + 1)
     (putMid (8 * a .loop .j) (8 * a .loop .j + 8 - 8 * a .loop .j) (a .loop .frame) (c .store .last .1 .0))
 wrote c =
     let a = c .before .before .before .before .before .before .before in
@@ -123,7 +123,7 @@ shape-spec =
     part-load-start
     part-load-end
     load-requires
-    least-requires
+    least-by-requires
     mul-store
     sub-store
     part-store-start

@@ -1,5 +1,6 @@
--- `lists` is safe and ends: every line fits its room, and each turn goes further in the sheet. Assumes nothing.
-use Prim.Native.Nat.{_-_}
+-- `lists` is safe and ends: every line fits its room, and each turn goes further in the sheet, which has no more records than bytes. Assumes
+-- nothing.
+use Prim.Native.Nat.{_-_, _<_, _≤_}
 use mathlib.Core.Path.{_≡_, sym}
 use native.Mathlib.Omega.{arith}
 use lib.ListN.{length}
@@ -9,14 +10,18 @@ use Rattle.sheets.proofs.lists.Statement.{statement}
 use Rattle.sheets.proofs.lists.Tie as tie
 
 abbrev Inv-loop : tie.InvT-loop
-Inv-loop fd sheet start count n out₀ at₀ p₀ out at p = length out ≡ 1024
+Inv-loop fd sheet start count n out₀ at₀ p₀ number₀ out at p number = (length out ≡ 1024) × (number ≤ p)
 
 abbrev μ-loop : tie.MeasureT-loop
-μ-loop fd sheet start count n out₀ at₀ p₀ out at p = length sheet - p
+μ-loop fd sheet start count n out₀ at₀ p₀ number₀ out at p number = length sheet - p
+
+-- each line goes further in the sheet
+further : (c : tie.After-line Inv-loop μ-loop) → c .before .before .before .loop .p < c .line .result .next
+further c = c .line .ensures .1 .1 .1 (c .before .before .loop-test .taken)
 
 -- the room for a line keeps its length
-same-room : (c : tie.After-line Inv-loop μ-loop) → length (c .line .last .1 .1 .0) ≡ 1024
-same-room c = omega (arith, c .line .kept .1 .1 .0, c .before .before .before .loop .inv)
+same-room : (c : tie.After-line Inv-loop μ-loop) → length (c .line .last .1 .1 .1 .0) ≡ 1024
+same-room c = omega (arith, c .line .kept .1 .1 .1 .0, c .before .before .before .loop .inv .0)
 
 slice-aggregate-begin : tie.Need-slice-aggregate-begin Inv-loop μ-loop
 slice-aggregate-begin c = search needs
@@ -50,19 +55,23 @@ array-share-prefix-out-2 c = search needs
 slice-aggregate-take-text-2 : tie.Need-slice-aggregate-take-text-2 Inv-loop μ-loop
 slice-aggregate-take-text-2 c =
     let l = c .before .before in
-    sym (length-take-le (l .line .result .length) (l .line .last .1 .1 .0) (omega (arith, same-room l, l .line .ensures .1 .0)))
+    sym (length-take-le (l .line .result .length) (l .line .last .1 .1 .1 .0) (omega (arith, same-room l, l .line .ensures .1 .0)))
 
 take-text-requires-2 : tie.Need-take-text-requires-2 Inv-loop μ-loop
 take-text-requires-2 c κs = search needs
 
+add-number : tie.Need-add-number Inv-loop μ-loop
+add-number c =
+    let t = c .before .before .before .before .before in
+    omega (arith, t .before .loop .inv .1, t .loop-test .taken)
+
 loop-less : tie.Need-loop-less Inv-loop μ-loop
-loop-less c =
-    let l = c .before .before .before in
-    let t = l .before .before in
-    omega (arith, l .line .ensures .1 .1 .1 (t .loop-test .taken), t .loop-test .taken)
+loop-less c = let l = c .before .before .before in omega (arith, further l, l .before .before .loop-test .taken)
 
 loop-again : tie.Need-loop-again Inv-loop μ-loop
-loop-again c = search needs
+loop-again c =
+    let l = c .before .before .before in
+    (same-room l, omega (arith, further l, l .before .before .before .loop .inv .1))
 
 skip-requires : tie.Need-skip-requires Inv-loop μ-loop
 skip-requires c κs = search needs
@@ -90,6 +99,7 @@ lists-spec =
     array-share-prefix-out-2
     slice-aggregate-take-text-2
     take-text-requires-2
+    add-number
     loop-less
     loop-again
     skip-requires

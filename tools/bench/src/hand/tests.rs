@@ -5,15 +5,16 @@ use super::*;
 use crate::random::Random;
 use second_coder::{account, class, frame, random, vectors};
 
-/// The sent block of x, by the hand-tuned coder.
-fn shaped(x: &[i64; 8], k: u32) -> [i64; 8] {
-    shape(k, &x.map(|x| x as i32)).map(i64::from)
+/// The blocks of x that are sent under even and odd numbers, by the hand-tuned coder.
+fn both(x: &[i64; 8], k: u32) -> [[i64; 8]; 2] {
+    let x = x.map(|x| x as i32);
+    [shape(k, &x), shape_last(k, &x)].map(|z| z.map(i64::from))
 }
 
-/// Compares one block; gives whether its class has several members of least energy.
+/// Compares one block, by both rules; gives whether its class has several members of least energy.
 fn check(x: &[i64; 8], k: u32) -> bool {
     let all = class::least_members(x, 1 << k);
-    assert_eq!(shaped(x, k), all[0], "scale 2^{k}, block {x:?}");
+    assert_eq!(both(x, k), [all[0], all[all.len() - 1]], "scale 2^{k}, block {x:?}");
     all.len() > 1
 }
 
@@ -45,7 +46,7 @@ fn every_block_of_residues_at_scale_4() {
     for number in 0..1u64 << 24 {
         let x: [i64; 8] = std::array::from_fn(|i| (number >> (3 * i) & 7) as i64);
         let class = member_of(&x, 2);
-        assert_eq!(shaped(&x, 2), shaped(&class, 2));
+        assert_eq!(both(&x, 2), both(&class, 2));
     }
 }
 
@@ -111,20 +112,28 @@ fn wide(frame: &[i32]) -> Vec<i64> {
     frame.iter().map(|&x| x as i64).collect()
 }
 
-type Reading = fn(u8, u8, &[i32], &mut [u8]) -> Result<u64, u8>;
-type SecondReading = fn(u8, u8, &[i64], usize) -> Result<(Vec<u8>, u64), u8>;
+/// Compares a reading of a frame, with a message of so many bytes lent.
+fn check_reading(
+    frame: &[i32],
+    bytes: usize,
+    hand: impl Fn(&mut [u8]) -> Result<u64, u8>,
+    second: Result<(Vec<u8>, u64), u8>,
+) {
+    let mut message = vec![0xA5; bytes];
+    let answer = hand(&mut message);
+    match second {
+        Ok((expected, energy)) => assert_eq!((answer, message), (Ok(energy), expected), "{frame:?}"),
+        Err(number) => assert_eq!((answer, message), (Err(number), vec![0xA5; bytes]), "{frame:?}"),
+    }
+}
 
-/// Compares both readings of a frame, with a message of so many bytes lent.
-fn check_readings(kind: u8, grade: u8, frame: &[i32], bytes: usize) {
-    let readings: [(Reading, SecondReading); 2] =
-        [(read_open, frame::read_open_into), (read_strict, frame::read_strict_into)];
-    for (hand, second) in readings {
-        let mut message = vec![0xA5; bytes];
-        let answer = hand(kind, grade, frame, &mut message);
-        match second(kind, grade, &wide(frame), bytes) {
-            Ok((expected, energy)) => assert_eq!((answer, message), (Ok(energy), expected), "{frame:?}"),
-            Err(number) => assert_eq!((answer, message), (Err(number), vec![0xA5; bytes]), "{frame:?}"),
-        }
+/// Compares the open reading of a frame, and the strict ones under a number and under one of the other rule.
+fn check_readings(kind: u8, grade: u8, number: u32, frame: &[i32], bytes: usize) {
+    let second = frame::read_open_into(kind, grade, &wide(frame), bytes);
+    check_reading(frame, bytes, |message| read_open(kind, grade, frame, message), second);
+    for number in [number, number ^ 1] {
+        let second = frame::read_strict_into(kind, grade, number, &wide(frame), bytes);
+        check_reading(frame, bytes, |message| read_strict(kind, grade, number, frame, message), second);
     }
 }
 
@@ -153,15 +162,20 @@ fn damaged(frame: &[i32], scale: i32, random: &mut Random) -> Vec<i32> {
     frame
 }
 
-/// Sends with an account whose largest block is about the frame's.
-fn check_account(kind: u8, grade: u8, message: &[u8], expected: &frame::Sent, random: &mut Random) {
+/// Sends with an account whose largest block is about the frame's, and whose next frame has this number.
+fn check_account(kind: u8, grade: u8, number: u32, message: &[u8], expected: &frame::Sent, random: &mut Random) {
     let block = account::largest_block(&expected.frame);
     let old = [0, block.saturating_sub(1), block, block + 1, random.word(), u64::MAX][random.below(6) as usize];
-    let mut account = Account { count: 7, sum: 0.25, largest: old };
+    // Number 0 is also that of every count below the changeover.
+    let (count, changeover) = match number {
+        0 => [(0, 0), (0, 1), (7, 8), (6, 1_000_000), (999_999, u32::MAX)][random.below(5) as usize],
+        _ => (number, random.below(number as u64 + 1) as u32),
+    };
+    let mut account = Account { count, sum: 0.25, largest: old, changeover };
     let mut sent = vec![77; expected.frame.len()];
     assert_eq!(send_counted(kind, grade, message, &mut sent, &mut account), Ok(expected.energy));
     let sum = 0.25 + expected.energy as f64 / sent.len() as f64;
-    assert_eq!(account, Account { count: 8, sum, largest: old.max(block) });
+    assert_eq!(account, Account { count: count + 1, sum, largest: old.max(block), changeover });
     assert_eq!(wide(&sent), expected.frame);
 }
 
@@ -176,15 +190,19 @@ fn check_messages(rounds: usize, seed: u64) {
             1 => vectors::edge(&format, &mut random),
             _ => vectors::with_bits(&format, &[own.below(format.message_bits() as u64) as usize]),
         };
+        for number in [0, 1 + own.below(FULL as u64 - 1) as u32] {
+            let expected = frame::send(kind, grade, number, &message).unwrap();
+            check_account(kind, grade, number, &message, &expected, &mut own);
+        }
+        let number = own.word() as u32;
         let mut sent = vec![77; format.length()];
-        let expected = frame::send(kind, grade, &message).unwrap();
-        assert_eq!(send(kind, grade, &message, &mut sent), Ok(expected.energy));
+        let expected = frame::send(kind, grade, number, &message).unwrap();
+        assert_eq!(send(kind, grade, number, &message, &mut sent), Ok(expected.energy));
         assert_eq!(wide(&sent), expected.frame);
-        check_account(kind, grade, &message, &expected, &mut own);
-        check_readings(kind, grade, &sent, message.len());
+        check_readings(kind, grade, number, &sent, message.len());
         for _ in 0..4 {
             sent = damaged(&sent, format.scale() as i32, &mut own);
-            check_readings(kind, grade, &sent, message.len());
+            check_readings(kind, grade, number, &sent, message.len());
             if sent.iter().any(|x| x.unsigned_abs() > 1_048_576) {
                 break;
             }
@@ -214,13 +232,14 @@ fn lengths_and_spare_bits() {
                     let mut message = vec![0; bytes];
                     random.fill(&mut message);
                     let mut sent = vec![77; length];
-                    let answer = send(kind, grade, &message, &mut sent);
-                    match frame::send_into(kind, grade, &message, length) {
+                    let number = random.word() as u32;
+                    let answer = send(kind, grade, number, &message, &mut sent);
+                    match frame::send_into(kind, grade, number, &message, length) {
                         Ok(expected) => assert_eq!((answer, wide(&sent)), (Ok(expected.energy), expected.frame)),
                         Err(number) => assert_eq!((answer, sent), (Err(number), vec![77; length])),
                     }
                     let frame: Vec<i32> = (0..length).map(|_| random.below(2) as i32 * 2 - 2).collect();
-                    check_readings(kind, grade, &frame, bytes);
+                    check_readings(kind, grade, number, &frame, bytes);
                 }
             }
         }
@@ -228,15 +247,25 @@ fn lengths_and_spare_bits() {
 }
 
 #[test]
+fn opening() {
+    for changeover in [0, 1, 999_999, FULL] {
+        assert_eq!(open(changeover), (Account { count: 0, sum: 0.0, largest: 0, changeover }, 0));
+    }
+    for changeover in [FULL + 1, 1 << 31, u32::MAX] {
+        assert_eq!(open(changeover), (Account { count: 0, sum: 0.0, largest: 0, changeover: 0 }, refusal::CHANGEOVER));
+    }
+}
+
+#[test]
 fn accounts() {
-    let mut account = Account::default();
+    let mut account = open(0).0;
     let mut frame = [0; 16];
     assert_eq!(send_counted(4, 1, &[0x20, 0, 0, 0, 0], &mut frame, &mut account), Ok(64));
-    assert_eq!(account, Account { count: 1, sum: 4.0, largest: 32 });
+    assert_eq!(account, Account { count: 1, sum: 4.0, largest: 32, changeover: 0 });
     // Only the second block, which is less: (0, 4, 0, ..).
     assert_eq!(send_counted(4, 1, &[0, 0, 0, 0x10, 0], &mut frame, &mut account), Ok(16));
-    assert_eq!(account, Account { count: 2, sum: 5.0, largest: 32 });
-    let full = Account { count: FULL, sum: 1.5, largest: 3 };
+    assert_eq!(account, Account { count: 2, sum: 5.0, largest: 32, changeover: 0 });
+    let full = Account { count: FULL, sum: 1.5, largest: 3, changeover: 7 };
     account = full;
     let before = frame;
     assert_eq!(send_counted(4, 1, &[0, 0, 0, 0, 0x10], &mut frame, &mut account), Err(refusal::SPARE_BITS));
@@ -247,40 +276,52 @@ fn accounts() {
     let mut frame = [77; 64];
     assert_eq!(send_counted(6, 4, &[0; 46], &mut frame, &mut account), Err(refusal::ACCOUNT_FULL));
     assert_eq!((frame, account), ([77; 64], full));
-    account = Account::default();
+    account = open(FULL).0;
     let mut message = [0; 46];
     message[0] = 1;
     assert_eq!(send_counted(6, 4, &message, &mut frame, &mut account), Ok(64));
-    assert_eq!((frame, account), ([1; 64], Account { count: 1, sum: 1.0, largest: 8 }));
+    assert_eq!((frame, account), ([1; 64], Account { count: 1, sum: 1.0, largest: 8, changeover: FULL }));
 }
 
 #[test]
 fn queues() {
-    // Two good messages, one with a spare bit set, a good one.
-    let messages = [0x00, 0x08, 0x02, 0x00, 0x00, 0x10, 0x01, 0x00];
-    let frames = [[-4, 0, 0, 0, 0, 0, 0, 0], [0, 1, 0, 1, 0, 1, 0, 1], [77; 8], [77; 8]].concat();
-    let check = |(kind, grade), bytes, length, count, expected: (usize, u8)| {
-        let mut account = Account { count, sum: 0.25, largest: 3 };
+    // Two good messages, one with a spare bit set, a good one; the second is sent otherwise where its number is odd.
+    let messages = [0x00, 0x08, 0x01, 0x00, 0x00, 0x10, 0x01, 0x00];
+    let check = |(kind, grade), bytes, length, (count, changeover): (u32, u32), expected: (usize, u8)| {
+        let mut account = Account { count, sum: 0.25, largest: 3, changeover };
         let mut sent = vec![77; length];
         assert_eq!(send_queue(kind, grade, &messages[..bytes], &mut sent, &mut account), expected);
-        let (sum, largest) = [(0.25, 3), (2.25, 16), (2.75, 16)][expected.0];
-        assert_eq!(account, Account { count: count + expected.0 as u32, sum, largest });
+        let (sum, largest) = [(0.25, 3), (2.25, 16), (3.25, 16)][expected.0];
+        assert_eq!(account, Account { count: count + expected.0 as u32, sum, largest, changeover });
+        let [first, second] = [0, 1].map(|place| {
+            let number = count.wrapping_add(place);
+            if number >= changeover && odd(number) {
+                1
+            } else {
+                -1
+            }
+        });
+        let frames = [[4 * first, 0, 0, 0, 0, 0, 0, 0], [second; 8]].concat();
         let mut left = vec![77; length];
         left[..8 * expected.0].copy_from_slice(&frames[..8 * expected.0]);
         assert_eq!(sent, left);
     };
-    check((3, 1), 4, 16, 0, (2, 0));
-    check((3, 1), 8, 32, 0, (2, refusal::SPARE_BITS));
-    check((3, 1), 8, 32, FULL - 2, (2, refusal::SPARE_BITS));
-    check((3, 1), 8, 32, FULL - 1, (1, refusal::ACCOUNT_FULL));
-    check((3, 1), 4, 16, u32::MAX, (0, refusal::ACCOUNT_FULL));
-    check((3, 1), 0, 0, FULL, (0, 0));
-    check((3, 1), 3, 9, FULL, (0, refusal::MESSAGE_LENGTH));
-    for length in [0, 8, 15, 17, 24] {
-        check((3, 1), 4, length, FULL, (0, refusal::FRAME_LENGTH));
+    for account in [(0, 0), (0, 1), (0, 2), (5, 5), (5, 6), (5, 7), (6, 7), (6, 8), (5, u32::MAX)] {
+        check((3, 1), 4, 16, account, (2, 0));
+        check((3, 1), 8, 32, account, (2, refusal::SPARE_BITS));
     }
-    check((3, 5), 3, 9, FULL, (0, refusal::GRADE));
-    check((7, 5), 0, 0, 0, (0, refusal::KIND));
+    check((3, 1), 8, 32, (FULL - 2, 0), (2, refusal::SPARE_BITS));
+    check((3, 1), 8, 32, (FULL - 1, 0), (1, refusal::ACCOUNT_FULL));
+    check((3, 1), 8, 32, (FULL - 1, FULL), (1, refusal::ACCOUNT_FULL));
+    check((3, 1), 4, 16, (u32::MAX, 0), (0, refusal::ACCOUNT_FULL));
+    let full = (FULL, 9);
+    check((3, 1), 0, 0, full, (0, 0));
+    check((3, 1), 3, 9, full, (0, refusal::MESSAGE_LENGTH));
+    for length in [0, 8, 15, 17, 24] {
+        check((3, 1), 4, length, full, (0, refusal::FRAME_LENGTH));
+    }
+    check((3, 5), 3, 9, full, (0, refusal::GRADE));
+    check((7, 5), 0, 0, (0, 0), (0, refusal::KIND));
 }
 
 /// The vectors that the second coder wrote, by the format of its README.
@@ -289,7 +330,8 @@ fn written_vectors() {
     let path = concat!(env!("CARGO_MANIFEST_DIR"), "/../../crates/vectors/data/vectors.bin");
     let file = std::fs::read(path).expect("the second coder's vectors are there");
     let (mut rest, mut count) = (&file[..], 0);
-    while let [kind, grade, bytes, after @ ..] = rest {
+    while let [kind, grade, bytes, n0, n1, n2, n3, other, after @ ..] = rest {
+        let number = u32::from_le_bytes([*n0, *n1, *n2, *n3]);
         let (message, after) = after.split_at(*bytes as usize);
         let (coordinates, after) = after[1..].split_at(4 * after[0] as usize);
         let (energies, after) = after.split_at(24);
@@ -298,8 +340,11 @@ fn written_vectors() {
         let mut energies = energies.chunks_exact(8).map(|x| Ok(u64::from_le_bytes(x.try_into().unwrap())));
         let energy = energies.next().unwrap();
         let (mut sent, mut back) = (vec![77; expected.len()], vec![0xA5; message.len()]);
-        assert_eq!((send(*kind, *grade, message, &mut sent), &sent), (energy, &expected));
-        assert_eq!((read_strict(*kind, *grade, &sent, &mut back), &back[..]), (energy, message));
+        assert_eq!((send(*kind, *grade, number, message, &mut sent), &sent), (energy, &expected));
+        assert_eq!((read_strict(*kind, *grade, number, &sent, &mut back), &back[..]), (energy, message));
+        // Under the number beside it, whose rule is the other.
+        let judged = if *other == 0 { energy } else { Err(*other) };
+        assert_eq!(read_strict(*kind, *grade, number ^ 1, &sent, &mut back), judged);
         // The frame with a point added: M at the first two places, and half of M at each place of the last block.
         let levels = frame::Format::new(*kind, *grade).unwrap().levels.len();
         let scale = 1 << (levels as u8 + grade);
@@ -308,20 +353,19 @@ fn written_vectors() {
         last.iter_mut().rev().take(8).for_each(|x| *x += scale / 2);
         for (frame, energy) in [first, last].iter().zip(energies) {
             back.fill(0xA5);
-            assert_eq!(read_strict(*kind, *grade, frame, &mut back), Err(refusal::UNSHAPED));
+            assert_eq!(read_strict(*kind, *grade, number, frame, &mut back), Err(refusal::UNSHAPED));
             assert_eq!((read_open(*kind, *grade, frame, &mut back), &back[..]), (energy, message));
         }
         // The first coordinate moved out of the coding set, at each level.
         for (level, refusal) in [BROKEN_LEVEL_0, BROKEN_LEVEL_1, BROKEN_LEVEL_2].into_iter().take(levels).enumerate() {
             let mut frame = expected.clone();
             frame[0] += 1 << level;
-            for read in [read_open, read_strict] {
-                back.fill(0xA5);
-                assert_eq!(read(*kind, *grade, &frame, &mut back), Err(refusal));
-                assert!(back.iter().all(|byte| *byte == 0xA5));
-            }
+            back.fill(0xA5);
+            assert_eq!(read_open(*kind, *grade, &frame, &mut back), Err(refusal));
+            assert_eq!(read_strict(*kind, *grade, number, &frame, &mut back), Err(refusal));
+            assert!(back.iter().all(|byte| *byte == 0xA5));
         }
         (rest, count) = (after, count + 1);
     }
-    assert!(rest.is_empty() && count >= 4800);
+    assert!(rest.is_empty() && count >= 9600);
 }

@@ -7,7 +7,7 @@ use lib.IntN.{ℤ}
 use lib.ListN.{length}
 use borrow.Author.Needs.{needs}
 use Rattle.e8.specs.Energy.{Within}
-use Rattle.e8.specs.Least.{leastFrame}
+use Rattle.e8.specs.Ties.{leastFrameBy}
 use Rattle.frames.specs.Reading.{sameFrame}
 use Rattle.frames.proofs.Limits.{few-positions, some-block, whole-blocks}
 use Rattle.reading.proofs.strict.is_least_by.Statement.{statement}
@@ -41,7 +41,7 @@ returns c =
     let d = c .before .before .before in
     let e = d .before .before .before in
     let a = e .before .before .args in
-    let made = d .shape .ensures ∙ ap (λ (x : List ℤ). leastFrame (2 ^ a .k) (length x / 8) x) (e .copied .ensures) in
+    let made = d .shape .ensures ∙ ap (λ (x : List ℤ). leastFrameBy (a .last) (2 ^ a .k) (length x / 8) x) (e .copied .ensures) in
     (c .same .ensures ∙ ap (sameFrame (a .frame .now)) made, made)
 
 pub is-least-by-spec : {M : Type 1} → statement M
