@@ -1,0 +1,4 @@
+pub mod Sums
+pub mod Each
+pub mod Mirrored
+pub mod Demands
