@@ -1,5 +1,6 @@
-/* Sends the message 00 08 at kind 3, grade 1, prints its energy and its frame, and reads it back both ways; then a frame that is
- * read openly and refused strictly, refusals by name, an account, and a queue that stops at its third message. */
+/* Sends the message 00 08 at kind 3, grade 1, under an even and an odd number, prints the energy and both frames, and reads them back
+ * openly and strictly, under their own number and under the other; then refusals by name, an account across its changeover, and a
+ * queue that stops at its third message. */
 #include <inttypes.h>
 #include <stdio.h>
 #include <string.h>
@@ -33,46 +34,64 @@ int main(void)
     const size_t bytes = coder_message_length(kind, grade), coordinates = coder_frame_length(kind);
 
     printf("frame coder %s\n", FRAME_CODER_VERSION);
-    int64_t answer = coder_send(kind, grade, message, bytes, frame, coordinates);
-    if (answer < 0) {
-        printf("refused %" PRId64 " (%s)\n", -answer, coder_refusal_name(answer));
-        return 1;
+
+    /* Sixteen frames of its class have the least energy: number 0 is sent as the first of them in reading order, number 1 as the
+     * last. Both are read as the message, but strictly each under its own number alone. */
+    for (uint32_t number = 0; number < 2; number++) {
+        int64_t answer = coder_send(kind, grade, number, message, bytes, frame, coordinates);
+        if (answer < 0) {
+            printf("refused %" PRId64 " (%s)\n", -answer, coder_refusal_name(answer));
+            return 1;
+        }
+        printf("number %" PRIu32 ", energy %" PRId64 ":", number, answer);
+        print_frame(frame, coordinates);
+
+        answer = coder_read_open(kind, grade, frame, coordinates, back, bytes);
+        print_message("read openly", answer, back, bytes);
+        if (answer < 0 || memcmp(back, message, bytes) != 0)
+            return 1;
+        answer = coder_read_strict(kind, grade, number, frame, coordinates, back, bytes);
+        print_message("read strictly", answer, back, bytes);
+        if (answer < 0 || memcmp(back, message, bytes) != 0)
+            return 1;
+        answer = coder_read_strict(kind, grade, 1 - number, frame, coordinates, back, bytes);
+        print_message("read strictly under the other number", answer, back, bytes);
     }
-    printf("energy %" PRId64 ":", answer);
-    print_frame(frame, coordinates);
 
-    answer = coder_read_open(kind, grade, frame, coordinates, back, bytes);
-    print_message("read openly", answer, back, bytes);
-    if (answer < 0 || memcmp(back, message, bytes) != 0)
-        return 1;
-    answer = coder_read_strict(kind, grade, frame, coordinates, back, bytes);
-    print_message("read strictly", answer, back, bytes);
-    if (answer < 0 || memcmp(back, message, bytes) != 0)
-        return 1;
-
-    /* Another frame of the same class: it has the same message, but it is not the one that is sent. */
-    frame[0] += 1048576;
+    /* Another frame of the same class, far from the least: it has the same message, but it is sent under no number. */
+    frame[0] += 1048568;
     print_message("read openly", coder_read_open(kind, grade, frame, coordinates, back, bytes), back, bytes);
-    print_message("read strictly", coder_read_strict(kind, grade, frame, coordinates, back, bytes), back, bytes);
+    print_message("read strictly", coder_read_strict(kind, grade, 0, frame, coordinates, back, bytes), back, bytes);
 
     /* Nothing is lent: a null pointer may stand where the length is 0. */
-    print_message("no message", coder_send(kind, grade, NULL, 0, frame, coordinates), NULL, 0);
+    print_message("no message", coder_send(kind, grade, 0, NULL, 0, frame, coordinates), NULL, 0);
 
-    struct coder_account account = coder_account_begin();
-    for (int times = 0; times < 3; times++)
-        if (coder_account_send(&account, kind, grade, message, bytes, frame, coordinates) < 0)
+    /* An account with a changeover of 2: its first two frames follow the old rule, and those after them the rule of their number,
+     * which is the count before the send. The number by which a frame is judged is asked for before the send. */
+    struct coder_account account;
+    print_message("changeover 1000001", coder_account_open(&account, 1000001), NULL, 0);
+    if (coder_account_open(&account, 2) < 0)
+        return 1;
+    for (int times = 0; times < 4; times++) {
+        const uint32_t count = account.count, number = coder_account_number(&account);
+        if (coder_account_send(&account, kind, grade, message, bytes, frame, coordinates) < 0 ||
+            coder_read_strict(kind, grade, number, frame, coordinates, back, bytes) < 0)
             return 1;
+        printf("count %" PRIu32 ", judged under %" PRIu32 ":", count, number);
+        print_frame(frame, coordinates);
+    }
     print_message("kind 259", coder_account_send(&account, 259, 1, message, bytes, frame, coordinates), NULL, 0);
-    printf("account: %" PRIu32 " frames, mean power %g, largest block %" PRIu64 "\n", account.count, account.sum / account.count,
-           account.largest);
+    printf("account: %" PRIu32 " frames, mean power %g, largest block %" PRIu64 ", changeover %" PRIu32 "\n", account.count,
+           account.sum / account.count, account.largest, account.changeover);
 
     /* A queue: messages end to end, and so their frames. The third has a spare bit set: the two before it are sent and counted. */
-    const uint8_t queue[4 * CODER_MESSAGE_LENGTH(3, 1)] = {0x00, 0x08, 0x02, 0x00, 0x00, 0x10, 0x01, 0x00};
+    const uint8_t queue[4 * CODER_MESSAGE_LENGTH(3, 1)] = {0x00, 0x08, 0x01, 0x00, 0x00, 0x10, 0x02, 0x00};
     int32_t frames[4 * CODER_FRAME_LENGTH(3)];
+    const uint32_t before = account.count;
     size_t sent;
-    answer = coder_account_send_queue(&account, kind, grade, queue, 4 * bytes, frames, 4 * coordinates, &sent);
+    int64_t answer = coder_account_send_queue(&account, kind, grade, queue, 4 * bytes, frames, 4 * coordinates, &sent);
     for (size_t i = 0; i < sent; i++) {
-        printf("queue, message %zu:", i + 1);
+        printf("queue, message %zu, judged under %" PRIu32 ":", i + 1, coder_number_at(account.changeover, before + (uint32_t)i));
         print_frame(frames + i * coordinates, coordinates);
     }
     if (answer < 0)

@@ -1,6 +1,9 @@
-/* Reads lines `kind grade energy coordinates`, as a listing has them, and prints what the two readings say of each frame. */
+/* Reads lines `kind grade energy coordinates`, as a listing has them, and prints what the two readings say of each frame. As in a
+ * sheet, the lines are numbered from 0, the listing's header left out, and each frame is read strictly under the number of its line.
+ * With an argument all are read under that number: `mark 0` for frames that are judged by number 0. */
 #include <stdio.h>
 #include <stdlib.h>
+#include <string.h>
 #include "frame_coder.h"
 
 static void show(const char *reading, int64_t answer, const uint8_t *message, size_t length)
@@ -14,15 +17,22 @@ static void show(const char *reading, int64_t answer, const uint8_t *message, si
         printf(" %02X", (unsigned)message[i]);
 }
 
-int main(void)
+int main(int count, char **words)
 {
     char line[1024];
-    for (int number = 1; fgets(line, sizeof line, stdin); number++) {
+    uint32_t next = 0;
+    for (int place = 1; fgets(line, sizeof line, stdin); place++) {
         char *at = line, *end;
         int head[3]; /* kind, grade, energy; the energy is not used */
         int32_t frame[CODER_MAX_FRAME_LENGTH + 1];
         uint8_t message[CODER_MAX_MESSAGE_LENGTH] = {0};
         size_t n = 0;
+        printf("line %d", place);
+        if (strncmp(line, "kind ", 5) == 0) {
+            printf(": header\n");
+            continue;
+        }
+        const uint32_t number = count > 1 ? (uint32_t)strtoul(words[1], NULL, 10) : next++;
         for (int i = 0; i < 3; i++, at = end)
             head[i] = (int)strtol(at, &end, 10);
         for (; n <= CODER_MAX_FRAME_LENGTH; n++, at = end) {
@@ -33,13 +43,13 @@ int main(void)
             frame[n] = (int32_t)(x > 2000000 ? 2000000 : x < -2000000 ? -2000000 : x);
         }
         size_t length = coder_message_length(head[0], head[1]);
-        printf("line %d: ", number);
+        printf(", number %lu: ", (unsigned long)number);
         if (length == 0) {
             printf("no kind and grade\n");
             continue;
         }
         uint8_t kind = (uint8_t)head[0], grade = (uint8_t)head[1];
-        show("strictly", coder_read_strict(kind, grade, frame, n, message, length), message, length);
+        show("strictly", coder_read_strict(kind, grade, number, frame, n, message, length), message, length);
         show("; openly", coder_read_open(kind, grade, frame, n, message, length), message, length);
         printf("\n");
     }
