@@ -15,7 +15,8 @@ use Rattle.e8.specs.Largest.{blocksOf}
 use Rattle.account.specs.declared.Account.{Account}
 use Rattle.account.specs.Power.{Measured, powerOf, begun, grown}
 use Rattle.account.specs.History.{powersIn}
-use Rattle.account.proofs.Exact.{power-exact, add-parts, smaller-parts, parts-exact}
+use Rattle.floats.proofs.Exact.{add-parts, smaller-parts, parts-exact}
+use Rattle.account.proofs.Exact.{power-exact}
 
 -- an account grown by frames one after the other, in the order of the list
 unfoldable pub grownBy : Account → List (List ℤ) → Account
@@ -67,7 +68,7 @@ module _ (m : ℕ) (h : m < 53) where
   step x t f c v l =
       let e = energy f in
       let n = length f in
-      let p = smaller-parts (powerOf e n) e n (2 ^ m / n) (power-exact e n (counted-measured m f h c)) in
+      let p = smaller-parts (powerOf e n) false e n (2 ^ m / n) (power-exact e n (counted-measured m f h c)) in
       let q : HasValue (powerOf e n) false (e * (2 ^ m / n)) (2 ^ m) = rw (scale m f c) at p in
       rw (add-parts x (powerOf e n) t (e * (2 ^ m / n)) (2 ^ m) (pow-pos m) v q)
       (parts-exact (t + e * (2 ^ m / n)) m (omega arith) l)
