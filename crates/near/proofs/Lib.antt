@@ -1,0 +1,5 @@
+pub mod Parts
+pub mod Tests
+pub mod Outcome
+pub mod Claims
+pub mod Cases

@@ -1,0 +1,5 @@
+pub mod NearKinds
+pub mod Squares
+pub mod Only
+pub mod Frames
+pub mod Sum

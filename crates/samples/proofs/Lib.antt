@@ -1,0 +1,5 @@
+pub mod Constants
+pub mod Whole
+pub mod Moved
+pub mod Samples
+pub mod Examples
