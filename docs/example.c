@@ -1,6 +1,6 @@
 /* Sends the message 00 08 at kind 3, grade 1, under an even and an odd number, prints the energy and both frames, and reads them back
- * openly and strictly, under their own number and under the other; then refusals by name, an account across its changeover, and a
- * queue that stops at its third message. */
+ * openly and strictly, under their own number and under the other; then noisy samples of a frame, refusals by name, an account across
+ * its changeover, and a queue that stops at its third message. */
 #include <inttypes.h>
 #include <stdio.h>
 #include <string.h>
@@ -62,6 +62,20 @@ int main(void)
     frame[0] += 1048568;
     print_message("read openly", coder_read_open(kind, grade, frame, coordinates, back, bytes), back, bytes);
     print_message("read strictly", coder_read_strict(kind, grade, 0, frame, coordinates, back, bytes), back, bytes);
+
+    /* What a receiver has of a frame: samples, each a whole number of 256ths, with noise. It is read as long as the squared distance
+     * is below the limit; on the limit it is too far. */
+    float samples[CODER_FRAME_LENGTH(3)] = {3.5f, 0.5f, 0.25f, 0.0f, 0.0f, 0.0f, -0.25f, 0.0f};
+    for (int times = 0; times < 3; times++) {
+        double distance;
+        int64_t near_answer = coder_read_near(kind, grade, samples, coordinates, back, bytes, &distance);
+        if (near_answer < 0)
+            printf("noisy samples: refused %" PRId64 " (%s)\n", -near_answer, coder_refusal_name(near_answer));
+        else
+            printf("noisy samples: squared distance %g, below %d, message %02x %02x\n", distance, CODER_NEAR_LIMIT(3),
+                   (unsigned)back[0], (unsigned)back[1]);
+        samples[7] += times == 0 ? 0.875f : 1.0f / 512; /* then no whole number of 256ths */
+    }
 
     /* Nothing is lent: a null pointer may stand where the length is 0. */
     print_message("no message", coder_send(kind, grade, 0, NULL, 0, frame, coordinates), NULL, 0);

@@ -1,10 +1,11 @@
 /* The frame coder for C99 and C++: link with libframe_coder.a, which `rt staticlib frame_coder` makes in target/staticlib.
  *
  * A message is bytes, a frame is 8, 16, 32 or 64 whole numbers (int32_t). Sending makes the frame of a message, or the frames of a
- * queue of messages; reading makes the message of a frame. Each is lent as a pointer and a length. An answer is the energy of the
- * frame, 0 or more (for a queue, and for the opening of an account, 0), or minus the number of a refusal. Bad input is refused, and a
- * refusal changes nothing that was lent; in a queue this is true of the refused message, and what was sent before it stands; an
- * account whose opening is refused is zero. docs/GUIDE.md explains the words, docs/example.c shows the calls.
+ * queue of messages; reading makes the message of a frame, or of the noisy samples (float) that a receiver has of it. Each is lent
+ * as a pointer and a length. An answer is the energy of the frame, 0 or more (for a queue, for the opening of an account and for
+ * noisy samples, 0), or minus the number of a refusal. Bad input is refused, and a refusal changes nothing that was lent; in a
+ * queue this is true of the refused message, and what was sent before it stands; an account whose opening is refused is zero.
+ * docs/GUIDE.md explains the words, docs/example.c shows the calls.
  *
  * LENGTHS, by kind (3 to 6) and grade (1 to 4). A lent length must be exactly the table's; for a queue see QUEUES.
  *
@@ -44,17 +45,31 @@
  *     many they are, and the coordinates behind them keep their values. Message i, counted from 0, is sent at the count before the
  *     queue plus i. A queue of no messages is good: 0 bytes and 0 coordinates.
  *
+ * NOISY FRAMES, of kinds 3, 4 and 5. coder_read_near takes as many samples as the kind has coordinates, finds the frame of the coding
+ *     set that is near to them, and gives its message and the squared distance of the two. Each sample is a whole number of 256ths
+ *     from -128 to 128 (-0.0 is 0); any other, one that is no number among them, is refused by 15. Near is a squared distance below
+ *
+ *         1, 2, 4              at kinds 3, 4, 5        (CODER_NEAR_LIMIT; not the limit itself)
+ *
+ *     There is never a second near frame, for two frames of the coding set are at squared distance 4, 8, 16 or more: twice as far
+ *     as the limits reach. So a sent frame that noise has moved by less than that is always read back, whatever the noise. The near
+ *     frame is found wherever there is one; 16 (too far) says that no frame of the coding set is near. It need not be one that is
+ *     sent: coordinates of sent frames are at most 64 in size at these kinds, and samples reach to 128. The distance is exact, a
+ *     whole number of 65536ths, and nothing is rounded on the way. A receiver whose samples are finer than 256ths rounds them
+ *     first, each to the nearest one (in C: roundf(x * 256) / 256); the distance is then that of the rounded samples, of which each
+ *     has been moved by up to 1/512. Kind 6 has no near reading and is answered 1.
+ *
  * WHAT A CALLER HAS TO SEE TO, since nothing here can test it:
  *   - a pointer is valid for as many elements as its length says, and aligned for its type. Where the length is 0 it may be
  *     anything, null too, and is not looked at: no message and no frame has length 0, so that the call is refused, unless it is a
  *     queue of no messages, which has nothing to read and nothing to write;
- *   - `count`, `sum`, `largest`, `kept` and `sent`, or `account`, are valid in every call that takes them, and never null, also where
- *     the call is refused (coder_send_queue and coder_open store to all four of theirs in every call);
+ *   - `count`, `sum`, `largest`, `kept`, `sent` and `distance`, or `account`, are valid in every call that takes them, and never null,
+ *     also where the call is refused (coder_send_queue and coder_open store to all four of theirs in every call);
  *   - a frame is read strictly under its own number, and an account goes on with its own changeover: nothing in a frame tells its
  *     number, and coder_send_counted and coder_send_queue take any changeover, as they take any count;
  *   - what is lent to one call does not overlap, and nobody else writes to it during the call.
- * What is lent to be written (a sender's frames, `sent`, an account to be opened, a reading's message) need not be set before:
- *     nothing of it is loaded that the call has not stored (tested under valgrind).
+ * What is lent to be written (a sender's frames, `sent`, an account to be opened, a reading's message, `distance`) need not be set
+ *     before: nothing of it is loaded that the call has not stored (tested under valgrind).
  *
  * KIND AND GRADE ARE uint8_t in the archive's functions. C and C++ narrow an int to that in silence: kind 259 arrives as 3. The
  *     functions that are written out in this header take an int and test it before they narrow it. Where kind and grade come
@@ -65,27 +80,30 @@
  * FOR FIRMWARE. The archive is for x86-64, ELF and the System V calling convention (Linux); there is none for other processors
  *     today. It needs nothing beyond the base of x86-64 (SSE2), and links into fixed and position-independent programs. It calls
  *     nothing (no libc, no allocation, no system call) and has no data that is written, so it is reentrant and safe in threads.
- *     Only coder_send_counted and coder_send_queue compute in floating point; but every function save coder_open uses the vector
- *     registers (xmm), which whoever interrupts a thread must save. A call ends on every input; its time depends on the input
- *     (docs/BENCHMARKS.md), that of a queue on the number of its messages above all.
+ *     Only coder_send_counted, coder_send_queue (double) and coder_read_near (float and double) compute in floating point; but every
+ *     function save coder_open uses the vector registers (xmm), which whoever interrupts a thread must save. The mode of rounding
+ *     does not matter to coder_read_near; where mxcsr takes denormals for zero, as -ffast-math may set it, a denormal sample is 0 and
+ *     not unfit. A call ends on every input; its time depends on the input (docs/BENCHMARKS.md), that of a queue on the number of
+ *     its messages above all, that of coder_read_near on the noise.
  *     Measured on the archive of this version, A=target/staticlib/libframe_coder.a:
  *
  *       nm -u $A        no undefined symbols: it prints the name of the member and nothing more
- *       size $A         text 17311 (code and constants), data 0, bss 0
- *       size -A $A      a section for each function, so that -Wl,--gc-sections leaves out what is not called: of 16775 bytes of
- *                       code coder_send alone needs 9165, both readings 10044
+ *       size $A         text 20197 (code and constants), data 0, bss 0
+ *       size -A $A      a section for each function, so that -Wl,--gc-sections leaves out what is not called: of 19353 bytes of
+ *                       code coder_send alone needs 9165, the open and the strict reading 10044, coder_read_near alone 12457
  *       cc -I crates/frame_coder tools/c/stack.c $A -o target/stack && target/stack
  *                       the most stack that a call used, in bytes, with its return address and the arguments on the stack:
  *                       coder_open 8, coder_send 816, coder_send_counted 864, coder_send_queue 960, coder_read_open 576,
- *                       coder_read_strict 1072
+ *                       coder_read_strict 1072, coder_read_near 1568
  *       objdump -dr $A | grep -E '>:$|push|sub .*,%rsp|-0x[0-9a-f]*\(%rsp\)|PLT32'
  *                       where it goes: the frames on the way down add up to the same, nothing recurs, and 128 of the bytes of
- *                       sending and of the strict reading, and 8 of those of the open reading, lie below the stack pointer, in the
- *                       red zone of the calling convention: an interrupt on the same stack must leave out 128 bytes there
+ *                       sending and of the strict reading, and 8 of those of the open and the near reading, lie below the stack
+ *                       pointer, in the red zone of the calling convention: an interrupt on the same stack must leave out 128
+ *                       bytes there
  *
  * Every function of the archive is proved to answer, and to leave in what it is lent, what crates/frame_coder/src/lib.rt says.
- * The functions that are written out in this header (lengths, names, account) are plain C and tested only, by tools/c/run; so are
- * pointers where the length is 0, which no contract speaks of.
+ * The functions that are written out in this header (lengths, limits, names, account) are plain C and tested only, by tools/c/run; so
+ * are pointers where the length is 0, which no contract speaks of.
  */
 #ifndef FRAME_CODER_H
 #define FRAME_CODER_H
@@ -93,7 +111,7 @@
 #include <stddef.h>
 #include <stdint.h>
 
-#define FRAME_CODER_VERSION "0.7.0"
+#define FRAME_CODER_VERSION "0.8.0"
 
 #ifdef __cplusplus
 extern "C" {
@@ -127,7 +145,10 @@ extern "C" {
                                                   : 0)
 #define CODER_MESSAGE_LENGTH(kind, grade) ((CODER_MESSAGE_BITS(kind, grade) + 7) / 8)
 
-/* The same as functions. */
+/* The squared distance below which a frame of the kind is near to samples; 0 where the kind has no near reading. */
+#define CODER_NEAR_LIMIT(kind) ((kind) == 3 ? 1 : (kind) == 4 ? 2 : (kind) == 5 ? 4 : 0)
+
+/* The lengths as functions. */
 CODER_INLINE size_t coder_frame_length(int kind)
 {
     return (size_t)CODER_FRAME_LENGTH(kind);
@@ -145,12 +166,13 @@ CODER_INLINE size_t coder_message_length(int kind, int grade)
 
 /* The numbers of the refusals. Sending tests 1, 2, 3, 4, 5, and with an account 11; sending a queue tests 1, 2, 3, 4 before any
  * message is sent, then 5 and 11 of each message in its turn; reading tests 1, 2, 4, 3, then 6 over all coordinates, then 7, 8, 13,
- * and if it is strict 9; opening an account tests 14 alone. The first that holds is answered. (10 and 12 are refusals of a sheet.) */
+ * and if it is strict 9; reading noisy samples tests 1, 2, 4, 3, then 15 over all samples, then 16; opening an account tests 14 alone.
+ * The first that holds is answered. (10 and 12 are refusals of a sheet.) */
 enum coder_refusal {
-    CODER_REFUSED_KIND = 1,            /* the kind is not 3 to 6 */
+    CODER_REFUSED_KIND = 1,            /* the kind is not 3 to 6; noisy samples: not 3 to 5 */
     CODER_REFUSED_GRADE = 2,           /* the grade is not 1 to 4 */
     CODER_REFUSED_MESSAGE_LENGTH = 3,  /* the message bytes lent differ from the kind's and grade's; a queue: are no whole messages */
-    CODER_REFUSED_FRAME_LENGTH = 4,    /* the coordinates lent differ from the kind's; a queue: from the kind's times its messages */
+    CODER_REFUSED_FRAME_LENGTH = 4,    /* the coordinates or samples lent differ from the kind's; a queue: from so many a message */
     CODER_REFUSED_SPARE_BITS = 5,      /* sending: a spare bit of the message is set; a queue: of the first one not sent */
     CODER_REFUSED_OVER_RANGE = 6,      /* reading: a coordinate is outside -1048576 .. 1048576 */
     CODER_REFUSED_BROKEN_LEVEL_0 = 7,  /* reading: the coordinates' bits of weight 1 are not a codeword */
@@ -158,7 +180,9 @@ enum coder_refusal {
     CODER_REFUSED_UNSHAPED = 9,        /* strict reading: the frame is not the one that is sent for its message under the number */
     CODER_REFUSED_ACCOUNT_FULL = 11,   /* sending with an account: the count is 1,000,000 or more; a queue: has become so */
     CODER_REFUSED_BROKEN_LEVEL_2 = 13, /* reading, kind 6: the coordinates' bits of weight 4 are not a codeword */
-    CODER_REFUSED_CHANGEOVER = 14      /* opening an account: the changeover is above 1,000,000 */
+    CODER_REFUSED_CHANGEOVER = 14,     /* opening an account: the changeover is above 1,000,000 */
+    CODER_REFUSED_UNFIT_SAMPLE = 15,   /* noisy samples: one is no number, or no whole number of 256ths from -128 to 128 */
+    CODER_REFUSED_TOO_FAR = 16         /* noisy samples: no frame of the coding set is near */
 };
 
 /* The name of the refusal that an answer tells, in the words of the trade; "none" for an answer of 0 or more. */
@@ -179,6 +203,8 @@ CODER_INLINE const char *coder_refusal_name(int64_t answer)
     case CODER_REFUSED_ACCOUNT_FULL: return "account full";
     case CODER_REFUSED_BROKEN_LEVEL_2: return "broken level 2";
     case CODER_REFUSED_CHANGEOVER: return "changeover";
+    case CODER_REFUSED_UNFIT_SAMPLE: return "unfit sample";
+    case CODER_REFUSED_TOO_FAR: return "too far";
     default: return "not known";
     }
 }
@@ -195,6 +221,12 @@ int64_t coder_read_open(uint8_t kind, uint8_t grade, const int32_t *frame, size_
 /* The strict reading under a number: takes the frame alone that coder_send writes under it, and writes every byte of its message. */
 int64_t coder_read_strict(uint8_t kind, uint8_t grade, uint32_t number, const int32_t *frame, size_t frame_len, uint8_t *message,
                           size_t message_len);
+
+/* The near reading of noisy samples (kinds 3 to 5): finds the frame of the coding set whose squared distance from the samples is below
+ * CODER_NEAR_LIMIT(kind), writes every byte of its message, stores the squared distance to `distance`, and answers 0. Where there is
+ * none it answers -16. `distance` is stored to on success only. It takes no number, as the open reading takes none. */
+int64_t coder_read_near(uint8_t kind, uint8_t grade, const float *samples, size_t samples_len, uint8_t *message, size_t message_len,
+                        double *distance);
 
 /* Opens an account with a changeover: leaves 0, 0.0 and 0 in the count of frames, the sum of powers and `largest`, and the changeover
  * in `kept`, and answers 0. For a changeover above 1,000,000 it answers -14, and leaves zero in each of the four. */

@@ -1,6 +1,7 @@
 /* Measures the most stack that a call of each function uses: the call is made on a stack that was filled with one byte, and the
  * lowest place that differs afterwards is looked up. Random messages of every kind and grade, 4000 of each, under even and odd numbers
- * by turns, and with each two more behind it as a queue; x86-64 Linux.
+ * by turns, and with each two more behind it as a queue; and of kinds 3 to 5 noisy samples of the frame, near and too far; x86-64
+ * Linux.
  *
  *     cc -I crates/frame_coder tools/c/stack.c target/staticlib/libframe_coder.a -o target/stack && target/stack
  */
@@ -14,13 +15,15 @@
 enum { TURNS = 4000, ROOM = 65536, FILL = 0xA7, QUEUE = 3 };
 
 static const char *const names[] = {"coder_open", "coder_send", "coder_send_counted", "coder_send_queue", "coder_read_open",
-                                    "coder_read_strict"};
+                                    "coder_read_strict", "coder_read_near"};
 enum { FUNCTIONS = sizeof names / sizeof names[0] };
 
 static unsigned char stack[ROOM];
 static ucontext_t here, there;
 static uint8_t kind, grade, messages[QUEUE * CODER_MAX_MESSAGE_LENGTH];
 static int32_t frames[QUEUE * CODER_MAX_FRAME_LENGTH];
+static float samples[CODER_MAX_FRAME_LENGTH];
+static double distance;
 static uint32_t number;
 static size_t bytes, coordinates, sent;
 static int function;
@@ -44,7 +47,8 @@ static void call(void)
                                   &account.largest, account.changeover, &sent);
         break;
     case 4: answer = coder_read_open(kind, grade, frames, coordinates, messages, bytes); break;
-    default: answer = coder_read_strict(kind, grade, number, frames, coordinates, messages, bytes); break;
+    case 5: answer = coder_read_strict(kind, grade, number, frames, coordinates, messages, bytes); break;
+    default: answer = coder_read_near(kind, grade, samples, coordinates, messages, bytes, &distance); break;
     }
 }
 
@@ -80,8 +84,10 @@ int main(void)
                 number = (uint32_t)turn;
                 for (function = 0; function < FUNCTIONS; function++) {
                     account.count = number; /* its next frame has this number: the account was opened with 0 */
+                    for (size_t p = 0; p < coordinates; p++)
+                        samples[p] = (float)frames[p] + (float)(rand() % 193 - 96) / 256;
                     size_t now = used();
-                    if (answer < 0) {
+                    if (answer < 0 && (function < 6 || answer != (kind == 6 ? -CODER_REFUSED_KIND : -CODER_REFUSED_TOO_FAR))) {
                         printf("refused %" PRId64 " (%s)\n", -answer, coder_refusal_name(answer));
                         return 1;
                     }

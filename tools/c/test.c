@@ -1,12 +1,13 @@
 /* Tests what frame_coder.h, block.h and plain.h promise a C caller beyond the contracts: lengths by kind and grade, refusals and
  * their names, pointers that are not looked at where the length is 0, int arguments, the account as a struct; frames by hand under
  * even and odd numbers, and every frame judged under its own number and under others; accounts opened, and across their changeover;
- * and queues against sending one by one. Every buffer is on the heap with its exact length, so that valgrind sees a byte too far. It
- * ends with status 1 where something differs. */
+ * queues against sending one by one; and noisy samples, near and too far, unfit and refused in their order. Every buffer is on the
+ * heap with its exact length, so that valgrind sees a byte too far. It ends with status 1 where something differs. */
 #include <inttypes.h>
 #include <stdio.h>
 #include <stdlib.h>
 #include <string.h>
+#include <xmmintrin.h>
 #include "block.h"
 #include "plain.h"
 #include "frame_coder.h"
@@ -144,6 +145,18 @@ static void empty(int kind, int grade, void *nowhere)
     expect("strict, no frame", kind, grade, coder_read_strict(k, g, 0, gone, 0, message, bytes), no_frame);
     expect("strict, no message", kind, grade, coder_read_strict(k, g, 1, frame, coordinates, lost, 0), no_message);
     expect("strict, neither", kind, grade, coder_read_strict(k, g, UINT32_MAX, gone, 0, lost, 0), no_frame);
+    const int near_early = coordinates == 0 || kind == 6 ? -CODER_REFUSED_KIND : early != 0 ? -early : 0;
+    const int no_bytes = near_early != 0 ? near_early : -CODER_REFUSED_MESSAGE_LENGTH;
+    const int no_samples = near_early != 0 ? near_early : -CODER_REFUSED_FRAME_LENGTH;
+    float *samples = (float *)room(coordinates * sizeof *samples), *quiet = (float *)nowhere;
+    double *distance = (double *)room(sizeof *distance);
+    *distance = -1.5;
+    expect("near, no samples", kind, grade, coder_read_near(k, g, quiet, 0, message, bytes, distance), no_samples);
+    expect("near, no message", kind, grade, coder_read_near(k, g, samples, coordinates, lost, 0, distance), no_bytes);
+    expect("near, neither", kind, grade, coder_read_near(k, g, quiet, 0, lost, 0, distance), no_samples);
+    expect("near, distance", kind, grade, *distance == -1.5, 1);
+    free(samples);
+    free(distance);
     expect("counted, no message", kind, grade,
            coder_send_counted(k, g, lost, 0, frame, coordinates, &account.count, &account.sum, &account.largest, account.changeover),
            no_message);
@@ -479,6 +492,150 @@ static void queues(int kind, int grade)
     }
 }
 
+/* A near reading of a copy of the samples with its exact length, into a message and a distance that were set: the answer; on
+ * success this message and this distance, in 65536ths, and the same into ones that never were; else all bytes and bits as before. */
+static void near_reading(const char *what, int kind, int grade, const float *samples, size_t length, size_t bytes, int expected,
+                         const uint8_t *message, int parts)
+{
+    const uint8_t k = (uint8_t)kind, g = (uint8_t)grade;
+    const uint64_t mark = UINT64_C(0x7FF4000012345678);
+    float *lent = (float *)room(length * sizeof *lent);
+    uint8_t *back = (uint8_t *)room(bytes), *kept = (uint8_t *)room(bytes), *fresh = (uint8_t *)unset(bytes);
+    double *distance = (double *)room(sizeof *distance), *new_distance = (double *)unset(sizeof *new_distance);
+    const double exact = parts / 65536.0;
+    memcpy(lent, samples, length * sizeof *lent);
+    memset(back, 0xA5, bytes);
+    memset(kept, 0xA5, bytes);
+    memcpy(distance, &mark, sizeof mark);
+    expect(what, kind, grade, coder_read_near(k, g, lent, length, back, bytes, distance), expected);
+    expect("near, message", kind, grade, memcmp(back, expected == 0 ? message : kept, bytes), 0);
+    expect("near, distance", kind, grade, memcmp(distance, expected == 0 ? (const void *)&exact : &mark, sizeof mark), 0);
+    expect("near, samples kept", kind, grade, memcmp(lent, samples, length * sizeof *lent), 0);
+    expect("near, fresh", kind, grade, coder_read_near(k, g, lent, length, fresh, bytes, new_distance), expected);
+    if (expected == 0) {
+        expect("near, fresh message", kind, grade, memcmp(fresh, message, bytes), 0);
+        expect("near, fresh distance", kind, grade, memcmp(new_distance, &exact, sizeof exact), 0);
+    }
+    free(lent);
+    free(back);
+    free(kept);
+    free(fresh);
+    free(distance);
+    free(new_distance);
+}
+
+/* A frame with noise, in 256ths, at as many places as it is given for, from one on: near, at the squared distance of the noise, where
+ * that is below the limit. */
+static void noisy(int kind, int grade, const uint8_t *message, const int32_t *frame, size_t place, const int *noise, size_t places)
+{
+    const size_t n = coder_frame_length(kind);
+    const int limit = 65536 * CODER_NEAR_LIMIT(kind);
+    float samples[CODER_MAX_FRAME_LENGTH];
+    int parts = 0;
+    for (size_t p = 0; p < n; p++) {
+        const size_t i = (p + n - place) % n;
+        const int off = i < places ? noise[i] : 0;
+        samples[p] = (float)(256 * frame[p] + off) / 256;
+        parts += off * off;
+    }
+    near_reading("noisy", kind, grade, samples, n, coder_message_length(kind, grade), parts < limit ? 0 : -CODER_REFUSED_TOO_FAR,
+                 message, parts);
+}
+
+/* A message sent, and read from samples of its frame: with no noise; with as much as is near at one place, and at each alike; with
+ * noise that is on the limit, half way to another frame; and with more at each place alike, where no other frame is near. */
+static void near_and_far(int kind, int grade)
+{
+    static const int most[] = {255, 362, 511}, on_limit[][4] = {{256, 0, 0, 0}, {256, -256, 0, 0}, {-256, 256, 256, 256}};
+    static const int alike[] = {1, 60, 90, 91, 100, 128}; /* 90 is near, and 91 is not */
+    const uint8_t k = (uint8_t)kind, g = (uint8_t)grade;
+    const size_t bytes = coder_message_length(kind, grade), n = coder_frame_length(kind), place = (size_t)rand() % n;
+    uint8_t *message = (uint8_t *)room(bytes);
+    int32_t *frame = (int32_t *)unset(n * sizeof *frame);
+    int noise[CODER_MAX_FRAME_LENGTH];
+    fill_one(kind, grade, message);
+    expect("near, sent", kind, grade, coder_send(k, g, (uint32_t)rand(), message, bytes, frame, n) >= 0, 1);
+    noisy(kind, grade, message, frame, 0, noise, 0);
+    noise[0] = rand() % 2 ? most[kind - 3] : -most[kind - 3];
+    noisy(kind, grade, message, frame, place, noise, 1);
+    for (size_t i = 0; i < sizeof alike / sizeof alike[0]; i++) {
+        for (size_t p = 0; p < n; p++)
+            noise[p] = rand() % 2 ? alike[i] : -alike[i];
+        noisy(kind, grade, message, frame, place, noise, n);
+    }
+    for (size_t p = 0; p < n; p++)
+        noise[p] = rand() % 181 - 90;
+    noisy(kind, grade, message, frame, place, noise, n);
+    noisy(kind, grade, message, frame, place, on_limit[kind - 3], 4);
+    free(message);
+    free(frame);
+}
+
+/* One sample that is fit, or is not, among zeros, of either sign: 15, but not after a refusal by a length. */
+static void fit_or_not(int kind, int grade)
+{
+    const size_t bytes = coder_message_length(kind, grade), n = coder_frame_length(kind);
+    const uint32_t nan = UINT32_C(0x7FC00000), infinite = UINT32_C(0x7F800000), above = UINT32_C(0x43000001), least = 1;
+    float samples[CODER_MAX_FRAME_LENGTH + 1] = {0}, odd[8];
+    memcpy(&odd[0], &nan, sizeof nan);
+    memcpy(&odd[1], &infinite, sizeof infinite);
+    memcpy(&odd[2], &above, sizeof above); /* the next above 128 */
+    memcpy(&odd[3], &least, sizeof least); /* subnormal */
+    odd[4] = 128.0f + 1.0f / 256;
+    odd[5] = 1.0f / 512;
+    odd[6] = 1.0f / 256 + 1.0f / 4194304;
+    odd[7] = 3.4e38f;
+    const float even[] = {0.0f, 1.0f / 256, 128.0f};
+    uint8_t *zeros = (uint8_t *)room(bytes);
+    for (size_t i = 0; i < 16; i++)
+        for (size_t p = 0; p < n; p += i % 2 == 0 ? 1 : n - 1) {
+            samples[p] = i % 2 == 0 ? odd[i / 2] : -odd[i / 2];
+            near_reading("unfit", kind, grade, samples, n, bytes, -CODER_REFUSED_UNFIT_SAMPLE, NULL, 0);
+            near_reading("unfit, bytes", kind, grade, samples, n, bytes + 1, -CODER_REFUSED_MESSAGE_LENGTH, NULL, 0);
+            near_reading("unfit, bytes", kind, grade, samples, n, bytes - 1, -CODER_REFUSED_MESSAGE_LENGTH, NULL, 0);
+            near_reading("unfit, samples", kind, grade, samples, n - 1, bytes + 1, -CODER_REFUSED_FRAME_LENGTH, NULL, 0);
+            near_reading("unfit, samples", kind, grade, samples, n + 1, bytes, -CODER_REFUSED_FRAME_LENGTH, NULL, 0);
+            near_reading("unfit, grade", kind, 5, samples, n - 1, bytes + 1, -CODER_REFUSED_GRADE, NULL, 0);
+            near_reading("unfit, kind", 6, 5, samples, n - 1, bytes + 1, -CODER_REFUSED_KIND, NULL, 0);
+            near_reading("unfit, kind", 2, grade, samples, n, bytes, -CODER_REFUSED_KIND, NULL, 0);
+            samples[p] = 0;
+        }
+    for (size_t i = 0; i < sizeof even / sizeof even[0]; i++) {
+        /* 128 is a coordinate of the coding set that stands for 0 at these grades: the sample alone is at distance 0 */
+        const int parts = i == 1 ? 1 : 0;
+        samples[3] = even[i];
+        near_reading("fit", kind, grade, samples, n, bytes, 0, zeros, parts);
+        samples[3] = -even[i];
+        near_reading("fit", kind, grade, samples, n, bytes, 0, zeros, parts);
+        samples[3] = 0;
+    }
+    free(zeros);
+}
+
+/* By hand, at grade 1: samples, and the message that is near with its distance in 65536ths; at kind 6, which has no near reading, 1. */
+static void near_by_hand(void)
+{
+    static const uint8_t two[2] = {0x02, 0x00}, eight[2] = {0x00, 0x08}, ones[5] = {0x01}, none[8] = {0x00};
+    const float quiet[8] = {0.0f, 1.25f, 0.0f, 0.5f, -0.25f, 1.0f, -0.0f, 1.0f};
+    near_reading("by hand", 3, 1, quiet, 8, 2, 0, two, 24576);
+    const float near_four[8] = {3.5f, 0.5f, 0.25f, 0.0f, 0.0f, 0.0f, -0.25f, 0.0f};
+    near_reading("by hand", 3, 1, near_four, 8, 2, 0, eight, 40960);
+    const float middle[8] = {0.5f, 0.5f, 0.5f, 0.5f, 0.5f, 0.5f, 0.5f, 0.5f};
+    near_reading("by hand", 3, 1, middle, 8, 2, -CODER_REFUSED_TOO_FAR, NULL, 0);
+    float many[CODER_MAX_FRAME_LENGTH];
+    for (size_t p = 0; p < 16; p++)
+        many[p] = p == 5 ? 2.25f : 1.0f; /* 1 is farther than 3 at this place, but 3 at one alone is no codeword */
+    near_reading("by hand", 4, 1, many, 16, 5, 0, ones, 102400);
+    for (size_t p = 0; p < 32; p++)
+        many[p] = p == 7 || p == 20 || p == 31 ? 1.125f : 0.0f; /* 2 would be nearer at each */
+    near_reading("by hand", 5, 1, many, 32, 8, 0, none, 3 * 82944);
+    memset(many, 0, sizeof many);
+    for (int grade = 0; grade <= 5; grade++)
+        near_reading("kind 6", 6, grade, many, 64, CODER_MESSAGE_LENGTH(6, 1), -CODER_REFUSED_KIND, NULL, 0);
+    for (int kind = 0; kind < 256; kind++)
+        expect("near limit", kind, 0, CODER_NEAR_LIMIT(kind), kind == 3 ? 1 : kind == 4 ? 2 : kind == 5 ? 4 : 0);
+}
+
 int main(void)
 {
     static const struct {
@@ -495,8 +652,8 @@ int main(void)
 
     static const char *const names[] = {"none", "kind", "grade", "message length", "frame length", "spare bits", "over range",
                                         "broken level 0", "broken level 1", "unshaped", "not known", "account full", "not known",
-                                        "broken level 2", "changeover", "not known"};
-    for (int number = 0; number <= 15; number++)
+                                        "broken level 2", "changeover", "unfit sample", "too far", "not known"};
+    for (int number = 0; number <= 17; number++)
         expect("name", 0, number, strcmp(coder_refusal_name(-number), names[number]), 0);
 
     void *const nowhere[] = {NULL, (void *)1, (void *)UINTPTR_MAX};
@@ -522,6 +679,18 @@ int main(void)
         for (int grade = 1; grade <= 4; grade++) {
             across(kind, grade);
             queues(kind, grade);
+        }
+    /* the four modes of rounding, of which the first is the usual one */
+    for (unsigned mode = 4; mode-- > 0;) {
+        _mm_setcsr((_mm_getcsr() & ~(unsigned)_MM_ROUND_MASK) | mode << 13);
+        near_by_hand();
+        fit_or_not(4, 1);
+    }
+    for (int kind = 3; kind <= 5; kind++)
+        for (int grade = 1; grade <= 4; grade++) {
+            fit_or_not(kind, grade);
+            for (int turn = 0; turn < 100; turn++)
+                near_and_far(kind, grade);
         }
     printf("%lu tests, %lu wrong\n", calls, wrong);
     return wrong != 0;

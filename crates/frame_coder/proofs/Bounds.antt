@@ -8,7 +8,8 @@ use mathlib.Core.List.{List}
 use native.Mathlib.Omega.{arith}
 use lib.Dec.{eqb}
 use lib.IntN.{ℤ, pos, negℤ}
-use borrow.Author.Tests.{eqb-true}
+use lib.Ieee.{Float}
+use borrow.Author.Tests.{eqb-true, eq-eqb, ne-eqb}
 use Rattle.e8.specs.Energy.{energy}
 use Rattle.frames.specs.Frame.{numberedFrame}
 use Rattle.frames.specs.Sending.{sendRefusal, energySent}
@@ -21,7 +22,10 @@ use Rattle.frames.proofs.Reading.{strict-passed}
 use Rattle.account.specs.declared.Account.{Account}
 use Rattle.account.specs.Counted.{numberFor, countedRefusal}
 use Rattle.account.proofs.Answers.{passed}
-use Rattle.frame_coder.specs.Answer.{answerOf, sendAnswer, openAnswer, strictAnswer, accountOf, countedAnswer}
+use Rattle.near.specs.declared.NearReading.{NearReading}
+use Rattle.near.specs.declared.NearReading.the-variants.{Near, Far, Refused}
+use Rattle.near.specs.Answer.{nearNumber, nearDistance, nearAnswer}
+use Rattle.frame_coder.specs.Answer.{answerOf, sendAnswer, openAnswer, strictAnswer, accountOf, countedAnswer, nearCode, nearHeld}
 
 -- the energy that stands with a refusal number says nothing
 answer-is : (number e : ℕ) → answerOf number (cond (eqb number 0) e 0) ≡ answerOf number e
@@ -85,3 +89,32 @@ module _ (k b : ℕ) (bytes : List ℕ) (n : ℕ) (a : Account) (refusal : ℕ) 
 -- an account of a changeover, from its three other numbers
 pub account-of : (a : Account) (changeover : ℕ) → a .changeover ≡ changeover → accountOf (a .count) (a .sum) (a .largest) changeover ≡ a
 account-of a changeover e = ap (accountOf (a .count) (a .sum) (a .largest)) (sym e)
+
+-- 1 for a refusal, 0 for another answer of the near reading
+is-refused : NearReading → ℕ
+is-refused (Near d) = 0
+is-refused Far = 0
+is-refused (Refused m) = 1
+
+-- ---- the near reading: its answer, and the distance that is held, by the number
+
+module _ (k b : ℕ) (xs : List Float) (n : ℕ) where
+  pub near-code : (number : ℕ) → number ≡ nearNumber k b xs n → answerOf number 0 ≡ nearCode k b xs n
+  unfolding nearCode
+  near-code number e = ap (λ (m : ℕ). answerOf m 0) e
+
+  pub near-stored : (lent : Float) → nearNumber k b xs n ≡ 0 → nearDistance k b xs n ≡ nearHeld k b xs n lent
+  unfolding nearHeld
+  near-stored lent e = sym (ap (λ (t : Bool). cond t (nearDistance k b xs n) lent) (eq-eqb (nearNumber k b xs n) 0 e))
+
+  pub near-left : (lent : Float) → (nearNumber k b xs n ≡ 0 → ⊥) → lent ≡ nearHeld k b xs n lent
+  unfolding nearHeld
+  near-left lent h = sym (ap (λ (t : Bool). cond t (nearDistance k b xs n) lent) (ne-eqb (nearNumber k b xs n) 0 h))
+
+  -- a refusal has another number than 0
+  pub refused-number : (m : ℕ) → Refused m ≡ nearAnswer k b xs n → nearNumber k b xs n ≡ 0 → ⊥
+  unfolding nearAnswer is-refused
+  refused-number m e z =
+      let at-0 : nearAnswer k b xs n ≡ Near (nearDistance k b xs n) = rw (eq-eqb (nearNumber k b xs n) 0 z) in
+      let o : _≡_ {A = ℕ} 1 0 = ap is-refused (e ∙ at-0) in
+      omega (arith, o)

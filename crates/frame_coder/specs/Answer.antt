@@ -14,6 +14,7 @@ use Rattle.account.specs.declared.Account.{Account}
 use Rattle.account.specs.Opening.{openingRefusal}
 use Rattle.account.specs.Counted.{numberFor, countedRefusal, countedAccount}
 use Rattle.queue.specs.Queue.{queueOutcome}
+use Rattle.near.specs.Answer.{nearNumber, nearDistance}
 
 -- the energy, or minus the refusal number
 unfoldable pub answerOf : ℕ → ℕ → ℤ
@@ -77,3 +78,15 @@ countedHeld k b bytes n a = countedAccount (countedRefusal k b bytes n a) k b by
 unfoldable pub queueAnswer : ℕ → ℕ → List ℕ → ℕ → Account → ℤ
 unfolding answerOf
 queueAnswer k b bytes n a = answerOf (queueOutcome k b bytes n a .number) 0
+
+-- ---- the near reading of samples; nearMessage of near says the rest
+
+-- 0, or minus the number; n message bytes are lent
+unfoldable pub nearCode : ℕ → ℕ → List Float → ℕ → ℤ
+unfolding answerOf
+nearCode k b xs n = answerOf (nearNumber k b xs n) 0
+
+-- the f64 that is lent afterwards: the squared distance, or as it was where the number is another than 0
+unfoldable pub nearHeld : ℕ → ℕ → List Float → ℕ → Float → Float
+unfolding nearNumber nearDistance
+nearHeld k b xs n lent = cond (eqb (nearNumber k b xs n) 0) (nearDistance k b xs n) lent

@@ -5,7 +5,9 @@ ghost use lib.ListN.{length};
 ghost use Rattle.frame_coder.specs.Answer.{answerOf, sendAnswer, sendFrame, openAnswer, openBytes, strictAnswer, strictBytes};
 ghost use Rattle.frame_coder.specs.Answer.{accountOf, openingAnswer, countedAnswer, countedFrame, countedHeld, queueAnswer};
 ghost use Rattle.account.specs.Opening.{openedWith};
+ghost use Rattle.frame_coder.specs.Answer.{nearCode, nearHeld};
 ghost use Rattle.queue.specs.Queue.{queueOutcome, queueFrames};
+ghost use Rattle.near.specs.Answer.{nearMessage};
 
 // The energy, or minus the refusal number.
 pub fn answer(number: u8, energy: u64) -> i64
@@ -157,4 +159,28 @@ pub extern "C" fn coder_send_queue(
     *largest = grown.largest;
     *sent = r.sent;
     answer(r.number, 0)
+}
+
+// The near reading of samples: 0, or minus the number. The squared distance goes to `distance`, stored to on success only.
+#[no_mangle]
+pub extern "C" fn coder_read_near(
+    kind: u8,
+    grade: u8,
+    samples: &[f32],
+    message: &mut [u8],
+    distance: &mut f64,
+) -> i64
+    ensures answer { λ r. ⌜ r ≡ nearCode kind grade (now (samples .entry)) (length (now (message .entry))) ⌝ }
+    ensures message { λ r. ⌜ now (message .exit) ≡ nearMessage kind grade (now (samples .entry)) (now (message .entry)) ⌝ }
+    ensures distance { λ r. ⌜ now (distance .exit) ≡ nearHeld kind grade (now (samples .entry)) (length (now (message .entry))) (now (distance .entry)) ⌝ }
+{
+    let r = near::read_near(kind, grade, samples, message);
+    match r {
+        near::NearReading::Near(d) => {
+            *distance = d;
+            answer(0, 0)
+        }
+        near::NearReading::Far => answer(16, 0),
+        near::NearReading::Refused(number) => answer(number, 0),
+    }
 }
