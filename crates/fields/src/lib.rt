@@ -65,6 +65,31 @@ pub fn count(bytes: &[u8]) -> u32 {
     low_half(number(bytes))
 }
 
+// The samples that the bytes hold, by their bits of 4 bytes each, as many as there are and have room.
+pub fn samples(bytes: &[u8], out: &mut [f32]) {
+    let mut a: usize = 0;
+    let mut p: usize = 0;
+    while p < out.len() {
+        if bytes.len() - a < 4 {
+            return;
+        }
+        let e = a + 4;
+        out[p] = float::of_short_bits(count(&bytes[a..e]));
+        a = e;
+        p += 1;
+    }
+}
+
+// The f64 whose bits 8 bytes hold.
+pub fn float_in(bytes: &[u8]) -> f64 {
+    float::of_bits(number(bytes))
+}
+
+// Whether two f64 have the same bits.
+pub fn same_float(a: f64, b: f64) -> bool {
+    float::bits_of(a) == float::bits_of(b)
+}
+
 // The account that 24 bytes hold: its count of 4 bytes, the bits of its sum, its largest block, and its changeover of 4 bytes.
 pub fn account_in(bytes: &[u8]) -> Account {
     if bytes.len() < 24 {
@@ -77,7 +102,7 @@ pub fn account_in(bytes: &[u8]) -> Account {
     }
     Account {
         count: count(&bytes[0..4]),
-        sum: float::of_bits(number(&bytes[4..12])),
+        sum: float_in(&bytes[4..12]),
         largest: number(&bytes[12..20]),
         changeover: count(&bytes[20..24]),
     }
@@ -94,7 +119,7 @@ pub fn same_account(a: Account, b: Account) -> bool {
     if a.changeover != b.changeover {
         return false;
     }
-    float::bits_of(a.sum) == float::bits_of(b.sum)
+    same_float(a.sum, b.sum)
 }
 
 // Fills the first n bytes, where there is room for them, and answers whether the file has as many.

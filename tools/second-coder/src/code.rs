@@ -32,6 +32,13 @@ pub fn message_bits(word: &[bool], r: u32, m: u32) -> Option<Vec<bool>> {
     (codeword(&bits, r, m) == word).then_some(bits)
 }
 
+/// For each mask with more than r bits set, the positions that lie in it, as bits of a number. A word that is held so is in the
+/// code when it has an even number of its values in each.
+pub fn checks(r: u32, m: u32) -> Vec<u64> {
+    let high = order(m).into_iter().filter(|mask| mask.count_ones() > r);
+    high.map(|mask| (0..1 << m).filter(|p| p & mask == *p).map(|p| 1 << p).sum()).collect()
+}
+
 #[cfg(test)]
 mod tests {
     use super::*;
@@ -73,11 +80,11 @@ mod tests {
     fn membership_by_high_masks() {
         for m in 3..=4u32 {
             for r in 1..m {
+                let checks = checks(r, m);
                 for number in 0..1u32 << (1 << m) {
                     let word: Vec<bool> = (0..1 << m).map(|p| number >> p & 1 == 1).collect();
-                    let high = order(m).into_iter().filter(|mask| mask.count_ones() > r);
-                    let mut bits = high.map(|mask| (0..word.len()).filter(|&p| p & mask == p && word[p]).count() % 2);
-                    assert_eq!(bits.all(|bit| bit == 0), message_bits(&word, r, m).is_some());
+                    let even = |check: &u64| (number as u64 & check).count_ones().is_multiple_of(2);
+                    assert_eq!(checks.iter().all(even), message_bits(&word, r, m).is_some());
                     if m == 4 && number > 4096 {
                         break;
                     }

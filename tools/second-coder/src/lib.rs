@@ -2,13 +2,16 @@
 //!
 //! It is slow and plain on purpose: codewords come from the definition by masks, and the sent
 //! frame from a search of the leader's class that keeps every member of least energy. Of these an
-//! even number sends the first in reading order, and an odd one the last.
+//! even number sends the first in reading order, and an odd one the last. The near reading takes
+//! its frame from a list of all whole frames within reach of the samples.
 
 pub mod account;
 pub mod calls;
 pub mod class;
 pub mod code;
 pub mod frame;
+pub mod near;
+pub mod noisy;
 pub mod queues;
 pub mod random;
 pub mod sheet;
@@ -30,4 +33,6 @@ pub mod refusal {
     pub const LONG_SHEET: u8 = 12;
     pub const BROKEN_LEVEL_2: u8 = 13;
     pub const CHANGEOVER: u8 = 14;
+    pub const UNFIT_SAMPLE: u8 = 15;
+    pub const TOO_FAR: u8 = 16;
 }

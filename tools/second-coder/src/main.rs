@@ -4,7 +4,7 @@ use std::io::{Read, Write};
 use std::path::{Path, PathBuf};
 use std::process::{Command, ExitCode, Stdio};
 
-use second_coder::{calls, queues, random::Random, sheet, vectors};
+use second_coder::{calls, noisy, queues, random::Random, sheet, vectors};
 
 /// Where a file for a crate stands: beside the program that holds the library to it.
 fn crates(name: &str) -> PathBuf {
@@ -78,6 +78,11 @@ fn write_files() -> std::io::Result<()> {
     let (count, one_by_one) = (numbers.iter().sum::<usize>(), numbers[0] + numbers[5] + numbers[11]);
     let printed = format!("in one call {count}\nexported {count}\none by one {one_by_one}\ndifferent 0\n");
     std::fs::write(crates("queues/stdout"), printed)?;
+    let (noisy, noisy::Counts { sorts, numbers }) = noisy::noisy_file();
+    std::fs::write(crates("noisy/data/noisy.bin"), &noisy)?;
+    println!("noisy.bin: {sorts:?}, {numbers:?} answered by each number, {} bytes", noisy.len());
+    let count: usize = numbers.iter().sum();
+    std::fs::write(crates("noisy/stdout"), format!("library {count}\nexported {count}\ndifferent 0\n"))?;
     let sheet = vectors::program_sheet();
     let listing = sheet::listing(&sheet);
     std::fs::write(crates("sheet/stdin"), &sheet)?;
