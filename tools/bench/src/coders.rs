@@ -1,10 +1,10 @@
 //! The coders that are compared, with one form of call: each fills what it is lent and gives the
 //! energy, or gives the number of a refusal and leaves what it is lent as it was. Of a queue each gives
-//! how many are sent, and the number of the refusal, 0 where all are.
+//! how many are sent, and the number of the refusal, 0 where all are. A near reading gives 0 for the energy.
 
 use bench::{exported, hand};
 use frame_coder::{by_number, Account, Refusal};
-use second_coder::{account, frame};
+use second_coder::{account, frame, near};
 
 pub use bench::exported::Figures;
 
@@ -15,6 +15,7 @@ type Counting = fn(u8, u8, &[u8], &mut [i32], &mut Figures) -> Answer;
 type Queueing = fn(u8, u8, &[u8], &mut [i32], &mut Figures) -> (usize, u8);
 type Reading = fn(u8, u8, &[i32], &mut [u8]) -> Answer;
 type Judging = fn(u8, u8, u32, &[i32], &mut [u8]) -> Answer;
+type Nearing = fn(u8, u8, &[f32], &mut [u8], &mut f64) -> Answer;
 
 pub struct Coder {
     pub name: &'static str,
@@ -24,6 +25,7 @@ pub struct Coder {
     pub send_queue: Queueing,
     pub read_open: Reading,
     pub read_strict: Judging,
+    pub read_near: Nearing,
 }
 
 /// The library, the hand-tuned coder and the second coder.
@@ -34,10 +36,7 @@ pub const CODERS: [Coder; 3] = [
             by_number::send(kind, grade, number, message, frame).map_err(Refusal::number)
         },
         // The exported function, which leaves an account also where it refuses.
-        open: |changeover, figures| match exported::open(changeover, figures) {
-            answer @ 0.. => Ok(answer as u64),
-            answer => Err(-answer as u8),
-        },
+        open: |changeover, figures| answered(exported::open(changeover, figures)),
         send_counted: |kind, grade, message, frame, figures| {
             let mut account = Account::from_parts(figures.0, figures.1, figures.2, figures.3);
             let answer = by_number::send_counted(kind, grade, message, frame, &mut account);
@@ -55,6 +54,10 @@ pub const CODERS: [Coder; 3] = [
         },
         read_strict: |kind, grade, number, frame, message| {
             by_number::read_strict(kind, grade, number, frame, message).map_err(Refusal::number)
+        },
+        // The exported function, whose distance is to be left where it refuses.
+        read_near: |kind, grade, samples, message, distance| {
+            answered(exported::read_near(kind, grade, samples, message, distance))
         },
     },
     Coder {
@@ -79,6 +82,10 @@ pub const CODERS: [Coder; 3] = [
         },
         read_open: hand::read_open,
         read_strict: hand::read_strict,
+        read_near: |kind, grade, samples, message, distance| {
+            *distance = hand::read_near(kind, grade, samples, message)?;
+            Ok(0)
+        },
     },
     Coder {
         name: "second coder",
@@ -115,8 +122,22 @@ pub const CODERS: [Coder; 3] = [
             message.copy_from_slice(&read);
             Ok(energy)
         },
+        read_near: |kind, grade, samples, message, distance| {
+            let read = near::read_near(kind, grade, samples, message.len())?;
+            message.copy_from_slice(&read.message);
+            *distance = read.distance;
+            Ok(0)
+        },
     },
 ];
+
+/// What the archive answers.
+fn answered(answer: i64) -> Answer {
+    match answer {
+        0.. => Ok(answer as u64),
+        _ => Err(-answer as u8),
+    }
+}
 
 /// What an opening answers.
 fn opened(number: u8) -> Answer {

@@ -5,7 +5,7 @@ use std::ops::RangeInclusive;
 use std::sync::atomic::{AtomicU64, Ordering};
 
 use crate::coders::{Coder, Figures, CODERS};
-use crate::{dense, lengths, levels};
+use crate::{dense, lengths, levels, noise};
 use bench::random::Random;
 use bench::{exported, hand};
 use frame_coder::Refusal;
@@ -18,11 +18,12 @@ pub struct Plan {
     pub all: bool,
 }
 
-/// The comparisons made, by answer (0 for success; for a block alone, refused and shaped), those of
+/// The comparisons made, by answer (0 for success; for a block alone, refused and shaped), those of near readings and of
 /// queues among them and the messages sent in these, those of sending both ways, and those that differ.
 struct Tally {
     coders: &'static [Coder],
-    answers: [u64; 15],
+    answers: [u64; 17],
+    near: u64,
     queues: u64,
     queued: u64,
     blocks: [u64; 2],
@@ -61,6 +62,7 @@ impl Tally {
     fn add(&mut self, other: &Tally) {
         self.answers.iter_mut().zip(other.answers).for_each(|(sum, count)| *sum += count);
         self.blocks.iter_mut().zip(other.blocks).for_each(|(sum, count)| *sum += count);
+        self.near += other.near;
         self.queues += other.queues;
         self.queued += other.queued;
         self.ways += other.ways;
@@ -234,6 +236,69 @@ fn readings(kind: u8, grade: u8, numbers: &[u32], frame: &[i32], bytes: usize, t
     }
 }
 
+/// Noisy samples of a frame, or of one that is moved at a place or two by 4, which keeps the levels: none, inside the limit, about it,
+/// outside it, mostly at a few places; or each sample half way between two numbers, or at random.
+fn noisy(kind: u8, frame: &[i32], random: &mut Random) -> Vec<f32> {
+    let (length, limit) = (frame.len(), noise::limit(kind.min(5)));
+    let mut frame = frame.to_vec();
+    for _ in 0..random.below(3) {
+        frame[random.below(length as u64) as usize] += 4 * (random.below(31) as i32 - 15);
+    }
+    // At 1, 4 or 16 places the limit itself is met too, and at 2 and 8 at kind 4: the size is then a whole number of 256ths.
+    let part = [0.0, 0.25, 0.7, 0.97, 1.0, 1.0, 1.03, 4.0][random.below(8) as usize];
+    let noise = match random.below(8) {
+        0..=2 => noise::spread(length, part * limit, random),
+        3..=5 => {
+            let places = 1 << random.below(5).min(kind as u64);
+            let small = [0.0, 0.0, 0.05, 0.1][random.below(4) as usize];
+            noise::at_places(length, places, part * limit, small, random)
+        }
+        6 => noise::at_places(length, 0, 0.0, [0.25, 0.5, 0.75][random.below(3) as usize], random),
+        _ => (0..length).map(|_| random.below(1 << 16) as f64 / 256.0 - 128.0).collect(),
+    };
+    noise::samples(&frame, &noise).iter().map(|x| x.clamp(-128.0, 128.0)).collect()
+}
+
+/// A sample that is unfit, or fit for all that it looks like.
+fn strange(random: &mut Random) -> f32 {
+    let part = 1.0 / 256.0;
+    let size = match random.below(12) {
+        0 => f32::NAN,
+        1 => f32::INFINITY,
+        2 => 0.0,
+        3 => 128.0,
+        4 => 128.0f32.next_up(),
+        5 => 128.0 + part,
+        6 => part / 2.0,
+        7 => part.next_up(),
+        8 => f32::from_bits(1),
+        9 => f32::MAX,
+        10 => f32::from_bits(random.word() as u32),
+        _ => random.below(1 << 17) as f32 / 512.0,
+    };
+    [-1.0, 1.0][random.below(2) as usize] * size
+}
+
+/// Samples read, with a message of so many bytes lent.
+fn near_reading(kind: u8, grade: u8, samples: &[f32], bytes: usize, tally: &mut Tally) {
+    tally.near += 1;
+    tally.ask("read_near", &(kind, grade, samples, bytes), |coder| {
+        let (mut message, mut distance) = (vec![0xA5; bytes], -1.5);
+        let answer = (coder.read_near)(kind, grade, samples, &mut message, &mut distance);
+        (answer, (message, distance.to_bits()))
+    });
+}
+
+/// Noisy samples of a frame read, and at times with a strange one among them.
+fn near_readings(kind: u8, grade: u8, frame: &[i32], bytes: usize, random: &mut Random, tally: &mut Tally) {
+    let mut samples = noisy(kind, frame, random);
+    near_reading(kind, grade, &samples, bytes, tally);
+    if random.below(8) == 0 {
+        samples[random.below(frame.len() as u64) as usize] = strange(random);
+        near_reading(kind, grade, &samples, bytes, tally);
+    }
+}
+
 /// Wrong kinds, grades and lengths, with something in every buffer.
 fn misfits(random: &mut Random, tally: &mut Tally) {
     let (kind, grade) = match random.below(3) {
@@ -249,6 +314,11 @@ fn misfits(random: &mut Random, tally: &mut Tally) {
     sendings(kind, grade, number, &message, length, random, tally);
     let frame: Vec<i32> = (0..length).map(|_| random.below(9) as i32 - 4).collect();
     readings(kind, grade, &[number], &frame, bytes, tally);
+    let mut samples: Vec<f32> = frame.iter().map(|&x| x as f32).collect();
+    if length > 0 && random.below(4) == 0 {
+        samples[random.below(length as u64) as usize] = strange(random);
+    }
+    near_reading(kind, grade, &samples, bytes, tally);
 }
 
 /// Eight coordinates, up to the scale in size or up to all that is shaped, in steps of 1, or of a
@@ -353,8 +423,8 @@ fn queue(plan: &Plan, random: &mut Random, tally: &mut Tally) {
     tally.queued += sent as u64;
 }
 
-/// One message, its frame under a number, judged by it and by the other rule, and the frame damaged in three ways; at times
-/// calls that do not fit, an account opened, and a queue.
+/// One message, its frame under a number, judged by it and by the other rule, the frame damaged in three ways, and noisy samples
+/// of it; at times an unfit sample, calls that do not fit, an account opened, and a queue.
 fn frame(plan: &Plan, random: &mut Random, tally: &mut Tally) {
     let (kind, grade) = format(plan, random);
     let (length, bytes) = lengths(kind, grade);
@@ -365,6 +435,10 @@ fn frame(plan: &Plan, random: &mut Random, tally: &mut Tally) {
         readings(kind, grade, &[number, number ^ 1], &frame, bytes, tally);
         for _ in 0..3 {
             readings(kind, grade, &[number], &damaged(kind, grade, &frame, random), bytes, tally);
+        }
+        // Kind 6 is refused, and at kind 5 the second coder takes milliseconds.
+        if kind < 5 || kind == 5 && !plan.all || random.below(16) == 0 {
+            near_readings(kind, grade, &frame, bytes, random, tally);
         }
     }
     if random.below(8) == 0 {
@@ -403,7 +477,7 @@ fn take_parts(plan: &Plan, next: &AtomicU64, tally: &mut Tally) {
 pub fn run(plan: &Plan) -> u64 {
     let tally = || {
         let coders = if plan.all { &CODERS[..] } else { &CODERS[..2] };
-        Tally { coders, answers: [0; 15], queues: 0, queued: 0, blocks: [0; 2], ways: 0, different: 0 }
+        Tally { coders, answers: [0; 17], near: 0, queues: 0, queued: 0, blocks: [0; 2], ways: 0, different: 0 }
     };
     let next = AtomicU64::new(0);
     let mut sum = tally();
@@ -426,6 +500,7 @@ pub fn run(plan: &Plan) -> u64 {
             (_, Err(unknown)) => println!("{unknown}: {count}"),
         }
     }
+    println!("near readings: {}", sum.near);
     println!("queues: {}, with {} messages sent", sum.queues, sum.queued);
     let [refused, shaped] = sum.blocks;
     if !plan.all {

@@ -23,6 +23,15 @@ mod archive {
             message: *mut u8,
             bytes: usize,
         ) -> i64;
+        pub fn coder_read_near(
+            k: u8,
+            b: u8,
+            samples: *const f32,
+            length: usize,
+            message: *mut u8,
+            bytes: usize,
+            distance: *mut f64,
+        ) -> i64;
         pub fn coder_open(changeover: u32, count: *mut u32, sum: *mut f64, largest: *mut u64, kept: *mut u32) -> i64;
         pub fn coder_send_counted(
             k: u8,
@@ -132,6 +141,14 @@ pub fn read_strict(kind: u8, grade: u8, number: u32, frame: &[i32], message: &mu
     let (frame, length, message, bytes) = (frame.as_ptr(), frame.len(), message.as_mut_ptr(), message.len());
     // SAFETY: as in `read_open`.
     unsafe { archive::coder_read_strict(kind, grade, number, frame, length, message, bytes) }
+}
+
+/// Reads samples: 0, or minus the number; the squared distance goes to `distance`.
+#[inline(always)]
+pub fn read_near(kind: u8, grade: u8, samples: &[f32], message: &mut [u8], distance: &mut f64) -> i64 {
+    let (samples, length, message, bytes) = (samples.as_ptr(), samples.len(), message.as_mut_ptr(), message.len());
+    // SAFETY: as in `read_open`; the distance is lent for the call alone.
+    unsafe { archive::coder_read_near(kind, grade, samples, length, message, bytes, distance) }
 }
 
 /// Fills the least member of the block's class at scale 2^(k + 1) and gives true; or gives false

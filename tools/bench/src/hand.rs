@@ -49,6 +49,8 @@
 
 #![forbid(unsafe_code)]
 
+mod near;
+
 use std::array::from_fn;
 
 /// The refusals of document 01, by number.
@@ -65,6 +67,8 @@ pub mod refusal {
     pub const ACCOUNT_FULL: u8 = 11;
     pub const BROKEN_LEVEL_2: u8 = 13;
     pub const CHANGEOVER: u8 = 14;
+    pub const UNFIT_SAMPLE: u8 = 15;
+    pub const TOO_FAR: u8 = 16;
 }
 
 /// What is asked of a block, each compiled by itself: nothing, as in the open reading; to be the first of the least members
@@ -564,6 +568,28 @@ pub fn read_strict(kind: u8, grade: u8, number: u32, frame: &[i32], message: &mu
     match odd(number) {
         false => by_format!(kind, grade, read::<FIRST>(frame, message)),
         true => by_format!(kind, grade, read::<LAST>(frame, message)),
+    }
+}
+
+/// Reads samples: fills the message of the frame that is near to them and gives its squared distance, or refuses and leaves the
+/// message. Kind 6 has no near reading.
+#[inline(never)]
+pub fn read_near(kind: u8, grade: u8, samples: &[f32], message: &mut [u8]) -> Result<f64, u8> {
+    match (kind, grade) {
+        (3, 1) => Format::<3, 1>::read_near(samples, message),
+        (3, 2) => Format::<3, 2>::read_near(samples, message),
+        (3, 3) => Format::<3, 3>::read_near(samples, message),
+        (3, 4) => Format::<3, 4>::read_near(samples, message),
+        (4, 1) => Format::<4, 1>::read_near(samples, message),
+        (4, 2) => Format::<4, 2>::read_near(samples, message),
+        (4, 3) => Format::<4, 3>::read_near(samples, message),
+        (4, 4) => Format::<4, 4>::read_near(samples, message),
+        (5, 1) => Format::<5, 1>::read_near(samples, message),
+        (5, 2) => Format::<5, 2>::read_near(samples, message),
+        (5, 3) => Format::<5, 3>::read_near(samples, message),
+        (5, 4) => Format::<5, 4>::read_near(samples, message),
+        (3..=5, _) => Err(refusal::GRADE),
+        _ => Err(refusal::KIND),
     }
 }
 

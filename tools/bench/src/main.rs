@@ -1,13 +1,16 @@
 //! Measures the library beside the hand-tuned coder, and compares their answers.
 //!
-//!     bench                                   the tables of times, per frame, under even and odd numbers, per queue
-//!                                             and per block, and as `compare` 200000 frames from a seed of the moment
-//!     bench compare FRAMES [SEED]             compares all answers on fresh messages, frames, queues and blocks
+//!     bench                                   the tables of times, per frame, under even and odd numbers, per queue,
+//!                                             per block and of noisy samples, and as `compare` 200000 frames from a
+//!                                             seed of the moment
+//!     bench near                              the tables of noisy samples alone
+//!     bench compare FRAMES [SEED]             compares all answers on fresh messages, frames, samples, queues and blocks
 //!     bench compare-all FRAMES [SEED] [KIND]  the same with the second coder as a third, without the
 //!                                             blocks; of one kind where one is given
 
 mod coders;
 mod compare;
+mod noise;
 mod table;
 
 use std::process::ExitCode;
@@ -70,8 +73,12 @@ fn plan(words: &[&str]) -> Option<Plan> {
 fn main() -> ExitCode {
     let arguments: Vec<String> = std::env::args().skip(1).collect();
     let words: Vec<&str> = arguments.iter().map(String::as_str).collect();
+    if words == ["near"] {
+        table::near::print();
+        return ExitCode::SUCCESS;
+    }
     let Some(plan) = plan(&words) else {
-        eprintln!("usage: bench | bench compare FRAMES [SEED] | bench compare-all FRAMES [SEED] [KIND]");
+        eprintln!("usage: bench | bench near | bench compare FRAMES [SEED] | bench compare-all FRAMES [SEED] [KIND]");
         return ExitCode::FAILURE;
     };
     if words.is_empty() {

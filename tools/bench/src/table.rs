@@ -71,6 +71,8 @@ macro_rules! pass {
     }};
 }
 
+pub mod near;
+
 /// The functions that take a number, under number 0.
 mod zero {
     use bench::{exported, hand};
@@ -323,4 +325,6 @@ pub fn print() {
     queues(&mut random);
     println!();
     blocks(&mut random);
+    println!();
+    near::print();
 }

@@ -1,13 +1,13 @@
-//! Sends a message and prints its energy and its frame, then reads the frame back both ways. By itself
-//! it sends 00 08 at kind 3, grade 1, under number 0; a kind, a grade, a number and bytes in hexadecimal can
-//! be given:
+//! Sends a message and prints its energy and its frame, then reads the frame back both ways, and at kinds 3 to 5
+//! from noisy samples too. By itself it sends 00 08 at kind 3, grade 1, under number 0; a kind, a grade, a number
+//! and bytes in hexadecimal can be given:
 //!
 //!     cargo run --offline --example send -- 4 1 7 20 00 00 00 00
 
 use std::error::Error;
 use std::process::ExitCode;
 
-use frame_coder::{read_open_to_vec, read_strict_to_vec, send_to_vec, Grade, Kind};
+use frame_coder::{read_near_to_vec, read_open_to_vec, read_strict_to_vec, send_to_vec, Grade, Kind};
 
 fn hexadecimal(message: &[u8]) -> String {
     message.iter().map(|byte| format!(" {byte:02x}")).collect()
@@ -28,6 +28,14 @@ fn run(words: &[&str]) -> Result<(), Box<dyn Error>> {
     println!("read openly:{}", hexadecimal(&openly));
     let (strictly, _) = read_strict_to_vec(kind, grade, number, &frame)?;
     println!("read strictly:{}", hexadecimal(&strictly));
+
+    // Every sample off by a quarter.
+    if let Some(limit) = kind.near_limit() {
+        let samples: Vec<f32> =
+            frame.iter().zip([0.25, -0.25].iter().cycle()).map(|(&x, off)| x as f32 + off).collect();
+        let (nearly, distance) = read_near_to_vec(kind, grade, &samples)?;
+        println!("read from noisy samples:{}; squared distance {distance}, below {limit}", hexadecimal(&nearly));
+    }
     Ok(())
 }
 

@@ -1,5 +1,5 @@
 //! The archive's functions, as `crates/frame_coder/frame_coder.h` has them: a slice is a pointer and
-//! a length; the answer is the energy, of a queue and of an opening 0, or minus the number of the refusal.
+//! a length; the answer is the energy, of a queue, of an opening and of a near reading 0, or minus the number of the refusal.
 
 extern "C" {
     pub fn coder_send(
@@ -27,6 +27,15 @@ extern "C" {
         frame_len: usize,
         message: *mut u8,
         message_len: usize,
+    ) -> i64;
+    pub fn coder_read_near(
+        kind: u8,
+        grade: u8,
+        samples: *const f32,
+        samples_len: usize,
+        message: *mut u8,
+        message_len: usize,
+        distance: *mut f64,
     ) -> i64;
     pub fn coder_open(changeover: u32, count: *mut u32, sum: *mut f64, largest: *mut u64, kept: *mut u32) -> i64;
     pub fn coder_send_counted(

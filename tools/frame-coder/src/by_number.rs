@@ -64,6 +64,22 @@ pub fn read_strict(kind: u8, grade: u8, number: u32, frame: &[i32], message: &mu
     })
 }
 
+/// As [`crate::read_near`].
+///
+/// # Errors
+///
+/// In this order: kind, which has to be 3 to 5, grade, the number of samples, the message's length, an unfit
+/// sample, too far.
+pub fn read_near(kind: u8, grade: u8, samples: &[f32], message: &mut [u8]) -> Result<f64, Refusal> {
+    let (length, bytes, mut distance) = (samples.len(), message.len(), 0.0);
+    // SAFETY: both slices and the distance are lent for the call, the message and the distance each alone; the
+    // lengths are the slices'.
+    answer(unsafe {
+        archive::coder_read_near(kind, grade, samples.as_ptr(), length, message.as_mut_ptr(), bytes, &mut distance)
+    })?;
+    Ok(distance)
+}
+
 /// As [`Account::send`].
 ///
 /// # Errors

@@ -61,6 +61,25 @@ impl Kind {
     pub const fn frame_length(self) -> usize {
         1 << self.number()
     }
+
+    /// The squared distance below which a near reading finds a frame of this kind; none where the kind has no
+    /// near reading. It is a quarter of the least squared distance of two frames.
+    ///
+    /// ```
+    /// use frame_coder::Kind;
+    ///
+    /// let limits: Vec<Option<f64>> = Kind::ALL.iter().map(|kind| kind.near_limit()).collect();
+    /// assert_eq!(limits, [Some(1.0), Some(2.0), Some(4.0), None]);
+    /// ```
+    #[must_use]
+    pub const fn near_limit(self) -> Option<f64> {
+        match self {
+            Kind::Three => Some(1.0),
+            Kind::Four => Some(2.0),
+            Kind::Five => Some(4.0),
+            Kind::Six => None,
+        }
+    }
 }
 
 impl TryFrom<u8> for Kind {

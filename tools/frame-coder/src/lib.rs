@@ -32,6 +32,9 @@
 //! first in reading order, an odd one as the last: at the first coordinate where two differ, the smaller comes
 //! first. With an account the count before the send is the number, from the account's changeover on.
 //!
+//! What a receiver has of a frame is noisy samples. Of kinds 3 to 5 [`read_near`] finds the frame of the coding set
+//! that is near to them, of which there is never a second one, and gives its message and how far it is.
+//!
 //! Bad input is refused with a [`Refusal`], and what was lent is then as it was. A queue keeps what was
 //! sent before the refused message, and says how many they are ([`Stopped`]).
 //!
@@ -121,6 +124,45 @@ pub fn read_strict(kind: Kind, grade: Grade, number: u32, frame: &[i32], message
     by_number::read_strict(kind.number(), grade.number(), number, frame, message)
 }
 
+/// Reads noisy samples: fills the message of the frame of the coding set that is near to them, and gives the
+/// squared distance of the two, which is exact.
+///
+/// Near is a frame at a squared distance below [`Kind::near_limit`]: there is none or one, and it is found where
+/// there is one, also where it is the sent frame under no number. So noise whose squared length is below that
+/// is always taken off a sent frame. Each sample is a whole number of 256ths from −128 to 128; −0.0 is 0. Samples that are
+/// finer are rounded first, by `(x * 256.0).round() / 256.0`: the distance is then that of the rounded ones.
+///
+/// Too far is an answer like the broken levels of a frame, which a receiver has to expect.
+///
+/// ```
+/// use frame_coder::{read_near, Grade, Kind, Refusal};
+///
+/// // Of the frame 0 1 0 1 0 1 0 1, with noise.
+/// let mut samples = [0.0, 1.25, 0.0, 0.5, -0.25, 1.0, 0.0, 1.0];
+/// let mut message = [0; 2];
+/// assert_eq!(read_near(Kind::Three, Grade::One, &samples, &mut message), Ok(0.375));
+/// assert_eq!(message, [0x02, 0x00]);
+///
+/// samples[0] = 0.875;
+/// match read_near(Kind::Three, Grade::One, &samples, &mut message) {
+///     Ok(distance) => println!("read, at the squared distance {distance}"),
+///     Err(Refusal::TooFar) => println!("lost"),
+///     Err(refusal) => panic!("{refusal}"),
+/// }
+/// # assert_eq!(read_near(Kind::Three, Grade::One, &samples, &mut message), Err(Refusal::TooFar));
+/// samples[0] = 1.0 / 512.0;
+/// assert_eq!(read_near(Kind::Three, Grade::One, &samples, &mut message), Err(Refusal::UnfitSample));
+/// ```
+///
+/// # Errors
+///
+/// In this order: [`Refusal::Kind`] for kind 6, which has no near reading, the number of samples
+/// ([`Refusal::FrameLength`]), the message's length, [`Refusal::UnfitSample`], [`Refusal::TooFar`]. The message is
+/// then as it was.
+pub fn read_near(kind: Kind, grade: Grade, samples: &[f32], message: &mut [u8]) -> Result<f64, Refusal> {
+    by_number::read_near(kind.number(), grade.number(), samples, message)
+}
+
 /// Sends under a number: the frame of the message, and its energy.
 ///
 /// # Errors
@@ -152,4 +194,15 @@ pub fn read_strict_to_vec(kind: Kind, grade: Grade, number: u32, frame: &[i32]) 
     let mut message = vec![0; message_length(kind, grade)];
     let energy = read_strict(kind, grade, number, frame, &mut message)?;
     Ok((message, energy))
+}
+
+/// Reads noisy samples: the message of the near frame, and the squared distance.
+///
+/// # Errors
+///
+/// As [`read_near`], but for the message's length.
+pub fn read_near_to_vec(kind: Kind, grade: Grade, samples: &[f32]) -> Result<(Vec<u8>, f64), Refusal> {
+    let mut message = vec![0; message_length(kind, grade)];
+    let distance = read_near(kind, grade, samples, &mut message)?;
+    Ok((message, distance))
 }

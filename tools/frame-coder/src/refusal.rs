@@ -18,15 +18,15 @@ use std::fmt::{Display, Formatter};
 #[repr(u8)]
 #[non_exhaustive]
 pub enum Refusal {
-    /// The kind is not 3 to 6.
+    /// The kind is not 3 to 6; near reading: not 3 to 5.
     Kind = 1,
     /// The grade is not 1 to 4.
     Grade = 2,
     /// The message bytes differ from [`message_length`](crate::message_length); those of a queue are not
     /// whole messages.
     MessageLength = 3,
-    /// The coordinates differ from [`Kind::frame_length`](crate::Kind::frame_length); those of a queue from
-    /// that times its messages.
+    /// The coordinates, or the samples, differ from [`Kind::frame_length`](crate::Kind::frame_length); the
+    /// coordinates of a queue from that times its messages.
     FrameLength = 4,
     /// Sending: a spare bit of the message is set.
     SpareBits = 5,
@@ -45,6 +45,10 @@ pub enum Refusal {
     BrokenLevel2 = 13,
     /// Opening an account: the changeover is above 1,000,000.
     Changeover = 14,
+    /// Near reading: a sample is no number, or no whole number of 256ths from −128 to 128.
+    UnfitSample = 15,
+    /// Near reading: no frame of the coding set is nearer than [`Kind::near_limit`](crate::Kind::near_limit).
+    TooFar = 16,
 }
 
 impl Refusal {
@@ -62,6 +66,8 @@ impl Refusal {
         Refusal::AccountFull,
         Refusal::BrokenLevel2,
         Refusal::Changeover,
+        Refusal::UnfitSample,
+        Refusal::TooFar,
     ];
 
     /// Its number.
@@ -74,10 +80,10 @@ impl Refusal {
     #[must_use]
     pub const fn reason(self) -> &'static str {
         match self {
-            Refusal::Kind => "the kind is not 3 to 6",
+            Refusal::Kind => "the kind is not 3 to 6, or for a near reading not 3 to 5",
             Refusal::Grade => "the grade is not 1 to 4",
             Refusal::MessageLength => "the message bytes are too few or too many for the kind and grade",
-            Refusal::FrameLength => "the coordinates are too few or too many",
+            Refusal::FrameLength => "the coordinates or samples are too few or too many",
             Refusal::SpareBits => "a spare bit of the message is set",
             Refusal::OverRange => "a coordinate is outside -1048576 to 1048576",
             Refusal::BrokenLevel0 => "level 0 of the frame is not a codeword",
@@ -86,6 +92,8 @@ impl Refusal {
             Refusal::AccountFull => "the account is full",
             Refusal::BrokenLevel2 => "level 2 of the frame is not a codeword",
             Refusal::Changeover => "the changeover is above 1000000",
+            Refusal::UnfitSample => "a sample is not a whole number of 256ths from -128 to 128",
+            Refusal::TooFar => "no frame of the coding set is near to the samples",
         }
     }
 }

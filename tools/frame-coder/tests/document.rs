@@ -1,8 +1,9 @@
 //! The cases of document 01 and of the requests of document 02, through the static library.
 
 use frame_coder::{
-    by_number, message_bits, message_length, read_open, read_open_to_vec, read_strict, read_strict_to_vec, send,
-    send_to_vec, Account, Grade, Kind, Refusal, Stopped, MAX_COORDINATE, MAX_FRAME_LENGTH, MAX_MESSAGE_LENGTH,
+    by_number, message_bits, message_length, read_near, read_near_to_vec, read_open, read_open_to_vec, read_strict,
+    read_strict_to_vec, send, send_to_vec, Account, Grade, Kind, Refusal, Stopped, MAX_COORDINATE, MAX_FRAME_LENGTH,
+    MAX_MESSAGE_LENGTH,
 };
 
 /// Even and odd numbers, the last of all among them.
@@ -206,6 +207,168 @@ fn kinds_and_grades() {
                 }
             }
         }
+    }
+}
+
+/// The kinds that have a near reading, and the grades; with the limit in parts of 1/65,536.
+fn near_formats() -> impl Iterator<Item = (Kind, Grade, i32)> {
+    let limited = Kind::ALL.iter().filter_map(|&kind| Some((kind, (kind.near_limit()? * 65_536.0) as i32)));
+    limited.flat_map(|(kind, limit)| Grade::ALL.iter().map(move |&grade| (kind, grade, limit)))
+}
+
+/// The samples of a frame with noise, which is given in 256ths for the places from one on.
+fn noisy(frame: &[i32], place: usize, noise: &[i32]) -> Vec<f32> {
+    let mut whole: Vec<i32> = frame.iter().map(|x| 256 * x).collect();
+    for (i, off) in noise.iter().enumerate() {
+        whole[(place + i) % frame.len()] += off;
+    }
+    whole.iter().map(|&x| x as f32 / 256.0).collect()
+}
+
+/// Frames of every message of one bit, under an even and an odd number, with noise in every way below the limit: at one place, at every
+/// place alike, at some. The distance is that of the noise, to the last part.
+#[test]
+fn noise_is_taken_off() {
+    for (kind, grade, limit) in near_formats() {
+        let (length, bytes) = (kind.frame_length(), message_length(kind, grade));
+        let most = (1..).take_while(|x| x * x < limit).last().unwrap();
+        let alike = (1..).take_while(|x| length as i32 * x * x < limit).last().unwrap();
+        assert_eq!(
+            (most, alike),
+            (
+                match kind {
+                    Kind::Three => 255,
+                    Kind::Four => 362,
+                    _ => 511,
+                },
+                90
+            )
+        );
+        let signs: Vec<i32> = (0..length as i32).map(|i| if i * i % 3 == 0 { alike } else { -alike }).collect();
+        let noises = [vec![], vec![1], vec![most], vec![-most], vec![128, -64, 32, -16, 8], vec![alike; length], signs];
+        for k in 0..message_bits(kind, grade) {
+            let mut message = vec![0; bytes];
+            message[k / 8] = 1 << (k % 8);
+            for number in [0, 1] {
+                let (frame, _) = send_to_vec(kind, grade, number, &message).unwrap();
+                for noise in &noises {
+                    let distance = f64::from(noise.iter().map(|x| x * x).sum::<i32>()) / 65_536.0;
+                    let samples = noisy(&frame, k, noise);
+                    assert_eq!(read_near_to_vec(kind, grade, &samples), Ok((message.clone(), distance)));
+                    let mut back = vec![0xA5; bytes];
+                    assert_eq!(by_number::read_near(kind.number(), grade.number(), &samples, &mut back), Ok(distance));
+                    assert_eq!(back, message);
+                }
+            }
+        }
+    }
+}
+
+/// On the limit itself, half way between two frames, and past it: too far, and the message is as it was.
+#[test]
+fn too_far() {
+    for (kind, grade, limit) in near_formats() {
+        let frame = vec![0; kind.frame_length()];
+        let squares = |noise: &[i32]| noise.iter().map(|x| x * x).sum::<i32>();
+        // From all 0 to 2 at one place, to 2 at two, or to 4 at one or 2 at four.
+        let half_way: &[&[i32]] = match kind {
+            Kind::Three => &[&[256], &[128, 128, 128, 128]],
+            Kind::Four => &[&[256, 256], &[-256, 256]],
+            _ => &[&[512], &[256; 4]],
+        };
+        for noise in half_way {
+            assert_eq!(squares(noise), limit);
+            let mut message = vec![0xA5; message_length(kind, grade)];
+            for place in 0..frame.len() {
+                let samples = noisy(&frame, place, noise);
+                assert_eq!(read_near(kind, grade, &samples, &mut message), Err(Refusal::TooFar));
+            }
+            assert!(message.iter().all(|byte| *byte == 0xA5));
+            let mut less = noise.to_vec();
+            less[0] -= less[0].signum();
+            let (message, distance) = read_near_to_vec(kind, grade, &noisy(&frame, 3, &less)).unwrap();
+            assert_eq!((message.iter().all(|byte| *byte == 0), distance), (true, f64::from(squares(&less)) / 65_536.0));
+        }
+        let samples = vec![0.5; kind.frame_length()];
+        assert_eq!(read_near_to_vec(kind, grade, &samples), Err(Refusal::TooFar));
+    }
+}
+
+/// Frames of the coding set that are sent under no number are near too, up to the ends of the samples and past them.
+#[test]
+fn near_to_unsent_frames() {
+    for (kind, grade, _) in near_formats() {
+        for x in [-128, -60, 4, 128] {
+            let frame = vec![x; kind.frame_length()];
+            let (message, _) = read_open_to_vec(kind, grade, &frame).unwrap();
+            let samples = noisy(&frame, 5, &[-64 * x.signum(), 0, -x.signum()]);
+            assert_eq!(read_near_to_vec(kind, grade, &samples), Ok((message, 4097.0 / 65_536.0)));
+        }
+        // Odd numbers of one residue modulo 4 at every other place, one of them a whole number past the last sample.
+        let mut frame = [0, 125].repeat(kind.frame_length() / 2);
+        frame[3] = 129;
+        let mut samples: Vec<f32> = frame.iter().map(|&x| x as f32).collect();
+        samples[3] = 128.0;
+        let (message, _) = read_open_to_vec(kind, grade, &frame).unwrap();
+        let expected = if kind == Kind::Three { Err(Refusal::TooFar) } else { Ok((message, 1.0)) };
+        assert_eq!(read_near_to_vec(kind, grade, &samples), expected);
+    }
+}
+
+#[test]
+fn unfit_samples() {
+    let part = 1.0 / 256.0;
+    let sizes =
+        [f32::NAN, f32::INFINITY, f32::MAX, 128.0f32.next_up(), 128.0 + part, part / 2.0, part.next_up(), 1e-45];
+    for (kind, grade, _) in near_formats() {
+        let mut message = vec![0xA5; message_length(kind, grade)];
+        for place in [0, 5, kind.frame_length() - 1] {
+            for size in sizes {
+                for sample in [size, -size] {
+                    let mut samples = vec![0.0; kind.frame_length()];
+                    samples[place] = sample;
+                    assert_eq!(read_near(kind, grade, &samples, &mut message), Err(Refusal::UnfitSample));
+                }
+            }
+            for sample in [128.0, -128.0, part, -0.0] {
+                let mut samples = vec![-0.0; kind.frame_length()];
+                samples[place] = sample;
+                assert!(read_near_to_vec(kind, grade, &samples).is_ok());
+            }
+        }
+        assert!(message.iter().all(|byte| *byte == 0xA5));
+    }
+}
+
+/// The tests of a near reading, each with all that is tested later wrong too: the samples are no numbers.
+#[test]
+fn near_refusals_in_order() {
+    for kind in (0..=255).filter(|kind| !(3..=5).contains(kind)) {
+        for (grade, length, bytes) in [(0, 1, 1), (1, 8, 2), (1, 64, 22), (255, 0, 0)] {
+            let mut message = vec![0xA5; bytes];
+            let refused = by_number::read_near(kind, grade, &vec![f32::NAN; length], &mut message);
+            assert_eq!((refused, message), (Err(Refusal::Kind), vec![0xA5; bytes]));
+        }
+    }
+    for (kind, grade, _) in near_formats() {
+        for wrong in [0, 5, 255] {
+            assert_eq!(by_number::read_near(kind.number(), wrong, &[f32::NAN], &mut [0]), Err(Refusal::Grade));
+        }
+        let (length, bytes) = (kind.frame_length(), message_length(kind, grade));
+        for other in [0, 1, length - 1, length + 1, 2 * length] {
+            let samples = vec![f32::NAN; other];
+            assert_eq!(read_near(kind, grade, &samples, &mut vec![0; bytes + 1]), Err(Refusal::FrameLength));
+        }
+        for other in [0, 1, bytes - 1, bytes + 1] {
+            let refused = read_near(kind, grade, &vec![f32::NAN; length], &mut vec![0; other]);
+            assert_eq!(refused, Err(if other == bytes { Refusal::UnfitSample } else { Refusal::MessageLength }));
+        }
+        let mut samples = vec![0.5; length];
+        samples[length - 1] = f32::NAN;
+        assert_eq!(read_near_to_vec(kind, grade, &samples), Err(Refusal::UnfitSample));
+    }
+    for &grade in Grade::ALL {
+        assert_eq!(read_near_to_vec(Kind::Six, grade, &[0.0; 64]), Err(Refusal::Kind));
     }
 }
 
@@ -448,9 +611,12 @@ fn refusals() {
         }
     }
     let numbers: Vec<u8> = Refusal::ALL.iter().map(|refusal| refusal.number()).collect();
-    assert_eq!(numbers, [1, 2, 3, 4, 5, 6, 7, 8, 9, 11, 13, 14]);
+    assert_eq!(numbers, [1, 2, 3, 4, 5, 6, 7, 8, 9, 11, 13, 14, 15, 16]);
     let unshaped = "refused 9: the frame is not the one that is sent for its message under the number";
     assert_eq!(Refusal::Unshaped.to_string(), unshaped);
     assert_eq!(Refusal::BrokenLevel2.to_string(), "refused 13: level 2 of the frame is not a codeword");
     assert_eq!(Refusal::Changeover.to_string(), "refused 14: the changeover is above 1000000");
+    let unfit = "refused 15: a sample is not a whole number of 256ths from -128 to 128";
+    assert_eq!(Refusal::UnfitSample.to_string(), unfit);
+    assert_eq!(Refusal::TooFar.to_string(), "refused 16: no frame of the coding set is near to the samples");
 }

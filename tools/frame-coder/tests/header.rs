@@ -51,6 +51,7 @@ fn in_rust(parameter: &str) -> String {
         "uint32_t" => "u32",
         "uint64_t" => "u64",
         "size_t" => "usize",
+        "float" => "f32",
         "double" => "f64",
         other => panic!("{other} in the header"),
     };

@@ -3,7 +3,7 @@
 use super::refusal::{BROKEN_LEVEL_0, BROKEN_LEVEL_1, BROKEN_LEVEL_2};
 use super::*;
 use crate::random::Random;
-use second_coder::{account, class, frame, random, vectors};
+use second_coder::{account, class, frame, near, random, vectors};
 
 /// The blocks of x that are sent under even and odd numbers, by the hand-tuned coder.
 fn both(x: &[i64; 8], k: u32) -> [[i64; 8]; 2] {
@@ -368,4 +368,131 @@ fn written_vectors() {
         (rest, count) = (after, count + 1);
     }
     assert!(rest.is_empty() && count >= 9600);
+}
+
+/// Compares a near reading, with a message of so many bytes lent.
+fn check_near(kind: u8, grade: u8, samples: &[f32], bytes: usize) -> Result<f64, u8> {
+    let mut message = vec![0xA5; bytes];
+    let answer = read_near(kind, grade, samples, &mut message);
+    match near::read_near(kind, grade, samples, bytes) {
+        Ok(near) => assert_eq!((answer, message), (Ok(near.distance), near.message), "{kind} {samples:?}"),
+        Err(number) => assert_eq!((answer, message), (Err(number), vec![0xA5; bytes]), "{kind} {samples:?}"),
+    }
+    answer
+}
+
+/// Noise at a few places, in 256ths: whole numbers of eighths, or of 256ths.
+fn few(length: usize, random: &mut Random) -> Vec<i32> {
+    let (mut noise, most, step) = (vec![0; length], 64 << random.below(4), [1, 32][random.below(2) as usize]);
+    for _ in 0..1 + random.below(6) {
+        noise[random.below(length as u64) as usize] = (random.below(2 * most + 1) as i32 - most as i32) / step * step;
+    }
+    noise
+}
+
+/// Gives how many were near, and how many were not, at each kind.
+fn check_noisy(rounds: usize, seed: u64) -> [[usize; 2]; 3] {
+    let mut own = Random(seed);
+    let mut random = random::Random::new(seed);
+    let mut counts = [[0; 2]; 3];
+    for round in 0..rounds {
+        // The second coder takes longest at kind 5.
+        let (kind, grade) = ([3, 4, 3, 4, 3, 4, 3, 5][round % 8], 1 + (round / 8 % 4) as u8);
+        let format = frame::Format::new(kind, grade).unwrap();
+        let (message, number) = (vectors::dense(&format, &mut random), own.word() as u32);
+        let mut sent = vec![0; format.length()];
+        send(kind, grade, number, &message, &mut sent).unwrap();
+        let noise = match own.below(2) {
+            0 => few(sent.len(), &mut own),
+            _ => {
+                let most = 1 + own.below(200);
+                sent.iter().map(|_| own.below(2 * most + 1) as i32 - most as i32).collect()
+            }
+        };
+        let samples: Vec<f32> = sent.iter().zip(&noise).map(|(x, off)| (256 * x + off) as f32 / 256.0).collect();
+        let answer = check_near(kind, grade, &samples, message.len());
+        let squared = noise.iter().map(|off| off * off).sum::<i32>();
+        if squared < 65_536 << (kind - 3) {
+            assert_eq!(answer, Ok(squared as f64 / 65_536.0));
+        }
+        counts[kind as usize - 3][answer.is_err() as usize] += 1;
+    }
+    counts
+}
+
+#[test]
+fn noisy_samples() {
+    let counts = check_noisy(3_000, 1);
+    assert!(counts.iter().flatten().all(|count| *count > 50), "{counts:?}");
+}
+
+/// A few minutes; run with `--ignored`.
+#[test]
+#[ignore]
+fn many_noisy_samples() {
+    println!("near and far, by kind: {:?}", check_noisy(200_000, 2));
+}
+
+/// Every frame that is near to samples at kind 3, from all whole numbers about them: there is none or one.
+#[test]
+fn every_frame_about_samples() {
+    let mut random = Random(3);
+    for _ in 0..300 {
+        let samples: [i32; 8] = std::array::from_fn(|_| random.below(1024) as i32 - 512);
+        let mut near = Vec::new();
+        for number in 0..1 << 16 {
+            let frame: [i32; 8] = std::array::from_fn(|p| (samples[p] >> 8) + (number >> (2 * p) & 3) - 1);
+            let distance = frame.iter().zip(samples).map(|(x, t)| (256 * x - t).pow(2)).sum::<i32>();
+            let mut message = [0xA5; 2];
+            if distance < 65_536 && read_open(3, 1, &frame, &mut message).is_ok() {
+                near.push((Ok(distance as f64 / 65_536.0), message));
+            }
+        }
+        let mut message = [0xA5; 2];
+        let answer = read_near(3, 1, &samples.map(|t| t as f32 / 256.0), &mut message);
+        match near[..] {
+            [] => assert_eq!((answer, message), (Err(refusal::TOO_FAR), [0xA5; 2])),
+            [near] => assert_eq!((answer, message), near),
+            _ => panic!("{samples:?} has {near:?}"),
+        }
+    }
+}
+
+#[test]
+fn unfit_samples() {
+    let part = 1.0 / 256.0;
+    let fit = [0.0, part, 128.0 - part, 128.0];
+    let unfit =
+        [f32::NAN, f32::INFINITY, 128.0f32.next_up(), 128.0 + part, part / 2.0, part.next_up(), f32::MAX, 1e-45];
+    for kind in 3..=5 {
+        let bytes = frame::Format::new(kind, 1).unwrap().message_bytes();
+        for place in [0, 5, (1 << kind) - 1] {
+            for sign in [-1.0, 1.0] {
+                let mut samples = vec![0.0; 1 << kind];
+                for sample in fit {
+                    samples[place] = sign * sample;
+                    assert_ne!(check_near(kind, 1, &samples, bytes), Err(refusal::UNFIT_SAMPLE));
+                }
+                for sample in unfit {
+                    samples[place] = sign * sample;
+                    assert_eq!(check_near(kind, 1, &samples, bytes), Err(refusal::UNFIT_SAMPLE));
+                }
+            }
+        }
+    }
+}
+
+#[test]
+fn near_refusals_in_order() {
+    for kind in 0..=8 {
+        for grade in 0..=6 {
+            for bytes in 0..=24 {
+                for length in [0, 7, 8, 9, 15, 16, 17, 31, 32, 33, 63, 64, 65] {
+                    for sample in [0.0, 0.5, f32::NAN] {
+                        let _ = check_near(kind, grade, &vec![sample; length], bytes);
+                    }
+                }
+            }
+        }
+    }
 }
