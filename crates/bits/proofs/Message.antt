@@ -1,7 +1,7 @@
 -- Bytes and their bits: each determines the other, and bits are put in a row. Assumes nothing.
 use Prim.Native.Nat.{ℕ, zero, suc, _+_, _-_, _*_, _/_, _%_, _^_, _≤_, _<_}
 use mathlib.Core.Path.{_≡_, sym, ap, ap₂, _∙_, subst}
-use mathlib.Core.Bool.{Bool, true, false, _&&_, and-false}
+use mathlib.Core.Bool.{Bool, true, false, _&&_, and-false, cond}
 use mathlib.Core.List.{List}
 use native.Mathlib.Nat.{zero-mul, mod-lt, pow-suc, add-comm, mul-le-mul-right, le-of-suc-le-suc, div-one, mod-one, mod-eq-of-lt, zero-div}
 use native.Mathlib.Decide.{decLt}
@@ -12,7 +12,7 @@ use lib.Bits.{block-half, block-odd}
 use lib.ListN.{length, getD, List·getD-eq-default}
 use lib.Seq.{ext-getD}
 use borrow.Author.Tests.{le-leb, lt-leb, lt-ltb, le-ltb}
-use Rattle.bits.specs.Number.{pick, sumTo, table, number}
+use Rattle.bits.specs.Number.{sumTo, table, number}
 use Rattle.bits.specs.Message.{messageBit, byteOf, bytesOf, withBits}
 use Rattle.bits.proofs.Sum.{sum-ext, sum-split, sum-zero, sum-times}
 use Rattle.bits.proofs.Table.{length-table, table-at, table-ext}
@@ -154,9 +154,9 @@ bit-past xs k h =
 
 -- ---- bits in a row
 
-pick-small : (t : Bool) (x y : ℕ) → x < 2 → y < 2 → pick t x y < 2
-pick-small true x y a b = a
-pick-small false x y a b = b
+cond-small : (t : Bool) (x y : ℕ) → x < 2 → y < 2 → cond t x y < 2
+cond-small true x y a b = a
+cond-small false x y a b = b
 
 module _ (from count : ℕ) (new old : ℕ → ℕ) where
   pub with-in : (k : ℕ) → k < count → withBits from count new old (from + k) ≡ new k
@@ -173,7 +173,7 @@ module _ (from count : ℕ) (new old : ℕ → ℕ) where
 
   pub with-small : ((k : ℕ) → new k < 2) → ((i : ℕ) → old i < 2) → (i : ℕ) → withBits from count new old i < 2
   unfolding withBits
-  with-small a b i = pick-small (leb from i && ltb i (from + count)) (new (i - from)) (old i) (a (i - from)) (b i)
+  with-small a b i = cond-small (leb from i && ltb i (from + count)) (new (i - from)) (old i) (a (i - from)) (b i)
 
 module _ (from : ℕ) (new old : ℕ → ℕ) where
   pub with-none : (i : ℕ) → withBits from 0 new old i ≡ old i

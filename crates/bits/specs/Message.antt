@@ -1,11 +1,11 @@
 -- The bits of a message's bytes, and bytes with bits put into them.
 -- Clients cite messageBit, bytesOf and withBits. Assumes nothing.
 use Prim.Native.Nat.{ℕ, _+_, _-_, _*_, _/_, _%_, _^_}
-use mathlib.Core.Bool.{_&&_}
+use mathlib.Core.Bool.{_&&_, cond}
 use mathlib.Core.List.{List}
 use lib.Dec.{leb, ltb}
 use lib.ListN.{getD}
-use Rattle.bits.specs.Number.{pick, table, number}
+use Rattle.bits.specs.Number.{table, number}
 
 -- message bit k: bit k mod 8 (lowest first) of byte k div 8
 unfoldable pub messageBit : List ℕ → ℕ → ℕ
@@ -22,4 +22,4 @@ bytesOf n bit = table n (byteOf bit)
 
 -- the new bits 0, 1, .. at from, from + 1, .. below from + count, and the old bits elsewhere
 unfoldable pub withBits : ℕ → ℕ → (ℕ → ℕ) → (ℕ → ℕ) → ℕ → ℕ
-withBits from count new old i = pick (leb from i && ltb i (from + count)) (new (i - from)) (old i)
+withBits from count new old i = cond (leb from i && ltb i (from + count)) (new (i - from)) (old i)

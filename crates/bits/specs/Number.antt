@@ -1,16 +1,11 @@
 -- Sums, rows and numbers made of the values of a function. Clients cite all of it. Assumes nothing.
 use Prim.Native.Nat.{ℕ, zero, suc, _+_, _*_, _^_}
-use mathlib.Core.Bool.{Bool, true, false}
+use mathlib.Core.Bool.{Bool, cond}
 use mathlib.Core.List.{List, [], _∷_, _++_}
-
--- a where the test holds, and b where it does not
-abbrev pub pick : Bool → ℕ → ℕ → ℕ
-pick true a b = a
-pick false a b = b
 
 -- x where the test holds, and 0 where it does not
 abbrev pub given : Bool → ℕ → ℕ
-given t x = pick t x 0
+given t x = cond t x 0
 
 -- f 0 + f 1 + .. + f (n − 1)
 unfoldable pub sumTo : ℕ → (ℕ → ℕ) → ℕ

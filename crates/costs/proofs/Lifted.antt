@@ -13,7 +13,7 @@ use Rattle.integers.proofs.Zed.{`_, #_, _⊕_, _⊖_, _⊗_, up, down, eq!, eq?
 use Rattle.integers.proofs.Floor.{quot-is, rem-is}
 use Rattle.e8.specs.Energy.{sq}
 use Rattle.costs.specs.Costs.{nearest, gap, Half}
-use Rattle.nearness.proofs.Squares.{abs-le, le-abs}
+use Rattle.near_frames.proofs.Squares.{abs-le, le-abs}
 use Rattle.costs.proofs.Nearest.{gap-offset}
 
 module _ (H : ℕ) (h : 0 < H) (x : ℤ) (y m : ℕ) (e : pos y ≡ x +ℤ pos H +ℤ pos (2 * H * m)) where

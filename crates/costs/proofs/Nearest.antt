@@ -9,7 +9,7 @@ use Rattle.integers.specs.Integer.{modZ}
 use Rattle.integers.proofs.Zed.{`_, #_, _⊕_, _⊖_, _⊗_, eq!, eq?}
 use Rattle.integers.proofs.Floor.{div-mod, modZ-lt}
 use Rattle.e8.specs.Energy.{sq}
-use Rattle.nearness.proofs.Squares.{abs-le, le-abs, square-mono}
+use Rattle.near_frames.proofs.Squares.{abs-le, le-abs, square-mono}
 use Rattle.costs.specs.Costs.{nearest, gap}
 
 module _ (H : ℕ) (h : 0 < H) (x : ℤ) where

@@ -11,7 +11,7 @@ use Rattle.e8.specs.Energy.{sq}
 use Rattle.frames.specs.Frame.{weightBit}
 use Rattle.frames.proofs.Frame.{weight-bit}
 use Rattle.costs.specs.Costs.{nearest, gap}
-use Rattle.nearness.proofs.Squares.{abs-le, le-abs}
+use Rattle.near_frames.proofs.Squares.{abs-le, le-abs}
 use Rattle.costs.proofs.Nearest.{gap-only, gap-least}
 
 -- ---- squares of opposite numbers

@@ -22,9 +22,9 @@ use Rattle.frames.proofs.Reading.{strict-passed}
 use Rattle.account.specs.declared.Account.{Account}
 use Rattle.account.specs.Counted.{numberFor, countedRefusal}
 use Rattle.account.proofs.Answers.{passed}
-use Rattle.near.specs.declared.NearReading.{NearReading}
-use Rattle.near.specs.declared.NearReading.the-variants.{Near, Far, Refused}
-use Rattle.near.specs.Answer.{nearNumber, nearDistance, nearAnswer}
+use Rattle.near_reading.specs.declared.NearReading.{NearReading}
+use Rattle.near_reading.specs.declared.NearReading.the-variants.{Near, Far, Refused}
+use Rattle.near_reading.specs.Answer.{nearNumber, nearDistance, nearAnswer}
 use Rattle.frame_coder.specs.Answer.{answerOf, sendAnswer, openAnswer, strictAnswer, accountOf, countedAnswer, nearCode, nearHeld}
 
 -- the energy that stands with a refusal number says nothing

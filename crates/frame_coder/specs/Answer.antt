@@ -14,7 +14,7 @@ use Rattle.account.specs.declared.Account.{Account}
 use Rattle.account.specs.Opening.{openingRefusal}
 use Rattle.account.specs.Counted.{numberFor, countedRefusal, countedAccount}
 use Rattle.queue.specs.Queue.{queueOutcome}
-use Rattle.near.specs.Answer.{nearNumber, nearDistance}
+use Rattle.near_reading.specs.Answer.{nearNumber, nearDistance}
 
 -- the energy, or minus the refusal number
 unfoldable pub answerOf : ℕ → ℕ → ℤ

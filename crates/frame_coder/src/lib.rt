@@ -7,7 +7,7 @@ ghost use Rattle.frame_coder.specs.Answer.{accountOf, openingAnswer, cou
 ghost use Rattle.account.specs.Opening.{openedWith};
 ghost use Rattle.frame_coder.specs.Answer.{nearCode, nearHeld};
 ghost use Rattle.queue.specs.Queue.{queueOutcome, queueFrames};
-ghost use Rattle.near.specs.Answer.{nearMessage};
+ghost use Rattle.near_reading.specs.Answer.{nearMessage};
 
 // The energy, or minus the refusal number.
 pub fn answer(number: u8, energy: u64) -> i64
@@ -174,13 +174,13 @@ pub extern "C" fn coder_read_near(
     ensures message { λ r. ⌜ now (message .exit) ≡ nearMessage kind grade (now (samples .entry)) (now (message .entry)) ⌝ }
     ensures distance { λ r. ⌜ now (distance .exit) ≡ nearHeld kind grade (now (samples .entry)) (length (now (message .entry))) (now (distance .entry)) ⌝ }
 {
-    let r = near::read_near(kind, grade, samples, message);
+    let r = near_reading::read_near(kind, grade, samples, message);
     match r {
-        near::NearReading::Near(d) => {
+        near_reading::NearReading::Near(d) => {
             *distance = d;
             answer(0, 0)
         }
-        near::NearReading::Far => answer(16, 0),
-        near::NearReading::Refused(number) => answer(number, 0),
+        near_reading::NearReading::Far => answer(16, 0),
+        near_reading::NearReading::Refused(number) => answer(number, 0),
     }
 }

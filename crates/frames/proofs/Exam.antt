@@ -23,7 +23,7 @@ use Rattle.frames.specs.Frame.{weightBit, levelWord, half, isOdd, number
 use Rattle.frames.specs.Sending.{anySet, spareSet, sendRefusal}
 use Rattle.frames.specs.Reading.{levelMessage, levelMessages, quotients, digits, allDigits, blockMessages, readBits, openMessage}
 use Rattle.frames.specs.Reading.{sameFrame, inRange, broken, openRefusal, isSent, strictRefusal}
-use Rattle.frames.specs.Exam.{printed, AllPrinted, levelAt, numberAt, Leader, exams, sentAs, examined, layout, Numbered, numbered, sentUnder}
+use Rattle.frames.specs.Exam.{printed, AllPrinted, levelAt, blockNumberAt, Leader, exams, sentAs, examined, layout, Numbered, numbered, sentUnder}
 use Rattle.frames.specs.Exam.{SixCodewords, CodingSetOfSix, NumberedTests, FurtherCases, SendingTests, ReadingTests, KindSixTests}
 
 -- the kinds are those printed: 3, 4, 5, 6 and no other
@@ -55,9 +55,9 @@ pub leader-terms : (b : ℕ) (bytes : List ℕ) (p : ℕ) → Leader b bytes p
 unfolding coordinate stacked blockNumbers degrees kinds levelBits dimension masks ofWeight table ones
 leader-terms b bytes p = record {
   kind-3 = refl;
-  kind-4 = three (levelAt 4 1 0 bytes p) (levelAt 4 3 5 bytes p) (numberAt 20 b bytes p);
-  kind-5 = three (levelAt 5 1 0 bytes p) (levelAt 5 3 6 bytes p) (numberAt 32 b bytes p);
-  kind-6 = four (levelAt 6 1 0 bytes p) (levelAt 6 3 7 bytes p) (levelAt 6 5 49 bytes p) (numberAt 112 b bytes p);
+  kind-4 = three (levelAt 4 1 0 bytes p) (levelAt 4 3 5 bytes p) (blockNumberAt 20 b bytes p);
+  kind-5 = three (levelAt 5 1 0 bytes p) (levelAt 5 3 6 bytes p) (blockNumberAt 32 b bytes p);
+  kind-6 = four (levelAt 6 1 0 bytes p) (levelAt 6 3 7 bytes p) (levelAt 6 5 49 bytes p) (blockNumberAt 112 b bytes p);
 }
   where
     three : (c₀ c₁ s : ℕ) → c₀ + 2 * (c₁ + 2 * s) ≡ c₀ + 2 * c₁ + 4 * s

@@ -60,16 +60,16 @@ abbrev pub levelAt : ℕ → ℕ → ℕ → List ℕ → ℕ → ℕ
 levelAt m r from bytes p = codeword r m (λ i. messageBit bytes (from + i)) p
 
 -- s at p: the blocks' bits, 8b for each, stand behind those of the levels, of which there are `bits`
-abbrev pub numberAt : ℕ → ℕ → List ℕ → ℕ → ℕ
-numberAt bits b bytes p = getD (numbers (messageBit bytes) (bits + 8 * b * (p / 8)) (widths b)) (p % 8) 0
+abbrev pub blockNumberAt : ℕ → ℕ → List ℕ → ℕ → ℕ
+blockNumberAt bits b bytes p = getD (numbers (messageBit bytes) (bits + 8 * b * (p / 8)) (widths b)) (p % 8) 0
 
 -- "c0 + 2 times c1 + 2^a times s; with one level the middle term is absent"; and for kind 6 "a third term, 4 times c2", whose message
 -- bits "follow the second's": the levels of kind 6 have 7, 42 and 63
 pub record Leader (b : ℕ) (bytes : List ℕ) (p : ℕ) : Type 0 where
-  pub kind-3 : coordinate 3 b bytes p ≡ levelAt 3 1 0 bytes p + 2 * numberAt 4 b bytes p
-  pub kind-4 : coordinate 4 b bytes p ≡ levelAt 4 1 0 bytes p + 2 * levelAt 4 3 5 bytes p + 4 * numberAt 20 b bytes p
-  pub kind-5 : coordinate 5 b bytes p ≡ levelAt 5 1 0 bytes p + 2 * levelAt 5 3 6 bytes p + 4 * numberAt 32 b bytes p
-  pub kind-6 : coordinate 6 b bytes p ≡ levelAt 6 1 0 bytes p + 2 * levelAt 6 3 7 bytes p + 4 * levelAt 6 5 49 bytes p + 8 * numberAt 112 b bytes p
+  pub kind-3 : coordinate 3 b bytes p ≡ levelAt 3 1 0 bytes p + 2 * blockNumberAt 4 b bytes p
+  pub kind-4 : coordinate 4 b bytes p ≡ levelAt 4 1 0 bytes p + 2 * levelAt 4 3 5 bytes p + 4 * blockNumberAt 20 b bytes p
+  pub kind-5 : coordinate 5 b bytes p ≡ levelAt 5 1 0 bytes p + 2 * levelAt 5 3 6 bytes p + 4 * blockNumberAt 32 b bytes p
+  pub kind-6 : coordinate 6 b bytes p ≡ levelAt 6 1 0 bytes p + 2 * levelAt 6 3 7 bytes p + 4 * levelAt 6 5 49 bytes p + 8 * blockNumberAt 112 b bytes p
 
 -- ---- the coding set of kind 6
 

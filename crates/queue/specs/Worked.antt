@@ -4,17 +4,13 @@ use Prim.Native.Nat.{ℕ, zero, suc}
 use mathlib.Core.Path.{_≡_}
 use mathlib.Core.List.{List, [], _∷_, _++_, map}
 use lib.IntN.{ℤ, pos, negsuc}
-use lib.ListN.{length}
+use lib.ListN.{length, replicate}
 use Rattle.account.specs.declared.Account.{Account}
 use Rattle.account.specs.Worked.{heldWith, held}
 use Rattle.queue.specs.declared.Queued.{Queued}
 use Rattle.queue.specs.Queue.{queueOutcome, queueFrames}
 
--- so many coordinates of one value; and the values from x on, another at each place
-abbrev pub alike : ℕ → ℤ → List ℤ
-alike zero z = []
-alike (suc n) z = z ∷ alike n z
-
+-- the values from x on, another at each place
 abbrev pub from : ℕ → ℕ → List ℤ
 from x zero = []
 from x (suc n) = pos x ∷ from (suc x) n
@@ -35,14 +31,14 @@ answered number sent a = record { number = number; sent = sent; account = a }
 -- Frames of kind 3, grade 1: 01 00 is all −1 (power 1, a block of 8), 00 08 is −4 and zeros (power 2, a block of 16); 00 10 has a spare bit
 -- set. Of kind 4: 01 00 00 00 00 is all 1 (power 1, blocks of 8), 20 00 00 00 00 is all −2 (power 4, blocks of 32)
 abbrev pub allMinus : List ℤ
-allMinus = alike 8 (negsuc 0)
+allMinus = replicate 8 (negsuc 0)
 
 abbrev pub minusFour : List ℤ
-minusFour = negsuc 3 ∷ alike 7 (pos 0)
+minusFour = negsuc 3 ∷ replicate 7 (pos 0)
 
 -- 00 08 under an odd number
 abbrev pub plusFour : List ℤ
-plusFour = pos 4 ∷ alike 7 (pos 0)
+plusFour = pos 4 ∷ replicate 7 (pos 0)
 
 abbrev pub queues : List Case
 queues =
@@ -72,7 +68,7 @@ queues =
       lent = from 100 32;
       with = held 0 0 0;
       outcome = answered 0 2 (held 2 5 32);
-      left = alike 16 (pos 1) ++ alike 16 (negsuc 1);
+      left = replicate 16 (pos 1) ++ replicate 16 (negsuc 1);
     }
     -- the account is full after the first: 11; full before, 11, and 5 comes first
     ∷ record {

@@ -21,7 +21,7 @@ use Rattle.frames.proofs.Numbers.{total}
 use Rattle.frames.proofs.Lengths.{blocks-length}
 use Rattle.frames.proofs.Limits.{whole-blocks}
 use Rattle.reading.specs.Words.{heldMessages, heldBits, heldMessage}
-use Rattle.reading.specs.Written.{written}
+use Rattle.reading.specs.Written.{writtenOver}
 use Rattle.reading.proofs.Writing.{Bits, entry, Carried, carried-first, carried-more, written-all}
 use Rattle.reading.proofs.Rows.{counts, counts-total, held-at, held-length, held-bits, blockRow, blocks-at, blocks-bits, bits-append}
 
@@ -90,14 +90,14 @@ module _ {k : ℕ} {ds : List ℕ} (counted : Counted k ds) where
 -- what the levels of a kind leave: their whole bytes, and the bits above them
 abbrev LevelsLeft : ℕ → List ℕ → List ℕ → ℕ → List ℕ → Type 0
 LevelsLeft k words before rest out =
-    (out ≡ written (levelBits k / 8) (levelRow k words) before)
+    (out ≡ writtenOver (levelBits k / 8) (levelRow k words) before)
     × (rest ≡ number (levelBits k % 8) (λ t. entry (levelRow k words) (8 * (levelBits k / 8) + t)))
 
 pub levels-left : (words : List ℕ) {k at over : ℕ} {before out : List ℕ} {rest : ℕ} → levelBits k ≡ 8 * at + over → over < 8
     → Carried (levelRow k words) before at over rest out → (kind : ℕ) → kind ≡ k → LevelsLeft kind words before rest out
 levels-left words {k} {at} {over} {before} {out} {rest} long low c kind e =
     subst (λ (k : ℕ). LevelsLeft k words before rest out) (sym e) (
-      c .bytes ∙ ap (λ (n : ℕ). written n (levelRow k words) before) bytes,
+      c .bytes ∙ ap (λ (n : ℕ). writtenOver n (levelRow k words) before) bytes,
       c .held ∙ ap₂ (λ (n m : ℕ). number m (λ t. entry (levelRow k words) (8 * n + t))) bytes bits,
     )
   where
@@ -149,6 +149,6 @@ module _ (k b : ℕ) (kind : isKind k ≡ true) (grade : 1 ≤ b) (f : List ℤ)
       ∙ blocks-at b (blocks k) j t v grade v-long h u))
 
   -- as many bytes as hold the bits are the message
-  pub all-bytes : (n : ℕ) (before : List ℕ) → length before ≡ messageBytes k b → messageBits k b ≤ 8 * n → written n row before ≡ heldMessage k b f words
+  pub all-bytes : (n : ℕ) (before : List ℕ) → length before ≡ messageBytes k b → messageBits k b ≤ 8 * n → writtenOver n row before ≡ heldMessage k b f words
   unfolding heldMessage messageBytes
   all-bytes n before e h = written-all n row before (omega (arith, e)) ∙ ap (λ (m : ℕ). bytesOf m (entry row)) e

@@ -1,7 +1,7 @@
 -- Frames compared coordinate by coordinate, without an early end. Assumes nothing.
 use Prim.Native.Nat.{ℕ, zero, suc, _+_, _≤_, _<_}
 use mathlib.Core.Path.{_≡_, refl, sym, ap, ap₂, _∙_}
-use mathlib.Core.Bool.{Bool, true, false, _&&_, and-assoc, and-true}
+use mathlib.Core.Bool.{Bool, true, false, _&&_, and-assoc, and-true, cond}
 use mathlib.Core.List.{List}
 use native.Mathlib.Numerals.{add-one}
 use native.Mathlib.Omega.{arith}
@@ -11,7 +11,6 @@ use lib.ListN.{length, drop, drop-of-length-le}
 use lib.Seq.{drop-cons}
 use lib.IntN.{ℤ, pos, negsuc}
 use borrow.Author.Tests.{ne-eqb}
-use Rattle.bits.specs.Number.{pick}
 use Rattle.frames.specs.Reading.{sameNumber, sameFrame}
 use Rattle.frames.proofs.Frame.{at}
 use Rattle.frames.proofs.Refusals.{number-same}
@@ -35,7 +34,7 @@ none-in-either (suc d) e =
     ne-eqb (bitOr (suc d) e) 0 (λ z. omega (arith, or-add-and (suc d) e, and-le-r (suc d) e, z))
     ∙ sym (ap (λ (t : Bool). t && eqb e 0) (ne-eqb (suc d) 0 (λ z. omega (arith, z))))
 
-none-is-same : (t : Bool) → eqb (pick t 0 1) 0 ≡ t
+none-is-same : (t : Bool) → eqb (cond t 0 1) 0 ≡ t
 none-is-same true = refl
 none-is-same false = refl
 
@@ -44,7 +43,7 @@ abbrev pub sameFrom : ℕ → ℕ → List ℤ → List ℤ → Bool
 sameFrom d i x y = eqb d 0 && sameFrame (drop i x) (drop i y)
 
 -- one coordinate more
-pub same-more : (x y : List ℤ) (d e i : ℕ) → i < length x → i < length y → e ≡ pick (sameNumber (at x i) (at y i)) 0 1
+pub same-more : (x y : List ℤ) (d e i : ℕ) → i < length x → i < length y → e ≡ cond (sameNumber (at x i) (at y i)) 0 1
     → sameFrom (bitOr d e) (i + 1) x y ≡ sameFrom d i x y
 unfolding sameFrame
 same-more x y d e i hx hy is =

@@ -14,7 +14,7 @@ use Rattle.bits.proofs.Message.{message-small, length-bytes, bits-of-bytes, byt
 use Rattle.bits.proofs.Message.{with-in, with-before, with-past, with-small, with-none}
 use Rattle.bits.proofs.Bytewise.{with-ext}
 use Rattle.bits.proofs.Digits.{digit, digit-past, moved-up}
-use Rattle.reading.specs.Written.{written}
+use Rattle.reading.specs.Written.{writtenOver}
 
 -- a row of bits: every entry is 0 or 1
 abbrev pub Bits : List ℕ → Type 0
@@ -26,11 +26,11 @@ entry row t = getD row t 0
 
 -- `at` bytes of the row are written, and the next `over` bits carried
 pub record Carried (row before : List ℕ) (at over rest : ℕ) (out : List ℕ) : Type 0 where
-  pub bytes : out ≡ written at row before
+  pub bytes : out ≡ writtenOver at row before
   pub held : rest ≡ number over (λ t. entry row (8 * at + t))
 
-pub written-length : (n : ℕ) (row before : List ℕ) → length (written n row before) ≡ length before
-unfolding written
+pub written-length : (n : ℕ) (row before : List ℕ) → length (writtenOver n row before) ≡ length before
+unfolding writtenOver
 written-length n row before = length-bytes (length before) (withBits 0 (8 * n) (entry row) (messageBit before))
 
 pub carried-length : {row before out : List ℕ} {at over rest : ℕ} → Carried row before at over rest out → length out ≡ length before
@@ -41,7 +41,7 @@ carried-length {row} {before} {at = at} c = ap length (c .bytes) ∙ written-len
 -- bits of the first byte alone
 pub carried-first : (row before : List ℕ) (over rest : ℕ) → ((j : ℕ) → getD before j 0 < 256) → rest ≡ number over (λ t. entry row (0 + t))
     → Carried row before 0 over rest before
-unfolding written
+unfolding writtenOver
 carried-first row before over rest each is = record {
   bytes = sym (bytes-ext (length before) _ _ (λ i l. with-none 0 (entry row) (messageBit before) i) ∙ bytes-of-bits before each);
   held = is;
@@ -51,14 +51,14 @@ below : (n : ℕ) (new old : ℕ → ℕ) (i : ℕ) → i < 8 * n → withBits 0
 below n new old i l = let e : i ≡ 0 + i = omega arith in ap (withBits 0 (8 * n) new old) e ∙ with-in 0 (8 * n) new old i l
 
 -- every byte
-pub written-all : (n : ℕ) (row before : List ℕ) → length before ≤ n → written n row before ≡ bytesOf (length before) (entry row)
-unfolding written
+pub written-all : (n : ℕ) (row before : List ℕ) → length before ≤ n → writtenOver n row before ≡ bytesOf (length before) (entry row)
+unfolding writtenOver
 written-all n row before h = bytes-ext (length before) _ _ (λ i l. below n (entry row) (messageBit before) i (omega arith))
 
 -- the same of a row with the same first bits
 pub carried-ext : {row row₂ before out : List ℕ} {at over rest : ℕ} → ((i : ℕ) → i < 8 * at + over → entry row i ≡ entry row₂ i)
     → Carried row before at over rest out → Carried row₂ before at over rest out
-unfolding written
+unfolding writtenOver
 carried-ext {row} {row₂} {before} {at = at} {over = over} h c = record {
   bytes = c .bytes ∙ bytes-ext (length before) _ _ (λ i l. with-ext 0 (8 * at) (entry row) (entry row₂) (messageBit before) (λ t k. h t (omega arith)) i);
   held = c .held ∙ number-ext over (λ t l. h (8 * at + t) (omega arith));
@@ -66,11 +66,11 @@ carried-ext {row} {row₂} {before} {at = at} {over = over} h c = record {
 
 -- ---- more bytes
 
-module _ (row before out : List ℕ) (small : Bits row) (at n v : ℕ) (so : out ≡ written at row before)
+module _ (row before out : List ℕ) (small : Bits row) (at n v : ℕ) (so : out ≡ writtenOver at row before)
     (is : (t : ℕ) → t < 8 * n → digit v t ≡ entry row (8 * at + t)) where
   -- the bits that were written
   bit-now : (i : ℕ) → i < 8 * length before → messageBit out i ≡ withBits 0 (8 * at) (entry row) (messageBit before) i
-  unfolding written
+  unfolding writtenOver
   bit-now i l =
       ap (λ (x : List ℕ). messageBit x i) so
       ∙ bits-of-bytes (length before) (withBits 0 (8 * at) (entry row) (messageBit before))
@@ -92,8 +92,8 @@ module _ (row before out : List ℕ) (small : Bits row) (at n v : ℕ) (so : out
       ∙ sym (with-past 0 (8 * (at + n)) (entry row) (messageBit before) i (omega arith))
 
   -- n bytes put behind those that are written
-  written-more : bytesOf (length out) (withBits (8 * at) (8 * n) (digit v) (messageBit out)) ≡ written (at + n) row before
-  unfolding written
+  written-more : bytesOf (length out) (withBits (8 * at) (8 * n) (digit v) (messageBit out)) ≡ writtenOver (at + n) row before
+  unfolding writtenOver
   written-more =
       ap (λ (m : ℕ). bytesOf m (withBits (8 * at) (8 * n) (digit v) (messageBit out))) (ap length so ∙ written-length at row before)
       ∙ bytes-ext (length before) _ _ (λ i l. bit-then i l (decLt i (8 * at)) (decLt i (8 * (at + n))))
@@ -145,7 +145,7 @@ module _ {row before out : List ℕ} {at over rest : ℕ} (c : Carried row befor
 
 -- the bits that are carried at the end of a row, as a byte with spare bits 0
 pub carried-last : {row before out : List ℕ} {at over rest : ℕ} → Carried row before at over rest out → Bits row → length row ≤ 8 * at + over → over ≤ 8
-    → (out₂ : List ℕ) → out₂ ≡ bytesOf (length out) (withBits (8 * at) 8 (digit rest) (messageBit out)) → out₂ ≡ written (at + 1) row before
+    → (out₂ : List ℕ) → out₂ ≡ bytesOf (length out) (withBits (8 * at) 8 (digit rest) (messageBit out)) → out₂ ≡ writtenOver (at + 1) row before
 carried-last {row} {before} {out} {at} {over} {rest} c small ends low out₂ put =
     put ∙ written-more row before out small at 1 rest (c .bytes) (λ t l. go t (decLt t over))
   where

@@ -5,6 +5,6 @@ use lib.ListN.{length, getD}
 use Rattle.bits.specs.Message.{messageBit, bytesOf, withBits}
 
 -- the first n bytes of the row, and from there on those that were there before
-unfoldable pub written : ℕ → List ℕ → List ℕ → List ℕ
+unfoldable pub writtenOver : ℕ → List ℕ → List ℕ → List ℕ
 unfolding bytesOf withBits messageBit
-written n row before = bytesOf (length before) (withBits 0 (8 * n) (λ t. getD row t 0) (messageBit before))
+writtenOver n row before = bytesOf (length before) (withBits 0 (8 * n) (λ t. getD row t 0) (messageBit before))

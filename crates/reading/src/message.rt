@@ -14,13 +14,13 @@ ghost use Rattle.frames.specs.Kind.{isKind, isGrade, degrees, levelBits, messag
 ghost use Rattle.frames.specs.Message.{widths};
 ghost use Rattle.frames.specs.Reading.{quotients, allDigits, inRange};
 ghost use Rattle.reading.specs.Words.{heldMessages, heldMessage};
-ghost use Rattle.reading.specs.Written.{written};
+ghost use Rattle.reading.specs.Written.{writtenOver};
 
 // The bits of the levels, from bit 0 on: the whole bytes of them are written, and the bits of a byte that is begun handed back.
 // The words hold the levels, taken backwards. An arm for each kind: its counts and shifts are constants to the compiler.
 pub fn write_levels(kind: u8, words: [u64; 3], out: &mut [u8]) -> u64
     requires { ⌜ (isKind kind ≡ true) × (levelBits kind ≤ 8 * length (now out)) ⌝ }
-    ensures out { λ _. ⌜ now (out .exit) ≡ written (levelBits kind / 8) (heldMessages kind 0 (degrees kind) words) (now (out .entry)) ⌝ }
+    ensures out { λ _. ⌜ now (out .exit) ≡ writtenOver (levelBits kind / 8) (heldMessages kind 0 (degrees kind) words) (now (out .entry)) ⌝ }
     ensures rest { λ r. ⌜ r ≡ number (levelBits kind % 8) (λ t. getD (heldMessages kind 0 (degrees kind) words) (8 * (levelBits kind / 8) + t) 0) ⌝ }
 {
     if kind == 3 {

@@ -1,12 +1,11 @@
 // The further test of the strict reading: a frame is the one that is sent where each block is the least member of its class.
 ghost use mathlib.Core.Path.{_≡_};
-ghost use mathlib.Core.Bool.{true};
+ghost use mathlib.Core.Bool.{true, cond};
 ghost use mathlib.Core.List.{_++_};
 ghost use Prim.Native.Nat.{_+_, _/_, _^_, _≤_};
 ghost use lib.ListN.{length, take, drop};
 ghost use Rattle.e8.specs.Energy.{Within};
 ghost use Rattle.e8.specs.Ties.{leastFrameBy};
-ghost use Rattle.bits.specs.Number.{pick};
 ghost use Rattle.frames.specs.Kind.{isKind};
 ghost use Rattle.frames.specs.Reading.{sameNumber, sameFrame};
 
@@ -47,7 +46,7 @@ fn copied(kind: u8, frame: &[i32], copy: &mut [i32])
 
 // 0 where two coordinates are the same, and else 1.
 fn differs(a: i32, b: i32) -> u32
-    ensures { λ r. ⌜ r ≡ pick (sameNumber a b) 0 1 ⌝ }
+    ensures { λ r. ⌜ r ≡ cond (sameNumber a b) 0 1 ⌝ }
 {
     if a != b { 1 } else { 0 }
 }

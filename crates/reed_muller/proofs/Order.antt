@@ -1,7 +1,7 @@
 -- The order of the masks: each mask of at most r bits stands in it once, and `place` inverts it. For every m. Assumes nothing.
 use Prim.Native.Nat.{ℕ, zero, suc, _+_, _^_, _≤_, _<_}
 use mathlib.Core.Path.{_≡_, refl, sym, ap, ap₂, _∙_}
-use mathlib.Core.Bool.{Bool, true, false}
+use mathlib.Core.Bool.{Bool, true, false, cond}
 use mathlib.Core.List.{List, [], _∷_, _++_}
 use native.Mathlib.Decide.{decLt, decLe, ℕ-discrete, le-ind}
 use native.Mathlib.Omega.{arith}
@@ -11,7 +11,7 @@ use lib.Pow.{pow-pos}
 use lib.Seq.{take-length, take-append-le, getD-take}
 use lib.Count.{ones-le}
 use borrow.Author.Tests.{eq-eqb, ne-eqb, le-leb, lt-leb}
-use Rattle.bits.specs.Number.{sumTo, pick, given, table}
+use Rattle.bits.specs.Number.{sumTo, given, table}
 use Rattle.reed_muller.specs.Level.{weight, keep, ofWeight, masks, order, place, dimension}
 use Rattle.bits.proofs.Sum.{sum-ext, sum-add, sum-zero, sum-term, sum-at-most}
 
@@ -93,7 +93,7 @@ place-at [] u k h = absurd (omega arith)
 place-at (y ∷ ys) u zero h = rw (eq-eqb y y refl)
 place-at (y ∷ ys) u (suc k) h = go (place-at ys (λ x. omega (arith, u x)) k (omega arith)) (ℕ-discrete y (getD ys k 0))
   where
-    go : place ys (getD ys k 0) ≡ k → Dec (y ≡ getD ys k 0) → pick (eqb y (getD ys k 0)) 0 (suc (place ys (getD ys k 0))) ≡ suc k
+    go : place ys (getD ys k 0) ≡ k → Dec (y ≡ getD ys k 0) → cond (eqb y (getD ys k 0)) 0 (suc (place ys (getD ys k 0))) ≡ suc k
     go ih (yes e) = absurd (omega (arith, u (getD ys k 0), count-at ys k (omega arith), ap (is (getD ys k 0)) e, is-same (getD ys k 0)))
     go ih (no n) = rw (ne-eqb y (getD ys k 0) n, ih)
 
@@ -104,7 +104,7 @@ at-place [] x h = absurd (omega arith)
 at-place (y ∷ ys) x h = go (at-place ys x) (ℕ-discrete y x)
   where
     go : (1 ≤ count x ys → (place ys x < length ys) × (getD ys (place ys x) 0 ≡ x)) → Dec (y ≡ x)
-        → (pick (eqb y x) 0 (suc (place ys x)) < suc (length ys)) × (getD (y ∷ ys) (pick (eqb y x) 0 (suc (place ys x))) 0 ≡ x)
+        → (cond (eqb y x) 0 (suc (place ys x)) < suc (length ys)) × (getD (y ∷ ys) (cond (eqb y x) 0 (suc (place ys x))) 0 ≡ x)
     go ih (yes e) = rw (eq-eqb y x e) (omega arith, e)
     go ih (no n) = let w = ih (omega (arith, is-other x y n)) in rw (ne-eqb y x n) (omega (arith, w .0), w .1)
 

@@ -2,6 +2,7 @@
 -- Assumes nothing.
 use Prim.Native.Nat.{ℕ, zero, suc, _+_, _-_, _*_, _/_, _%_, _^_, _≤_, _<_}
 use mathlib.Core.Path.{_≡_, refl, sym, ap, ap₂, _∙_, subst, fun-ext}
+use mathlib.Core.Bool.{cond}
 use mathlib.Core.List.{List, [], _∷_}
 use mathlib.Core.Logic.{⊎-elim}
 use native.Mathlib.Nat.{zero-mul, zero-add, one-mul, add-mul, mul-assoc, mul-comm, pow-suc, div-eq-of-lt}
@@ -12,7 +13,7 @@ use lib.Pow.{high, pow-mono}
 use lib.ListN.{getD}
 use lib.Bits.{bitAnd, bitXor}
 use borrow.Author.Tests.{eq-eqb, ne-eqb}
-use Rattle.bits.specs.Number.{pick, sumTo, table, number}
+use Rattle.bits.specs.Number.{sumTo, table, number}
 use Rattle.reed_muller.specs.Level.{backwards}
 use Rattle.bits.proofs.Table.{table-at}
 use Rattle.bits.proofs.Message.{number-ext, digit-of}
@@ -21,7 +22,7 @@ use Rattle.bits.proofs.Digits.{digit, digit-small, xor-digit, and-clear, and-ke
 
 -- one stage: where p has the digit of h, the value at p − h is added
 abbrev pub stageAt : ℕ → (ℕ → ℕ) → ℕ → ℕ
-stageAt h v p = pick (eqb (p / h % 2) 1) ((v p + v (p - h)) % 2) (v p % 2)
+stageAt h v p = cond (eqb (p / h % 2) 1) ((v p + v (p - h)) % 2) (v p % 2)
 
 -- the first j stages
 unfoldable pub stages : ℕ → (ℕ → ℕ) → ℕ → ℕ
@@ -111,7 +112,7 @@ behind p h e = go (decLt p h)
     go (no k) = omega arith
 
 stage-ext : (h : ℕ) (u v : ℕ → ℕ) (p : ℕ) → u p ≡ v p → u (p - h) ≡ v (p - h) → stageAt h u p ≡ stageAt h v p
-stage-ext h u v p a b = ap₂ (λ (x y : ℕ). pick (eqb (p / h % 2) 1) ((x + y) % 2) (x % 2)) a b
+stage-ext h u v p a b = ap₂ (λ (x y : ℕ). cond (eqb (p / h % 2) 1) ((x + y) % 2) (x % 2)) a b
 
 module _ (W j mask t : ℕ) (right : mask ≡ number W (λ p. digit p j)) where
   -- as the code computes it

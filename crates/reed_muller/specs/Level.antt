@@ -2,13 +2,13 @@
 -- Clients cite liesIn, weight, masks, order, place, dimension, codeword, backwards, belongs, Turning, and Tabled. Assumes nothing.
 use Prim.Native.Nat.{ℕ, zero, suc, _%_, _^_, _≤_, _<_}
 use mathlib.Core.Path.{_≡_}
-use mathlib.Core.Bool.{Bool, true, false, _&&_, _||_}
+use mathlib.Core.Bool.{Bool, true, false, _&&_, _||_, cond}
 use mathlib.Core.List.{List, [], _∷_, _++_}
 use lib.Dec.{eqb, leb}
 use lib.Bits.{bitAnd}
 use lib.Count.{ones}
 use lib.ListN.{length, getD}
-use Rattle.bits.specs.Number.{pick, given, sumTo, table}
+use Rattle.bits.specs.Number.{given, sumTo, table}
 
 -- the mask S lies in p: every bit set in S is set in p
 abbrev pub liesIn : ℕ → ℕ → Bool
@@ -42,7 +42,7 @@ order m = masks m m
 -- the place of x in a list: the first index at which it stands (the list's length where it does not)
 unfoldable pub place : List ℕ → ℕ → ℕ
 place [] x = 0
-place (y ∷ ys) x = pick (eqb y x) 0 (suc (place ys x))
+place (y ∷ ys) x = cond (eqb y x) 0 (suc (place ys x))
 
 -- the dimension of RM(r,m): one message bit for each mask with at most r bits set
 unfoldable pub dimension : ℕ → ℕ → ℕ

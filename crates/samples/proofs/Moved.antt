@@ -20,7 +20,7 @@ use borrow.Author.Tests.{eq-eqb, lt-ltb, le-ltb}
 use Rattle.integers.proofs.Zed.{#_, _⊖_, ⊝_, eq! }
 use Rattle.floats.proofs.Compare.{eq-values, equal-sized}
 use Rattle.floats.proofs.Exact.{digits, parts, add-values}
-use Rattle.samples.specs.Sample.{isFit, in256ths, signed}
+use Rattle.samples.specs.Sample.{isFit, sampleIn256ths, signed}
 use Rattle.samples.proofs.Constants.{middle, least, most}
 use Rattle.samples.proofs.Whole.{fit-by-value}
 
@@ -167,7 +167,7 @@ fit-test x =
 
 pub moved-count : (x : Float) → isFit x ≡ true
     → T (inSigned binary32 31 (mul binary32 (add binary32 x middle) (fin false 1 (pos 8))))
-    × (toSigned 31 (mul binary32 (add binary32 x middle) (fin false 1 (pos 8))) -ℤ pos 12582912 ≡ in256ths x)
+    × (toSigned 31 (mul binary32 (add binary32 x middle) (fin false 1 (pos 8))) -ℤ pos 12582912 ≡ sampleIn256ths x)
 unfolding ofInt inFloat
 moved-count x f =
     let v = fit-by-value x in

@@ -11,7 +11,7 @@ use lib.IntN.{ℤ, pos, _*ℤ_}
 use lib.Ieee.{Float, nan}
 use Rattle.e8.specs.Energy.{Within}
 use Rattle.e8.proofs.Within.{and-both}
-use Rattle.samples.specs.Sample.{isFit, in256ths, allFit, samples256, samplesOf}
+use Rattle.samples.specs.Sample.{isFit, sampleIn256ths, allFit, samplesIn256ths, samplesOf}
 use Rattle.samples.proofs.Whole.{fit-small, whole-fit, whole-256}
 
 -- ---- the test, one sample more
@@ -44,19 +44,19 @@ fit-each (x ∷ xs) e (suc i) h = fit-each xs (and-both (isFit x) (allFit xs) e 
 
 -- ---- the samples in 256ths
 
-pub samples-length : (xs : List Float) → length (samples256 xs) ≡ length xs
-unfolding samples256
-samples-length xs = length-map xs in256ths
+pub samples-length : (xs : List Float) → length (samplesIn256ths xs) ≡ length xs
+unfolding samplesIn256ths
+samples-length xs = length-map xs sampleIn256ths
 
-pub samples-at : (xs : List Float) (i : ℕ) → getD (samples256 xs) i (pos 0) ≡ in256ths (getD xs i nan)
-unfolding samples256 in256ths
+pub samples-at : (xs : List Float) (i : ℕ) → getD (samplesIn256ths xs) i (pos 0) ≡ sampleIn256ths (getD xs i nan)
+unfolding samplesIn256ths sampleIn256ths
 samples-at [] zero = refl
 samples-at [] (suc i) = refl
 samples-at (x ∷ xs) zero = refl
 samples-at (x ∷ xs) (suc i) = samples-at xs i
 
-pub samples-within : (xs : List Float) → allFit xs ≡ true → Within 32768 (samples256 xs)
-unfolding samples256 allFit
+pub samples-within : (xs : List Float) → allFit xs ≡ true → Within 32768 (samplesIn256ths xs)
+unfolding samplesIn256ths allFit
 samples-within [] e = tt
 samples-within (x ∷ xs) e = let b = and-both (isFit x) (allFit xs) e in (fit-small x (b .0), samples-within xs (b .1))
 
@@ -67,7 +67,7 @@ unfolding samplesOf allFit
 samples-of-fit [] w = refl
 samples-of-fit (z ∷ f) w = rw (whole-fit z (w .0)) (samples-of-fit f (w .1))
 
-pub samples-of-256 : (f : List ℤ) → Within 128 f → samples256 (samplesOf f) ≡ map (λ z. pos 256 *ℤ z) f
-unfolding samplesOf samples256
+pub samples-of-256 : (f : List ℤ) → Within 128 f → samplesIn256ths (samplesOf f) ≡ map (λ z. pos 256 *ℤ z) f
+unfolding samplesOf samplesIn256ths
 samples-of-256 [] w = refl
 samples-of-256 (z ∷ f) w = ap₂ (λ (y : ℤ) (ys : List ℤ). y ∷ ys) (whole-256 z (w .0)) (samples-of-256 f (w .1))

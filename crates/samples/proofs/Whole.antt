@@ -13,7 +13,7 @@ use lib.Ieee.Back.{round-whole}
 use borrow.Author.Tests.{eqb-true, leb-true, le-leb}
 use Rattle.e8.proofs.Within.{and-both}
 use Rattle.floats.proofs.Exact.{smaller-parts}
-use Rattle.samples.specs.Sample.{isFit, in256ths, signed, FitByValue}
+use Rattle.samples.specs.Sample.{isFit, sampleIn256ths, signed, FitByValue}
 
 -- ---- the size in 256ths of a fit sample: whole, and at most 32,768
 
@@ -32,8 +32,8 @@ fit-whole s m e f =
 -- ---- by its value
 
 -- ± t / 256 is ± t 256ths
-counted : (x : Float) (s : Bool) (t : ℕ) → HasValue x s t 256 → in256ths x ≡ signed s t
-unfolding in256ths
+counted : (x : Float) (s : Bool) (t : ℕ) → HasValue x s t 256 → sampleIn256ths x ≡ signed s t
+unfolding sampleIn256ths
 counted nan s t v = absurd v
 counted (inf i) s t v = absurd v
 counted (fin i m e) s t v =
@@ -66,7 +66,7 @@ unfit x n v = record {
 
 -- WHAT A FIT SAMPLE IS
 pub fit-by-value : (x : Float) → FitByValue x
-unfolding isFit in256ths
+unfolding isFit sampleIn256ths
 fit-by-value nan = unfit nan refl (λ s t v. v)
 fit-by-value (inf i) = unfit (inf i) refl (λ s t v. v)
 fit-by-value (fin i m e) = record {
@@ -79,7 +79,7 @@ fit-by-value (fin i m e) = record {
 }
 
 -- a fit sample is at most 32,768 in size
-pub fit-small : (x : Float) → isFit x ≡ true → natAbs (in256ths x) ≤ 32768
+pub fit-small : (x : Float) → isFit x ≡ true → natAbs (sampleIn256ths x) ≤ 32768
 fit-small x f = let v = fit-by-value x in rw (v .counted f) (go (v .sign f) (v .size f) (v .small f))
   where
     go : (s : Bool) (n : ℕ) → n ≤ 32768 → natAbs (signed s n) ≤ 32768
@@ -97,7 +97,7 @@ unfolding ofInt
 whole-fit (pos n) l = fits-by (round binary32 false n 1) false (n * 256) (omega arith) (whole-value false n l)
 whole-fit (negsuc n) l = fits-by (round binary32 true (suc n) 1) true (suc n * 256) (omega arith) (whole-value true (suc n) l)
 
-pub whole-256 : (z : ℤ) → natAbs z ≤ 128 → in256ths (ofInt binary32 z) ≡ pos 256 *ℤ z
+pub whole-256 : (z : ℤ) → natAbs z ≤ 128 → sampleIn256ths (ofInt binary32 z) ≡ pos 256 *ℤ z
 unfolding ofInt
 whole-256 (pos n) l = counted (round binary32 false n 1) false (n * 256) (whole-value false n l) ∙ ap pos (mul-comm n 256)
 whole-256 (negsuc n) l =

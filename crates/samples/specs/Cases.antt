@@ -6,7 +6,7 @@ use mathlib.Core.Bool.{true, false}
 use mathlib.Core.List.{List, [], _∷_, map}
 use lib.IntN.{ℤ, pos, negsuc}
 use lib.Ieee.{Float, binary32, ofBits}
-use Rattle.samples.specs.Sample.{isFit, in256ths}
+use Rattle.samples.specs.Sample.{isFit, sampleIn256ths}
 
 abbrev pub bitsAs : ℕ → Float
 bitsAs bits = ofBits binary32 bits
@@ -44,7 +44,7 @@ notWhole = 989855744 ∷ 3137339392 ∷ 1002438656 ∷ 998244353 ∷ 1124073471 
 
 pub record Cases : Type 0 where
   pub fit : map (λ c. isFit (bitsAs (c .bits))) fitOnes ≡ map (λ c. true) fitOnes
-  pub counted : map (λ c. in256ths (bitsAs (c .bits))) fitOnes ≡ map (λ c. c .count) fitOnes
+  pub counted : map (λ c. sampleIn256ths (bitsAs (c .bits))) fitOnes ≡ map (λ c. c .count) fitOnes
   pub no-numbers : map (λ b. isFit (bitsAs b)) noNumbers ≡ map (λ b. false) noNumbers
   pub too-large : map (λ b. isFit (bitsAs b)) tooLarge ≡ map (λ b. false) tooLarge
   pub not-whole : map (λ b. isFit (bitsAs b)) notWhole ≡ map (λ b. false) notWhole

@@ -20,10 +20,10 @@ abbrev pub signed : Bool → ℕ → ℤ
 signed s n = cond s (negℤ (pos n)) (pos n)
 
 -- how many 256ths a fit sample is
-unfoldable pub in256ths : Float → ℤ
-in256ths nan = pos 0
-in256ths (inf s) = pos 0
-in256ths (fin s m e) = signed s (256 * (m * up e) / down e)
+unfoldable pub sampleIn256ths : Float → ℤ
+sampleIn256ths nan = pos 0
+sampleIn256ths (inf s) = pos 0
+sampleIn256ths (fin s m e) = signed s (256 * (m * up e) / down e)
 
 -- every sample is fit
 unfoldable pub allFit : List Float → Bool
@@ -32,20 +32,20 @@ allFit [] = true
 allFit (x ∷ xs) = isFit x && allFit xs
 
 -- all samples, in 256ths
-unfoldable pub samples256 : List Float → List ℤ
-unfolding in256ths
-samples256 xs = map in256ths xs
+unfoldable pub samplesIn256ths : List Float → List ℤ
+unfolding sampleIn256ths
+samplesIn256ths xs = map sampleIn256ths xs
 
 -- the coordinates of a frame as f32: the samples of a frame without noise
 unfoldable pub samplesOf : List ℤ → List Float
 samplesOf f = map (λ z. ofInt binary32 z) f
 
--- what isFit and in256ths say of a sample x, by its value: x is fit exactly where its value is ± t / 256 for some t of at most 32,768, and then it is
+-- what isFit and sampleIn256ths say of a sample x, by its value: x is fit exactly where its value is ± t / 256 for some t of at most 32,768, and then it is
 -- ± t 256ths
 pub record FitByValue (x : Float) : Type 0 where
   pub sign : isFit x ≡ true → Bool
   pub size : isFit x ≡ true → ℕ
   pub small : (fit : isFit x ≡ true) → size fit ≤ 32768
   pub value : (fit : isFit x ≡ true) → HasValue x (sign fit) (size fit) 256
-  pub counted : (fit : isFit x ≡ true) → in256ths x ≡ signed (sign fit) (size fit)
+  pub counted : (fit : isFit x ≡ true) → sampleIn256ths x ≡ signed (sign fit) (size fit)
   pub fits : (s : Bool) (t : ℕ) → t ≤ 32768 → HasValue x s t 256 → isFit x ≡ true

@@ -2,7 +2,7 @@
 ghost use mathlib.Core.Path.{_≡_};
 ghost use mathlib.Core.Bool.{true, cond};
 ghost use lib.ListN.{length};
-ghost use Rattle.samples.specs.Sample.{isFit, in256ths, allFit, samples256};
+ghost use Rattle.samples.specs.Sample.{isFit, sampleIn256ths, allFit, samplesIn256ths};
 
 // 0 where a sample is a whole number of 256ths from -128 to 128, and else 1. From 32,768 to 65,536 an f32 is a whole number of 256ths: the sum is
 // the sample converted to one, moved up by 49,152, and it is compared back. What is no number is equal to none.
@@ -19,7 +19,7 @@ fn unfit(x: f32) -> u32
 // A fit sample in 256ths, by way of the same sum: 49,152 is 12,582,912 of them.
 fn to_256ths(x: f32) -> i32
     requires { ⌜ isFit x ≡ true ⌝ }
-    ensures { λ r. ⌜ r ≡ in256ths x ⌝ }
+    ensures { λ r. ⌜ r ≡ sampleIn256ths x ⌝ }
 {
     let y = (x + 49152.0) * 256.0;
     (y as i32) - 12582912
@@ -42,7 +42,7 @@ pub fn all_fit(samples: &[f32]) -> bool
 // All samples in 256ths.
 pub fn all_256ths(samples: &[f32], out: &mut [i32])
     requires { ⌜ (length (now samples) ≡ length (now out)) × (allFit (now samples) ≡ true) ⌝ }
-    ensures { λ _. ⌜ now (out .exit) ≡ samples256 (now (samples .entry)) ⌝ }
+    ensures { λ _. ⌜ now (out .exit) ≡ samplesIn256ths (now (samples .entry)) ⌝ }
 {
     let mut i: usize = 0;
     while i < samples.len() {

@@ -2,6 +2,7 @@
 -- it agrees with w itself. Assumes nothing.
 use Prim.Native.Nat.{ℕ, zero, suc, _+_, _-_, _*_, _/_, _%_, _^_, _≤_, _<_}
 use mathlib.Core.Path.{_≡_, refl, sym, ap, _∙_, subst}
+use mathlib.Core.Bool.{cond}
 use native.Mathlib.Nat.{div-one, mod-lt, mul-le-mul-right, pow-suc}
 use native.Mathlib.Decide.{decLt}
 use native.Mathlib.Omega.{arith}
@@ -9,7 +10,6 @@ use lib.Pow.{split, high, shr-lt, shr-shr, pow-pos, pow-mono, pow-add}
 use lib.Bits.{shifted-half, shifted-even}
 use lib.Count.{trailingZeros, under}
 use borrow.Author.Tests.{ne-eqb}
-use Rattle.bits.specs.Number.{pick}
 use Rattle.search.specs.Search.{firstPlace}
 
 -- ---- zeros at the low end
@@ -101,7 +101,7 @@ first-of-zero n = refl
 
 pub first-of : (w n : ℕ) → 0 < w → firstPlace w n ≡ trailingZeros 64 w + 1
 unfolding firstPlace
-first-of w n h = ap (λ b. pick b n (trailingZeros 64 w + 1)) (ne-eqb w 0 (λ e. omega arith))
+first-of w n h = ap (λ b. cond b n (trailingZeros 64 w + 1)) (ne-eqb w 0 (λ e. omega arith))
 
 pub first-within : (w n : ℕ) → w < 2 ^ n → n ≤ 64 → firstPlace w n ≤ n
 first-within zero n h l = omega (arith, first-of-zero n)

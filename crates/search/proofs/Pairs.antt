@@ -19,9 +19,9 @@ use Rattle.e8.specs.Energy.{sq}
 use Rattle.frames.specs.Kind.{kinds, degrees, levels}
 use Rattle.frames.specs.Frame.{weightBit, levelWord, InCodingSet}
 use Rattle.frames.proofs.Frame.{at}
-use Rattle.nearness.specs.Near.{nearKind, nearness}
-use Rattle.nearness.proofs.NearKinds.{each-near}
-use Rattle.nearness.proofs.Sum.{nearness-sum}
+use Rattle.near_frames.specs.Near.{nearKind, nearness}
+use Rattle.near_frames.proofs.NearKinds.{each-near}
+use Rattle.near_frames.proofs.Sum.{nearness-sum}
 use Rattle.costs.specs.Costs.{nearest, gap, bitOf, residue, cost, candidate}
 use Rattle.costs.proofs.Residue.{bit-0, bit-1, bit-small, by-bits, candidate-cost, near-cost}
 

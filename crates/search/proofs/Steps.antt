@@ -17,8 +17,8 @@ use Rattle.bits.proofs.Digits.{digit, digit-none, digit-from, xor-digit}
 use Rattle.reed_muller.specs.Level.{liesIn, ofWeight, masks, dimension, codeword}
 use Rattle.reed_muller.proofs.MaskTables.{Right, right-8, right-16, right-32, right-64, masksOf}
 use Rattle.reed_muller.proofs.Codeword.{codeword-small, codeword-cong, codeword-add}
-use Rattle.nearness.specs.Near.{nearKind}
-use Rattle.nearness.proofs.NearKinds.{each-near}
+use Rattle.near_frames.specs.Near.{nearKind}
+use Rattle.near_frames.proofs.NearKinds.{each-near}
 use Rattle.search.specs.Search.{firstWord, stepWords}
 
 -- ---- counting up

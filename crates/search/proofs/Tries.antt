@@ -12,9 +12,9 @@ use Rattle.bits.specs.Number.{sumTo}
 use Rattle.bits.proofs.Sum.{sum-ext, sum-add, sum-split}
 use Rattle.reed_muller.specs.Level.{belongs, dimension, codeword}
 use Rattle.reed_muller.proofs.Belongs.{belongs-cong, codeword-belongs}
-use Rattle.nearness.specs.Near.{nearKind, reach, IsNear, isNear, nearFrame, nearCost}
-use Rattle.nearness.proofs.NearKinds.{size}
-use Rattle.nearness.proofs.Frames.{reach-low, near-is, far-is}
+use Rattle.near_frames.specs.Near.{nearKind, nearLimit, IsNear, someNear, nearFrame, nearCost}
+use Rattle.near_frames.proofs.NearKinds.{size}
+use Rattle.near_frames.proofs.Frames.{limit-low, near-is, far-is}
 use Rattle.costs.specs.Costs.{gap, bitOf, cost, candidate, parityCost}
 use Rattle.costs.proofs.Residue.{parity-nearer}
 use Rattle.search.specs.Search.{firstWord, Searched, FoundPair}
@@ -28,10 +28,10 @@ sum-below m n f g h l =
     let u : sumTo m g ≡ sumTo m (λ i. f i + (g i - f i)) = sum-ext m (λ i k. omega (arith, l i)) in
     omega (arith, ap (λ (i : ℕ). sumTo i g) e, sum-split m (n - m) g, u, sum-add m f (λ i. g i - f i))
 
--- the number j is tried: no word that is the codeword of j makes, with any word of level 1, a frame within reach
+-- the number j is tried: no word that is the codeword of j makes, with any word of level 1, a frame within the limit
 pub record Tried (k : ℕ) (t : List ℤ) (j : ℕ) : Type 0 where
   pub none : (a b : ℕ) → ((p : ℕ) → p < 2 ^ k → bitOf a p ≡ codeword 1 k (bitOf j) p) → b < 2 ^ (2 ^ k) → belongs 3 k (bitOf b) ≡ true
-      → sumTo (2 ^ k) (cost t a b) < reach k → ⊥
+      → sumTo (2 ^ k) (cost t a b) < nearLimit k → ⊥
 
 module _ (k : ℕ) (t : List ℤ) (j w : ℕ) (held : w ≡ firstWord k j) where
   is : (p : ℕ) → p < 2 ^ k → bitOf w p ≡ codeword 1 k (bitOf j) p
@@ -41,7 +41,7 @@ module _ (k : ℕ) (t : List ℤ) (j w : ℕ) (held : w ≡ firstWord k j) where
   same a b e = sum-ext (2 ^ k) (λ p h. ap (λ (x : ℕ). gap 512 (getD t p (pos 0) -ℤ pos (256 * (x + 2 * bitOf b p)))) (e p h ∙ sym (is p h)))
 
   -- its first samples are too far from its parities
-  pub tried-far : (p : ℕ) → p ≤ 2 ^ k → reach k ≤ sumTo p (parityCost t w) → Tried k t j
+  pub tried-far : (p : ℕ) → p ≤ 2 ^ k → nearLimit k ≤ sumTo p (parityCost t w) → Tried k t j
   tried-far p h l = record {
     none = λ a b e lb wb s. omega (
       arith,
@@ -90,7 +90,7 @@ all-tried k t kind long all = record {
   where
     none : (f : List ℤ) → IsNear k t f → ⊥
     none f near =
-        let pair = pair-of k kind t long f (near .coded) (omega (arith, near .close, reach-low k kind)) in
+        let pair = pair-of k kind t long f (near .coded) (omega (arith, near .close, limit-low k kind)) in
         let num = numbered 1 k (omega (arith, size k kind .low)) (bitOf (pair .a)) (pair .word-a) in
         all (num .bits) (num .low) .none (pair .a) (pair .b)
         (λ p h. sym (num .is p h ∙ mod-eq-of-lt (omega arith))) (pair .low-b) (pair .word-b) (omega (arith, pair .costs, near .close))
@@ -100,11 +100,11 @@ all-tried k t kind long all = record {
 module _ (k : ℕ) (t : List ℤ) (kind : nearKind k ≡ true) (long : length t ≡ 2 ^ k) {found : Bool} {a b c : ℕ} (pair : FoundPair k t found a b c) where
   -- it is the near frame
   pub found-near : found ≡ true → (f : List ℤ) → length f ≡ 2 ^ k → ((p : ℕ) → p < length t → getD f p (pos 0) ≡ candidate t a b p)
-      → (isNear k t ≡ true) × ((lent : List ℤ) → nearFrame k t lent ≡ f) × (nearCost k t ≡ c)
+      → (someNear k t ≡ true) × ((lent : List ℤ) → nearFrame k t lent ≡ f) × (nearCost k t ≡ c)
   found-near y f l e =
       let g = frame-of k kind t long a b (pair .word-a y) (pair .word-b y) f l (λ p h. e p (omega (arith, h, long))) in
       let n = near-is k kind t long f (record { coded = g .0; close = omega (arith, g .1, pair .costs y, pair .within y) }) in
       (n .0, n .1, n .2 ∙ g .1 ∙ sym (pair .costs y))
 
-  pub found-none : found ≡ false → (isNear k t ≡ false) × ((lent : List ℤ) → nearFrame k t lent ≡ lent) × (nearCost k t ≡ 0)
+  pub found-none : found ≡ false → (someNear k t ≡ false) × ((lent : List ℤ) → nearFrame k t lent ≡ lent) × (nearCost k t ≡ 0)
   found-none n = far-is k kind t long (pair .none n)

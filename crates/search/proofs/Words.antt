@@ -12,7 +12,7 @@ use Rattle.bits.proofs.Sum.{sum-ext}
 use Rattle.bits.proofs.Digits.{xor-digit}
 use Rattle.reed_muller.specs.Level.{belongs}
 use Rattle.reed_muller.proofs.Belongs.{belongs-cong}
-use Rattle.nearness.specs.Near.{reach}
+use Rattle.near_frames.specs.Near.{nearLimit}
 use Rattle.costs.specs.Costs.{bitOf, costAt, cost, changeCosts}
 use Rattle.costs.proofs.Costs.{change-costs-at}
 use Rattle.search.specs.Search.{changeCost, Open, Changed, Searched}
@@ -44,7 +44,7 @@ module _ (t : List ℤ) (a base : ℕ) where
       );
     }
 
-    module _ (low : base < 2 ^ (2 ^ k)) (limit : ℕ) (limit-is : limit ≡ reach k) (f : Bool) (w c : ℕ) (h : Changed k (changeCosts t a base) base limit f w c) where
+    module _ (low : base < 2 ^ (2 ^ k)) (limit : ℕ) (limit-is : limit ≡ nearLimit k) (f : Bool) (w c : ℕ) (h : Changed k (changeCosts t a base) base limit f w c) where
       pub searched-found : f ≡ true → Searched k t a true (bitXor base w) c
       searched-found y = record {
         low = xor-lt (2 ^ k) base w low (h .low);

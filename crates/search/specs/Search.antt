@@ -2,16 +2,16 @@
 -- Words, samples and costs are those of `costs`. Private contracts cite it. Assumes nothing.
 use Prim.Native.Nat.{ℕ, suc, _+_, _-_, _*_, _^_, _<_}
 use mathlib.Core.Path.{_≡_}
-use mathlib.Core.Bool.{Bool, true, false}
+use mathlib.Core.Bool.{Bool, true, false, cond}
 use mathlib.Core.List.{List}
 use lib.Bits.{bitXor}
 use lib.Count.{trailingZeros}
 use lib.Dec.{eqb}
 use lib.ListN.{getD}
 use lib.IntN.{ℤ}
-use Rattle.bits.specs.Number.{sumTo, table, number, pick}
+use Rattle.bits.specs.Number.{sumTo, table, number}
 use Rattle.reed_muller.specs.Level.{codeword, belongs}
-use Rattle.nearness.specs.Near.{reach, IsNear}
+use Rattle.near_frames.specs.Near.{nearLimit, IsNear}
 use Rattle.costs.specs.Costs.{bitOf, cost}
 
 -- ---- level 0
@@ -35,7 +35,7 @@ changeCost costs w p = getD costs (2 * p + bitOf w p) 0
 -- the place from which on w agrees with the number before it: one past the digit of w that is 1 first; all n places at 0
 unfoldable pub firstPlace : ℕ → ℕ → ℕ
 unfolding trailingZeros
-firstPlace w n = pick (eqb w 0) n (trailingZeros 64 w + 1)
+firstPlace w n = cond (eqb w 0) n (trailingZeros 64 w + 1)
 
 -- the changes w are open to the search: base with them is a word of RM(3,k), and costs less than the limit
 pub record Open (k : ℕ) (costs : List ℕ) (base limit w : ℕ) : Type 0 where
@@ -52,18 +52,18 @@ pub record Changed (k : ℕ) (costs : List ℕ) (base limit : ℕ) (found : Bool
   pub no-word : found ≡ false → w ≡ 0
   pub no-cost : found ≡ false → c ≡ 0
 
--- what the search for level 1 answers, where a is the word of level 0: a word b of RM(3,k) whose cost c is within reach, or that there is none;
+-- what the search for level 1 answers, where a is the word of level 0: a word b of RM(3,k) whose cost c is within the limit, or that there is none;
 -- then both figures are 0
 pub record Searched (k : ℕ) (t : List ℤ) (a : ℕ) (found : Bool) (b c : ℕ) : Type 0 where
   pub low : b < 2 ^ (2 ^ k)
   pub word : found ≡ true → belongs 3 k (bitOf b) ≡ true
   pub costs : found ≡ true → c ≡ sumTo (2 ^ k) (cost t a b)
-  pub within : found ≡ true → c < reach k
-  pub none : found ≡ false → (v : ℕ) → v < 2 ^ (2 ^ k) → belongs 3 k (bitOf v) ≡ true → sumTo (2 ^ k) (cost t a v) < reach k → ⊥
+  pub within : found ≡ true → c < nearLimit k
+  pub none : found ≡ false → (v : ℕ) → v < 2 ^ (2 ^ k) → belongs 3 k (bitOf v) ≡ true → sumTo (2 ^ k) (cost t a v) < nearLimit k → ⊥
   pub no-word : found ≡ false → b ≡ 0
   pub no-cost : found ≡ false → c ≡ 0
 
--- what the search over both levels answers: words a and b of the two levels whose cost c is within reach, or that no frame is near; then the three
+-- what the search over both levels answers: words a and b of the two levels whose cost c is within the limit, or that no frame is near; then the three
 -- figures are 0
 pub record FoundPair (k : ℕ) (t : List ℤ) (found : Bool) (a b c : ℕ) : Type 0 where
   pub low-a : a < 2 ^ (2 ^ k)
@@ -71,7 +71,7 @@ pub record FoundPair (k : ℕ) (t : List ℤ) (found : Bool) (a b c : ℕ) : Typ
   pub word-a : found ≡ true → belongs 1 k (bitOf a) ≡ true
   pub word-b : found ≡ true → belongs 3 k (bitOf b) ≡ true
   pub costs : found ≡ true → c ≡ sumTo (2 ^ k) (cost t a b)
-  pub within : found ≡ true → c < reach k
+  pub within : found ≡ true → c < nearLimit k
   pub none : found ≡ false → (f : List ℤ) → IsNear k t f → ⊥
   pub no-a : found ≡ false → a ≡ 0
   pub no-b : found ≡ false → b ≡ 0

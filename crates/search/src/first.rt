@@ -6,7 +6,7 @@ ghost use mathlib.Core.Bool.{true};
 ghost use Prim.Native.Nat.{_+_, _-_, _^_, _≤_};
 ghost use lib.ListN.{length};
 ghost use Rattle.e8.specs.Energy.{Within};
-ghost use Rattle.nearness.specs.Near.{nearKind, reach};
+ghost use Rattle.near_frames.specs.Near.{nearKind, nearLimit};
 ghost use Rattle.costs.specs.Costs.{parityCosts};
 ghost use Rattle.search.specs.Search.{firstWord, stepWords, FoundPair};
 
@@ -21,7 +21,7 @@ pub struct Pair {
 // The squared distance that is no longer near: 1, 2 or 4.
 fn limit_of(kind: u8) -> u32
     requires { ⌜ nearKind kind ≡ true ⌝ }
-    ensures { λ r. ⌜ r ≡ reach kind ⌝ }
+    ensures { λ r. ⌜ r ≡ nearLimit kind ⌝ }
 {
     65536u32 << (kind - 3)
 }
@@ -48,7 +48,7 @@ fn next_word(kind: u8, steps: &[u64], word: u64, i: u64) -> u64
 
 // Goes through the codewords of level 0. One whose samples up to p are too far from its parities is left there; for one that is not, level 1 decides.
 fn first_level(kind: u8, samples: &[i32], limit: u32, costs: &[u32]) -> Pair
-    requires { ⌜ (nearKind kind ≡ true) × (length (now samples) ≡ 2 ^ kind) × Within 32768 (now samples) × (limit ≡ reach kind)
+    requires { ⌜ (nearKind kind ≡ true) × (length (now samples) ≡ 2 ^ kind) × Within 32768 (now samples) × (limit ≡ nearLimit kind)
         × (now costs ≡ parityCosts (now samples)) ⌝ }
     ensures { λ r. ⌜ FoundPair kind (now (samples .entry)) (r .found) (r .a) (r .b) (r .cost) ⌝ }
 {

@@ -9,7 +9,7 @@ ghost use mathlib.Core.Bool.{true};
 ghost use Prim.Native.Nat.{_^_};
 ghost use lib.ListN.{length};
 ghost use Rattle.e8.specs.Energy.{Within};
-ghost use Rattle.nearness.specs.Near.{nearKind, isNear, nearFrame, nearCost};
+ghost use Rattle.near_frames.specs.Near.{nearKind, someNear, nearFrame, nearCost};
 
 // Whether there is a near frame, and its squared distance; 0 where there is none.
 pub struct Place {
@@ -20,7 +20,7 @@ pub struct Place {
 // Writes the near frame, or leaves the lent coordinates as they are where there is none.
 pub fn locate(kind: u8, samples: &[i32], frame: &mut [i32]) -> Place
     requires { ⌜ (nearKind kind ≡ true) × (length (now samples) ≡ 2 ^ kind) × (length (now frame) ≡ 2 ^ kind) × Within 32768 (now samples) ⌝ }
-    ensures found { λ r. ⌜ r .found ≡ isNear kind (now (samples .entry)) ⌝ }
+    ensures found { λ r. ⌜ r .found ≡ someNear kind (now (samples .entry)) ⌝ }
     ensures cost { λ r. ⌜ r .cost ≡ nearCost kind (now (samples .entry)) ⌝ }
     ensures frame { λ r. ⌜ now (frame .exit) ≡ nearFrame kind (now (samples .entry)) (now (frame .entry)) ⌝ }
 {

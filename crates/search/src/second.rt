@@ -8,7 +8,7 @@ ghost use Prim.Native.Nat.{ℕ, _+_, _*_, _/_, _^_, _<_, _≤_};
 ghost use lib.ListN.{length, getD};
 ghost use Rattle.reed_muller.specs.Level.{belongs};
 ghost use Rattle.e8.specs.Energy.{Within};
-ghost use Rattle.nearness.specs.Near.{nearKind, reach};
+ghost use Rattle.near_frames.specs.Near.{nearKind, nearLimit};
 ghost use Rattle.costs.specs.Costs.{bitOf};
 ghost use Rattle.search.specs.Search.{firstPlace, Changed, Searched};
 
@@ -85,7 +85,7 @@ fn changes(kind: u8, n: usize, costs: &[u32], base: u64, limit: u32) -> Found
 
 // Finds a word of level 1 that makes a near frame with the word a of level 0, or that there is none.
 pub fn second_level(kind: u8, samples: &[i32], a: u64, limit: u32) -> Found
-    requires { ⌜ (nearKind kind ≡ true) × (length (now samples) ≡ 2 ^ kind) × Within 32768 (now samples) × (limit ≡ reach kind) ⌝ }
+    requires { ⌜ (nearKind kind ≡ true) × (length (now samples) ≡ 2 ^ kind) × Within 32768 (now samples) × (limit ≡ nearLimit kind) ⌝ }
     ensures { λ r. ⌜ Searched kind (now (samples .entry)) a (r .found) (r .word) (r .cost) ⌝ }
 {
     let n = samples.len();

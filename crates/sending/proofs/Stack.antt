@@ -1,6 +1,7 @@
 -- The levels of a kind: the stack of their codewords, by the numbers that hold them. Assumes nothing.
 use Prim.Native.Nat.{ℕ, zero, suc, _+_, _-_, _*_, _%_, _^_, _≤_, _<_}
 use mathlib.Core.Path.{_≡_, refl, sym, ap, _∙_, subst}
+use mathlib.Core.Bool.{cond}
 use mathlib.Core.List.{List, [], _∷_}
 use native.Mathlib.Nat.{pow-suc}
 use native.Mathlib.Decide.{decLt}
@@ -8,7 +9,7 @@ use native.Mathlib.Omega.{arith}
 use lib.Dec.{ltb}
 use lib.ListN.{length, getD, take}
 use borrow.Author.Tests.{lt-ltb, le-ltb}
-use Rattle.bits.specs.Number.{pick, given, number}
+use Rattle.bits.specs.Number.{given, number}
 use Rattle.bits.proofs.Table.{table-at}
 use Rattle.bits.specs.Message.{messageBit}
 use Rattle.bits.proofs.Message.{number-lt, number-ext, number-bit, digit-of, message-small}
@@ -34,7 +35,7 @@ over-below (suc n) c s h = rw (pow-suc 2 n) (omega (arith, h 0, over-below n (λ
 
 -- over those of n levels from i + 1 on, and then over level i where there is one
 pub over-more : (n i : ℕ) (c : ℕ → ℕ) (s : ℕ)
-    → pick (ltb i n) (c i + 2 * overLevels (n - suc i) (λ t. c (suc i + t)) s) (overLevels (n - suc i) (λ t. c (suc i + t)) s) ≡ overLevels (n - i) (λ t. c (i + t)) s
+    → cond (ltb i n) (c i + 2 * overLevels (n - suc i) (λ t. c (suc i + t)) s) (overLevels (n - suc i) (λ t. c (suc i + t)) s) ≡ overLevels (n - i) (λ t. c (i + t)) s
 unfolding overLevels
 over-more n i c s = go (decLt i n)
   where
@@ -42,7 +43,7 @@ over-more n i c s = go (decLt i n)
     later : ℕ
     later = overLevels (n - suc i) (λ t. c (suc i + t)) s
 
-    go : Dec (i < n) → pick (ltb i n) (c i + 2 * later) later ≡ overLevels (n - i) (λ t. c (i + t)) s
+    go : Dec (i < n) → cond (ltb i n) (c i + 2 * later) later ≡ overLevels (n - i) (λ t. c (i + t)) s
     go (yes l) =
         let e : n - i ≡ suc (n - suc i) = omega arith in
         let first : i + 0 ≡ i = omega arith in

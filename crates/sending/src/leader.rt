@@ -1,10 +1,10 @@
 // From the bits of a message to the coset leader, block by block.
 ghost use mathlib.Core.Path.{_≡_};
-ghost use mathlib.Core.Bool.{true};
+ghost use mathlib.Core.Bool.{true, cond};
 ghost use Prim.Native.Nat.{ℕ, _+_, _*_, _/_, _%_, _<_, _≤_, _^_};
 ghost use lib.Dec.{eqb};
 ghost use lib.ListN.{length, getD};
-ghost use Rattle.bits.specs.Number.{pick, given, table};
+ghost use Rattle.bits.specs.Number.{given, table};
 ghost use Rattle.bits.specs.Message.{messageBit};
 ghost use Rattle.e8.specs.Rows.{ints};
 ghost use Rattle.frames.specs.Kind.{isKind, levelBits};
@@ -93,7 +93,7 @@ fn set_at(w: u32, p: usize, one: u32) -> u32
 // The same steps where there is none, with shift and summand 0, so that the compiler takes the eight positions at once.
 fn over_level(there: bool, word: u64, s: [u32; 8]) -> [u32; 8]
     requires { ⌜ ((o : ℕ) → o < 8 → getD s o 0 < 2 ^ 30) ⌝ }
-    ensures { λ x. ⌜ x ≡ table 8 (λ o. pick there (word / 2 ^ o % 2 + 2 * getD s o 0) (getD s o 0)) ⌝ }
+    ensures { λ x. ⌜ x ≡ table 8 (λ o. cond there (word / 2 ^ o % 2 + 2 * getD s o 0) (getD s o 0)) ⌝ }
 {
     let w = (word % 256) as u32;
     let one = there as u32;

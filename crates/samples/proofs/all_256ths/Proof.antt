@@ -7,22 +7,22 @@ use lib.ListN.{length}
 use borrow.Author.Needs.{needs}
 use Rattle.integers.proofs.Zed.{tz}
 use Rattle.coordinates.proofs.Filled.{Filled, filled-none, filled-next, filled-all}
-use Rattle.samples.specs.Sample.{samples256}
+use Rattle.samples.specs.Sample.{samplesIn256ths}
 use Rattle.samples.proofs.Samples.{fit-each, samples-length, samples-at}
 use Rattle.samples.proofs.all_256ths.Statement.{statement}
 use Rattle.samples.proofs.all_256ths.Tie as tie
 
 abbrev Inv-loop : tie.InvT-loop
-Inv-loop samples out₀ i₀ out i = Filled (samples256 samples) out i
+Inv-loop samples out₀ i₀ out i = Filled (samplesIn256ths samples) out i
 
 abbrev μ-loop : tie.MeasureT-loop
 μ-loop samples out₀ i₀ out i = length samples - i
 
-long : (c : tie.Start Inv-loop μ-loop) → length (samples256 (c .args .samples .now)) ≡ length (c .args .out .now)
+long : (c : tie.Start Inv-loop μ-loop) → length (samplesIn256ths (c .args .samples .now)) ≡ length (c .args .out .now)
 long c = samples-length (c .args .samples .now) ∙ c .pre .0
 
 loop-holds : tie.Need-loop-holds Inv-loop μ-loop
-loop-holds c = let a = c .before .args in filled-none (samples256 (a .samples .now)) (a .out .now) (sym (long (c .before)))
+loop-holds c = let a = c .before .args in filled-none (samplesIn256ths (a .samples .now)) (a .out .now) (sym (long (c .before)))
 
 mul-x : tie.Need-mul-x Inv-loop μ-loop
 mul-x c = search needs
@@ -56,7 +56,7 @@ loop-again c =
     let t = c .before .before in
     let l = t .before .loop in
     let xs = t .before .before .before .args .samples .now in
-    filled-next (pos 0) (samples256 xs) (l .out) (l .i) _ (l .inv) (omega (arith, t .loop-test .taken, samples-length xs))
+    filled-next (pos 0) (samplesIn256ths xs) (l .out) (l .i) _ (l .inv) (omega (arith, t .loop-test .taken, samples-length xs))
     (tz refl (record { sfits = c .to-256ths .ok }) ∙ c .to-256ths .ensures ∙ sym (samples-at xs (l .i)))
 
 same-length : tie.Need-same-length Inv-loop μ-loop
@@ -66,7 +66,7 @@ returns : tie.Need-returns Inv-loop μ-loop
 returns c =
     let l = c .before .loop in
     let xs = c .before .before .before .args .samples .now in
-    filled-all (samples256 xs) (l .out) (l .i) (l .inv) (omega (arith, c .loop-test .left, samples-length xs))
+    filled-all (samplesIn256ths xs) (l .out) (l .i) (l .inv) (omega (arith, c .loop-test .left, samples-length xs))
 
 pub all-256ths-spec : {M : Type 1} → statement M
 all-256ths-spec =

@@ -9,7 +9,7 @@ use mir.Syntax.{w32}
 use mir.Val.{SFits, toZ, ofZ}
 use Rattle.integers.proofs.Zed.{tz, sfits-to}
 use Rattle.coordinates.proofs.Size.{fits}
-use Rattle.samples.specs.Sample.{in256ths}
+use Rattle.samples.specs.Sample.{sampleIn256ths}
 use Rattle.samples.proofs.Constants.{const-middle, const-256}
 use Rattle.samples.proofs.Whole.{fit-small}
 use Rattle.samples.proofs.Moved.{moved-count}
@@ -23,14 +23,14 @@ module _ (s : tie.Start) where
   abbrev y : Float
   y = mul binary32 (add binary32 x (ofBits binary32 1195376640)) (ofBits binary32 1132462080)
 
-  count : T (inSigned binary32 31 y) × (toSigned 31 y -ℤ pos 12582912 ≡ in256ths x)
+  count : T (inSigned binary32 31 y) × (toSigned 31 y -ℤ pos 12582912 ≡ sampleIn256ths x)
   count = rw (const-middle, const-256) (moved-count x (s .pre))
 
-  result : toZ w32 (ofZ w32 (toSigned 31 y)) -ℤ pos 12582912 ≡ in256ths x
+  result : toZ w32 (ofZ w32 (toSigned 31 y)) -ℤ pos 12582912 ≡ sampleIn256ths x
   result = ap (λ (z : ℤ). z -ℤ pos 12582912) (tz {w = w32} {z = toSigned 31 y} refl (record { sfits = toSigned-in 31 y })) ∙ count .1
 
-  result-fits : SFits w32 (in256ths x)
-  result-fits = fits (in256ths x) (omega (arith, fit-small x (s .pre)))
+  result-fits : SFits w32 (sampleIn256ths x)
+  result-fits = fits (sampleIn256ths x) (omega (arith, fit-small x (s .pre)))
 
 float-to-int-result : tie.Need-float-to-int-result
 float-to-int-result c = count (c .before) .0

@@ -2,7 +2,7 @@
 use mathlib.Core.Path.{sym, _∙_}
 use native.Mathlib.Omega.{arith}
 use borrow.Author.Needs.{needs}
-use Rattle.nearness.proofs.NearKinds.{size}
+use Rattle.near_frames.proofs.NearKinds.{size}
 use Rattle.search.proofs.Tries.{found-near, found-none}
 use Rattle.search.proofs.locate.Statement.{statement}
 use Rattle.search.proofs.locate.Tie as tie

@@ -22,7 +22,7 @@ use Rattle.frames.proofs.Limits.{few-levels, few-message-bits, block-room, byte
 use Rattle.frames.proofs.Refusals.{range-within}
 use Rattle.frames.proofs.Rows.{grade-low, grade-high}
 use Rattle.reading.specs.Words.{heldBits, heldMessage}
-use Rattle.reading.specs.Written.{written}
+use Rattle.reading.specs.Written.{writtenOver}
 use Rattle.reading.proofs.Joined.{sizes-ints}
 use Rattle.reading.proofs.Writing.{Carried, carried-length, carried-ext, carried-more, carried-last, written-length}
 use Rattle.reading.proofs.Rows.{quotients-part, blockRow}
@@ -240,7 +240,7 @@ put-bytes-requires-2 c κs =
 
 -- the last byte
 last : (c : tie.After-put-bytes2 Inv-loop μ-loop) → let e = c .before .before .before .before in
-    c .put-bytes2 .last .1 .1 .0 ≡ written (e .loop .at + 1) (heldBits (k e) (b e) (f e) (s e .args .words)) (s e .args .out .now)
+    c .put-bytes2 .last .1 .1 .0 ≡ writtenOver (e .loop .at + 1) (heldBits (k e) (b e) (f e) (s e .args .words)) (s e .args .out .now)
 last c =
     let d = c .before .before .before in
     let e = d .before in
@@ -249,7 +249,7 @@ last c =
 
 -- the bytes that hold the bits are all
 whole-message : (e : tie.At-loop Inv-loop μ-loop) (n : ℕ) → messageBits (k e) (b e) ≤ 8 * n
-    → written n (heldBits (k e) (b e) (f e) (s e .args .words)) (s e .args .out .now) ≡ heldMessage (k e) (b e) (f e) (s e .args .words)
+    → writtenOver n (heldBits (k e) (b e) (f e) (s e .args .words)) (s e .args .out .now) ≡ heldMessage (k e) (b e) (f e) (s e .args .words)
 whole-message e n h = all-bytes (k e) (b e) (s e .pre .0) (low e) (f e) (s e .pre .2) (s e .args .words) n (s e .args .out .now) (s e .pre .4) h
 
 same-length : tie.Need-same-length Inv-loop μ-loop

@@ -1,13 +1,13 @@
 -- `same`: the coordinates below i are compared. Assumes nothing.
 use Prim.Native.Nat.{_-_, _≤_}
 use mathlib.Core.Path.{_≡_, refl, sym, ap₂, _∙_}
+use mathlib.Core.Bool.{cond}
 use native.Mathlib.Omega.{arith}
 use lib.IntN.{ℤ}
 use mir.Syntax.{w32}
 use mir.Val.{toZ, ofZ}
 use borrow.Author.Needs.{needs}
 use Rattle.integers.proofs.Zed.{tz}
-use Rattle.bits.specs.Number.{pick}
 use Rattle.frames.specs.Reading.{sameNumber, sameFrame}
 use Rattle.frames.proofs.Frame.{at}
 use Rattle.reading.proofs.Same.{sameFrom, same-more, same-all}
@@ -51,7 +51,7 @@ loop-again c =
     let l = t .before .loop in
     let x : toZ w32 (ofZ w32 (at (a .a .now) (l .i))) ≡ at (a .a .now) (l .i) = tz refl (record { sfits = c .before .before .z .given }) in
     let y : toZ w32 (ofZ w32 (at (a .b .now) (l .i))) ≡ at (a .b .now) (l .i) = tz refl (record { sfits = c .before .y .given }) in
-    let e = c .differs .ensures ∙ ap₂ (λ (x y : ℤ). pick (sameNumber x y) 0 1) x y in (
+    let e = c .differs .ensures ∙ ap₂ (λ (x y : ℤ). cond (sameNumber x y) 0 1) x y in (
       omega arith,
       same-more (a .a .now) (a .b .now) (l .d) (c .differs .result) (l .i) (omega arith) (omega (arith, t .before .before .pre)) e ∙ l .inv .1,
     )

@@ -7,7 +7,7 @@ use lib.IntN.{ℤ}
 use lib.ListN.{length}
 use lib.Seq.{take-at}
 use borrow.Author.Needs.{needs}
-use Rattle.nearness.proofs.NearKinds.{size}
+use Rattle.near_frames.proofs.NearKinds.{size}
 use Rattle.costs.specs.Costs.{parityCosts}
 use Rattle.costs.proofs.Costs.{parity-costs-length}
 use Rattle.search.proofs.Front.{front-length, front-inside}

@@ -13,9 +13,9 @@ use borrow.Author.Needs.{needs}
 use Rattle.bits.specs.Number.{sumTo}
 use Rattle.bits.proofs.Digits.{one-shifted}
 use Rattle.reed_muller.specs.Level.{dimension}
-use Rattle.nearness.specs.Near.{nearKind, reach}
-use Rattle.nearness.proofs.NearKinds.{each-near, size}
-use Rattle.nearness.proofs.Frames.{reach-low}
+use Rattle.near_frames.specs.Near.{nearKind, nearLimit}
+use Rattle.near_frames.proofs.NearKinds.{each-near, size}
+use Rattle.near_frames.proofs.Frames.{limit-low}
 use Rattle.costs.specs.Costs.{bitOf, parityCost}
 use Rattle.costs.proofs.Nearest.{gap-small}
 use Rattle.costs.proofs.Costs.{parity-costs-length, parity-costs-at}
@@ -44,8 +44,8 @@ few k kind = omega (arith, bits-are k kind, size k kind .high)
 count-is : (k : ℕ) → nearKind k ≡ true → (d : ℕ) → d ≡ dimension 1 k → 1 * 2 ^ d % 2 ^ 64 ≡ 2 ^ dimension 1 k
 count-is k kind d e = ap (λ (n : ℕ). 1 * 2 ^ n % 2 ^ 64) e ∙ one-shifted (dimension 1 k) 64 (omega (arith, few k kind))
 
-reach-pos : (k : ℕ) → nearKind k ≡ true → 0 < reach k
-reach-pos = each-near (λ k. 0 < reach k) (omega arith) (omega arith) (omega arith)
+limit-pos : (k : ℕ) → nearKind k ≡ true → 0 < nearLimit k
+limit-pos = each-near (λ k. 0 < nearLimit k) (omega arith) (omega arith) (omega arith)
 
 no-sum : (f : ℕ → ℕ) → 0 ≡ sumTo 0 f
 unfolding sumTo
@@ -129,7 +129,7 @@ next-word-requires c κs =
     )
 
 loop-holds : tie.Need-loop-holds Inv-loop μ-loop Inv-next μ-next
-loop-holds c = (omega arith, no-sum (parityCost (ts c) (a c)), omega (arith, s c .pre .3, reach-pos (k c) (s c .pre .0)))
+loop-holds c = (omega arith, no-sum (parityCost (ts c) (a c)), omega (arith, s c .pre .3, limit-pos (k c) (s c .pre .0)))
 
 mul-d : tie.Need-mul-d Inv-loop μ-loop Inv-next μ-next
 mul-d c = search needs
@@ -157,7 +157,7 @@ add-d-2 c =
     let b = c .before in
     let g = h b in
     let z = getD (ts g) (p b) (pos 0) -ℤ pos (256 * bitOf (a g) (p b)) in
-    record { fits = omega (arith, b .before .before .loop .inv .2, s g .pre .3, reach-low (k g) (s g .pre .0), parity b, gap-small 256 (omega arith) z) }
+    record { fits = omega (arith, b .before .before .loop .inv .2, s g .pre .3, limit-low (k g) (s g .pre .0), parity b, gap-small 256 (omega arith) z) }
 
 next-less : tie.Need-next-less Inv-loop μ-loop Inv-next μ-next
 next-less c = search needs

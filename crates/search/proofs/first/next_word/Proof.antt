@@ -9,8 +9,8 @@ use lib.Count.{trailingZeros}
 use lib.ListN.{length, getD}
 use lib.Pow.{pow-mono, pow-pos}
 use Rattle.bits.proofs.Digits.{one-shifted}
-use Rattle.nearness.specs.Near.{nearKind}
-use Rattle.nearness.proofs.NearKinds.{size}
+use Rattle.near_frames.specs.Near.{nearKind}
+use Rattle.near_frames.proofs.NearKinds.{size}
 use Rattle.search.specs.Search.{firstWord, stepWords}
 use Rattle.search.proofs.Carry.{first-of, first-within}
 use Rattle.search.proofs.Steps.{steps-are, step-is, next-is}

@@ -7,7 +7,7 @@ use native.Mathlib.Omega.{arith}
 use lib.Pow.{pow-mono}
 use lib.ListN.{length, getD, length-set, getD-replicate}
 use Rattle.bits.proofs.Digits.{one-shifted}
-use Rattle.nearness.proofs.NearKinds.{size}
+use Rattle.near_frames.proofs.NearKinds.{size}
 use Rattle.search.specs.Search.{Open}
 use Rattle.search.proofs.Carry.{after, after-more}
 use Rattle.search.proofs.Changes.{costFrom, from-more, Partial, partial-more, Passed, passed-first, too-far, no-word, passed-on, changed-found, changed-none}

@@ -8,8 +8,8 @@ use lib.Pow.{pow-pos}
 use lib.ListN.{length, getD, take}
 use lib.Seq.{take-at}
 use borrow.Author.Needs.{needs}
-use Rattle.nearness.proofs.NearKinds.{size}
-use Rattle.nearness.proofs.Frames.{reach-low}
+use Rattle.near_frames.proofs.NearKinds.{size}
+use Rattle.near_frames.proofs.Frames.{limit-low}
 use Rattle.costs.specs.Costs.{changeCosts}
 use Rattle.costs.proofs.Chosen.{nearest-low}
 use Rattle.costs.proofs.Costs.{change-costs-length, change-costs-low}
@@ -94,7 +94,7 @@ changes-requires c κs =
       s w .pre .1,
       ap length (front w _) ∙ change-costs-length (ts w) (a w) (base w),
       omega (arith, s w .pre .3, pow-pos (s w .args .kind - 3)),
-      omega (arith, s w .pre .3, reach-low (s w .args .kind) (s w .pre .0)),
+      omega (arith, s w .pre .3, limit-low (s w .args .kind) (s w .pre .0)),
       λ i. subst (λ (xs : List ℕ). getD xs i 0 ≤ 2 ^ 20) (sym (front w _)) (change-costs-low (ts w) (a w) (base w) i),
     )
 

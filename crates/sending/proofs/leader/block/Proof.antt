@@ -1,6 +1,7 @@
 -- `leader::block` meets its contract: the block's numbers are over the levels from i on. Assumes nothing.
 use Prim.Native.Nat.{ℕ, suc, _+_, _-_, _*_, _/_, _%_, _^_, _≤_, _<_}
 use mathlib.Core.Path.{_≡_, refl, sym, ap, ap₂, _∙_}
+use mathlib.Core.Bool.{cond}
 use mathlib.Core.List.{List}
 use native.Mathlib.Nat.{zero-add, mul-le-mul}
 use native.Mathlib.Omega.{arith}
@@ -8,7 +9,7 @@ use lib.Dec.{ltb}
 use lib.ListN.{getD}
 use lib.Pow.{pow-mono}
 use borrow.Author.Needs.{needs}
-use Rattle.bits.specs.Number.{pick, table, number}
+use Rattle.bits.specs.Number.{table, number}
 use Rattle.bits.specs.Message.{messageBit}
 use Rattle.bits.proofs.Message.{bytes-are, number-bit, message-small}
 use Rattle.bits.proofs.Digits.{digit, digit-small, digit-from}
@@ -91,9 +92,9 @@ module _ (s : tie.Start Inv-loop μ-loop) where
 
   -- over level i too
   one-more : (i : ℕ) {x : List ℕ} → x ≡ table 8 (F (suc i))
-      → table 8 (λ o. pick (ltb i n) (getD words i 0 / 2 ^ q / 2 ^ o % 2 + 2 * getD x o 0) (getD x o 0)) ≡ table 8 (F i)
+      → table 8 (λ o. cond (ltb i n) (getD words i 0 / 2 ^ q / 2 ^ o % 2 + 2 * getD x o 0) (getD x o 0)) ≡ table 8 (F i)
   one-more i {x} e = table-ext 8 (λ o l.
-      ap₂ (λ (d y : ℕ). pick (ltb i n) (d + 2 * y) y) (digit-from (getD words i 0) q o) (at (suc i) e o l)
+      ap₂ (λ (d y : ℕ). cond (ltb i n) (d + 2 * y) y) (digit-from (getD words i 0) q o) (at (suc i) e o l)
       ∙ over-more n i (λ t. digit (getD words t 0) (q + o)) (own message from b o))
 
   all-there : {x : List ℕ} → x ≡ table 8 (F 0) → x ≡ table 8 (λ o. overLevels n (λ i. digit (getD words i 0) (q + o)) (own message from b o))

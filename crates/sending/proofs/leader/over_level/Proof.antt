@@ -1,14 +1,14 @@
 -- `leader::over_level` meets its contract: the positions passed so far have the level. Assumes nothing.
 use Prim.Native.Nat.{ℕ, zero, suc, _+_, _-_, _*_, _%_, _^_, _<_}
 use mathlib.Core.Path.{_≡_, sym, ap, _∙_}
-use mathlib.Core.Bool.{Bool, true, false}
+use mathlib.Core.Bool.{Bool, true, false, cond}
 use mathlib.Core.List.{List}
 use native.Mathlib.Omega.{arith}
 use lib.Dec.{eqb}
 use lib.ListN.{length, getD}
 use mir.Val.{boolByte}
 use borrow.Author.Needs.{needs}
-use Rattle.bits.specs.Number.{pick, given, table}
+use Rattle.bits.specs.Number.{given, table}
 use Rattle.bits.proofs.Digits.{digit, digit-small, digit-mod}
 use Rattle.bits.proofs.Table.{length-table, table-at}
 use Rattle.coordinates.proofs.Filled.{Filled, filled-none, filled-next, filled-all}
@@ -17,7 +17,7 @@ use Rattle.sending.proofs.leader.over_level.Tie as tie
 
 -- the number at o, with its level
 abbrev made : Bool → ℕ → List ℕ → ℕ → ℕ
-made there word s o = pick there (digit word o + 2 * getD s o 0) (getD s o 0)
+made there word s o = cond there (digit word o + 2 * getD s o 0) (getD s o 0)
 
 abbrev Inv-loop : tie.InvT-loop
 Inv-loop there word s w one x₀ p₀ x p = Filled (table 8 (made there word s)) x p
@@ -44,14 +44,14 @@ shift-small true = omega arith
 shift-small false = omega arith
 
 module _ {z : ℕ} (low : z < 2 ^ 30) where
-  over : (there : Bool) (d : ℕ) → d < 2 → z * 2 ^ boolByte there % 2 ^ 32 + given (eqb d 1) (boolByte there) ≡ pick there (d + 2 * z) z
+  over : (there : Bool) (d : ℕ) → d < 2 → z * 2 ^ boolByte there % 2 ^ 32 + given (eqb d 1) (boolByte there) ≡ cond there (d + 2 * z) z
   over true zero l = omega arith
   over true (suc zero) l = omega arith
   over false zero l = omega arith
   over false (suc zero) l = omega arith
   over there (suc (suc d)) l = absurd (omega arith)
 
-  over-small : (there : Bool) (d : ℕ) → d < 2 → pick there (d + 2 * z) z < 2 ^ 32
+  over-small : (there : Bool) (d : ℕ) → d < 2 → cond there (d + 2 * z) z < 2 ^ 32
   over-small true d l = omega arith
   over-small false d l = omega arith
 
