@@ -103,8 +103,8 @@ module _ (k : ℕ) (t : List ℤ) (kind : nearKind k ≡ true) (long : length t 
       → (someNear k t ≡ true) × ((lent : List ℤ) → nearFrame k t lent ≡ f) × (nearCost k t ≡ c)
   found-near y f l e =
       let g = frame-of k kind t long a b (pair .word-a y) (pair .word-b y) f l (λ p h. e p (omega (arith, h, long))) in
-      let n = near-is k kind t long f (record { coded = g .0; close = omega (arith, g .1, pair .costs y, pair .within y) }) in
+      let n = near-is k kind t f (record { samples = long; coded = g .0; close = omega (arith, g .1, pair .costs y, pair .within y) }) in
       (n .0, n .1, n .2 ∙ g .1 ∙ sym (pair .costs y))
 
   pub found-none : found ≡ false → (someNear k t ≡ false) × ((lent : List ℤ) → nearFrame k t lent ≡ lent) × (nearCost k t ≡ 0)
-  found-none n = far-is k kind t long (pair .none n)
+  found-none n = far-is k kind t (pair .none n)
