@@ -11,10 +11,9 @@ use lib.Bits.{bitXor}
 use lib.Count.{trailingZeros}
 use lib.ListN.{length, getD, set}
 use lib.Seq.{getD-set-same, getD-set-other}
-use Rattle.bits.specs.Number.{sumTo}
+use Rattle.bits.specs.Number.{sumTo, bitOf}
 use Rattle.bits.proofs.Sum.{sum-ext, sum-split, sum-first}
 use Rattle.reed_muller.specs.Level.{belongs}
-use Rattle.costs.specs.Costs.{bitOf}
 use Rattle.search.specs.Search.{changeCost, firstPlace, Open, Changed}
 use Rattle.search.proofs.Carry.{agree-later, after, after-more, after-agree, after-fits, zeros-from, carry-agree, first-of-zero, first-of, first-within}
 

@@ -8,14 +8,14 @@ use native.Mathlib.Omega.{arith}
 use lib.ListN.{length, getD}
 use lib.IntN.{ℤ, pos, _-ℤ_}
 use lib.Pow.{pow-pos}
-use Rattle.bits.specs.Number.{sumTo}
+use Rattle.bits.specs.Number.{sumTo, bitOf}
 use Rattle.bits.proofs.Sum.{sum-ext, sum-add, sum-split}
 use Rattle.reed_muller.specs.Level.{belongs, dimension, codeword}
 use Rattle.reed_muller.proofs.Belongs.{belongs-cong, codeword-belongs}
 use Rattle.near_frames.specs.Near.{nearKind, nearLimit, IsNear, someNear, nearFrame, nearCost}
 use Rattle.near_frames.proofs.NearKinds.{size}
 use Rattle.near_frames.proofs.Frames.{limit-low, near-is, far-is}
-use Rattle.costs.specs.Costs.{gap, bitOf, cost, candidate, parityCost}
+use Rattle.costs.specs.Costs.{gap, cost, candidate, parityCost}
 use Rattle.costs.proofs.Residue.{parity-nearer}
 use Rattle.search.specs.Search.{firstWord, Searched, FoundPair}
 use Rattle.search.proofs.Pairs.{pair-of, frame-of, numbered}

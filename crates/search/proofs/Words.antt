@@ -7,13 +7,13 @@ use native.Mathlib.Omega.{arith}
 use lib.Bits.{bitXor, xor-lt}
 use lib.ListN.{length}
 use lib.IntN.{ℤ}
-use Rattle.bits.specs.Number.{sumTo}
+use Rattle.bits.specs.Number.{sumTo, bitOf}
 use Rattle.bits.proofs.Sum.{sum-ext}
 use Rattle.bits.proofs.Digits.{xor-digit}
 use Rattle.reed_muller.specs.Level.{belongs}
 use Rattle.reed_muller.proofs.Belongs.{belongs-cong}
 use Rattle.near_frames.specs.Near.{nearLimit}
-use Rattle.costs.specs.Costs.{bitOf, costAt, cost, changeCosts}
+use Rattle.costs.specs.Costs.{costAt, cost, changeCosts}
 use Rattle.costs.proofs.Costs.{change-costs-at}
 use Rattle.search.specs.Search.{changeCost, Open, Changed, Searched}
 

@@ -9,10 +9,10 @@ use lib.Count.{trailingZeros}
 use lib.Dec.{eqb}
 use lib.ListN.{getD}
 use lib.IntN.{ℤ}
-use Rattle.bits.specs.Number.{sumTo, table, number}
+use Rattle.bits.specs.Number.{sumTo, table, number, bitOf}
 use Rattle.reed_muller.specs.Level.{codeword, belongs}
 use Rattle.near_frames.specs.Near.{nearLimit, IsNear}
-use Rattle.costs.specs.Costs.{bitOf, cost}
+use Rattle.costs.specs.Costs.{cost}
 
 -- ---- level 0
 

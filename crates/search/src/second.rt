@@ -1,7 +1,7 @@
 // The search for the word of level 1, where that of level 0 is given. It starts from the nearest word and goes through the changes of its bits as
 // numbers are counted, a place of a higher coordinate counting more; the distance is kept for the coordinates from each place on. Changes that are
 // too far by place p are left, with all others that agree with them from p on.
-use costs::bit;
+use bits::word::bit;
 ghost use mathlib.Core.Path.{_≡_};
 ghost use mathlib.Core.Bool.{true};
 ghost use Prim.Native.Nat.{ℕ, _+_, _*_, _/_, _^_, _<_, _≤_};
@@ -9,7 +9,7 @@ ghost use lib.ListN.{length, getD};
 ghost use Rattle.reed_muller.specs.Level.{belongs};
 ghost use Rattle.e8.specs.Energy.{Within};
 ghost use Rattle.near_frames.specs.Near.{nearKind, nearLimit};
-ghost use Rattle.costs.specs.Costs.{bitOf};
+ghost use Rattle.bits.specs.Number.{bitOf};
 ghost use Rattle.search.specs.Search.{firstPlace, Changed, Searched};
 
 // A word, or changes of one, and the squared distance; 0 each where there is none.

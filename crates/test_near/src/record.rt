@@ -1,11 +1,11 @@
 // A record of the data: samples, what is lent with them, and what the near reading has to answer and to leave (tools/second-coder/README.md).
 use super::tally;
 use super::tally::judge;
+use near_reading::NearReading;
 use test_data::fill;
 use test_data::float_in;
 use test_data::same_float;
 use test_data::size;
-use near_reading::NearReading;
 
 // A reading without its samples and its message: how many of both are lent, the distance before the call, and the number and the distance
 // that it has to give.

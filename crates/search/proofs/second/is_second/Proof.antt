@@ -5,7 +5,7 @@ use Rattle.bits.proofs.Message.{digit-of}
 use Rattle.reed_muller.proofs.Parity.{backwards-small}
 use Rattle.reed_muller.proofs.Belongs.{belongs-bits}
 use Rattle.near_frames.proofs.NearKinds.{size}
-use Rattle.costs.specs.Costs.{bitOf}
+use Rattle.bits.specs.Number.{bitOf}
 use Rattle.search.proofs.second.is_second.Statement.{statement}
 use Rattle.search.proofs.second.is_second.Tie as tie
 
