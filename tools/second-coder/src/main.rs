@@ -15,7 +15,7 @@ fn crates(name: &str) -> PathBuf {
 fn write_files() -> std::io::Result<()> {
     let all = vectors::all_messages();
     let (file, counts) = vectors::vectors(&all);
-    std::fs::write(crates("vectors/data/vectors.bin"), &file)?;
+    std::fs::write(crates("test_vectors/data/vectors.bin"), &file)?;
     println!("| kind | grade | messages | with ties | most frames of least energy |");
     println!("|---|---|---|---|---|");
     for count in &counts {
@@ -42,26 +42,26 @@ fn write_files() -> std::io::Result<()> {
         ("different", 0),
     ];
     let printed: String = checks.iter().map(|(check, count)| format!("{check} {count}\n")).collect();
-    std::fs::write(crates("vectors/stdout"), printed)?;
+    std::fs::write(crates("test_vectors/stdout"), printed)?;
     let (ways, sorts) = vectors::ways(&all);
-    std::fs::write(crates("ways/data/ways.bin"), &ways)?;
+    std::fs::write(crates("test_ways/data/ways.bin"), &ways)?;
     println!("ways.bin: {sorts:?} messages of each sort, the refused last, {} bytes", ways.len());
     let names = ["a bit alone, or none", "sparse", "dense", "with ties", "refused"];
     let printed: String = names.iter().zip(sorts).map(|(name, count)| format!("{name} {count}\n")).collect();
-    std::fs::write(crates("ways/stdout"), format!("{printed}different 0\n"))?;
+    std::fs::write(crates("test_ways/stdout"), format!("{printed}different 0\n"))?;
     let sheets = vectors::sheet_file();
-    std::fs::write(crates("sheets/data/sheets.bin"), &sheets)?;
+    std::fs::write(crates("test_sheet/data/sheets.bin"), &sheets)?;
     let count = vectors::sheets().len();
     println!("sheets.bin: {count} sheets, {} bytes", sheets.len());
     let mut printed = String::new();
     for (name, sheet) in vectors::files() {
-        std::fs::write(crates("sheets/data").join(name), &sheet)?;
+        std::fs::write(crates("test_sheet/data").join(name), &sheet)?;
         println!("{name}: {} bytes", sheet.len());
         printed += &sheet::listing(&sheet);
     }
-    std::fs::write(crates("sheets/stdout"), format!("{printed}sheets {count}\ndifferent 0\n"))?;
+    std::fs::write(crates("test_sheet/stdout"), format!("{printed}sheets {count}\ndifferent 0\n"))?;
     let (calls, calls::Counts { sorts, functions, numbers }) = calls::call_file();
-    std::fs::write(crates("calls/data/calls.bin"), &calls)?;
+    std::fs::write(crates("test_calls/data/calls.bin"), &calls)?;
     println!(
         "calls.bin: {sorts:?}, {functions:?} calls of each function, {numbers:?} answered by each number, {} bytes",
         calls.len()
@@ -70,19 +70,19 @@ fn write_files() -> std::io::Result<()> {
     let mut printed: String = names.iter().zip(functions).map(|(name, count)| format!("{name} {count}\n")).collect();
     // Every call is made of an exported function too.
     printed += &format!("exported {}\ndifferent 0\n", functions.iter().sum::<usize>());
-    std::fs::write(crates("calls/stdout"), printed)?;
+    std::fs::write(crates("test_calls/stdout"), printed)?;
     let (queues, sorts, numbers) = queues::queue_file();
-    std::fs::write(crates("queues/data/queues.bin"), &queues)?;
+    std::fs::write(crates("test_queue/data/queues.bin"), &queues)?;
     println!("queues.bin: {sorts:?}, {numbers:?} answered by each number, {} bytes", queues.len());
     // A queue is sent one by one where nothing is refused before it.
     let (count, one_by_one) = (numbers.iter().sum::<usize>(), numbers[0] + numbers[5] + numbers[11]);
     let printed = format!("in one call {count}\nexported {count}\none by one {one_by_one}\ndifferent 0\n");
-    std::fs::write(crates("queues/stdout"), printed)?;
+    std::fs::write(crates("test_queue/stdout"), printed)?;
     let (noisy, noisy::Counts { sorts, numbers }) = noisy::noisy_file();
-    std::fs::write(crates("noisy/data/noisy.bin"), &noisy)?;
+    std::fs::write(crates("test_near/data/noisy.bin"), &noisy)?;
     println!("noisy.bin: {sorts:?}, {numbers:?} answered by each number, {} bytes", noisy.len());
     let count: usize = numbers.iter().sum();
-    std::fs::write(crates("noisy/stdout"), format!("library {count}\nexported {count}\ndifferent 0\n"))?;
+    std::fs::write(crates("test_near/stdout"), format!("library {count}\nexported {count}\ndifferent 0\n"))?;
     let sheet = vectors::program_sheet();
     let listing = sheet::listing(&sheet);
     std::fs::write(crates("sheet/stdin"), &sheet)?;
@@ -141,7 +141,7 @@ fn compare(program: &str, count: u64, seed: u64) -> std::io::Result<u64> {
 
 /// The sheets of sheets.bin, with the listings that stand there.
 fn stored(program: &str) -> std::io::Result<u64> {
-    let file = std::fs::read(crates("sheets/data/sheets.bin"))?;
+    let file = std::fs::read(crates("test_sheet/data/sheets.bin"))?;
     let mut rest = &file[..];
     let sheets = std::iter::from_fn(|| {
         let (head, after) = rest.split_first_chunk::<12>()?;

@@ -327,7 +327,7 @@ fn queues() {
 /// The vectors that the second coder wrote, by the format of its README.
 #[test]
 fn written_vectors() {
-    let path = concat!(env!("CARGO_MANIFEST_DIR"), "/../../crates/vectors/data/vectors.bin");
+    let path = concat!(env!("CARGO_MANIFEST_DIR"), "/../../crates/test_vectors/data/vectors.bin");
     let file = std::fs::read(path).expect("the second coder's vectors are there");
     let (mut rest, mut count) = (&file[..], 0);
     while let [kind, grade, bytes, n0, n1, n2, n3, other, after @ ..] = rest {
