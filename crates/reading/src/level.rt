@@ -62,7 +62,7 @@ pub fn level_words(kind: u8, frame: &[i32]) -> [u64; 3]
         if count <= i {
             return words;
         }
-        words[i] = reed_muller::transformed(level_word(frame, i), m);
+        words[i] = level_transform::transformed(level_word(frame, i), m);
         i += 1;
     }
     words

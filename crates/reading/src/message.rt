@@ -24,35 +24,35 @@ pub fn write_levels(kind: u8, words: [u64; 3], out: &mut [u8]) -> u64
     ensures rest { λ r. ⌜ r ≡ number (levelBits kind % 8) (λ t. getD (heldMessages kind 0 (degrees kind) words) (8 * (levelBits kind / 8) + t) 0) ⌝ }
 {
     if kind == 3 {
-        return reed_muller::message_held(words[0], 3, 4);
+        return level_message::message_held(words[0], 3, 4);
     }
     if kind == 4 {
-        let low = reed_muller::message_held(words[0], 4, 5);
+        let low = level_message::message_held(words[0], 4, 5);
         return bits::put_bytes(
-            low ^ (reed_muller::message_held(words[1], 4, 15) << 5),
+            low ^ (level_message::message_held(words[1], 4, 15) << 5),
             2,
             out,
             0,
         );
     }
     if kind == 5 {
-        let low = reed_muller::message_held(words[0], 5, 6);
+        let low = level_message::message_held(words[0], 5, 6);
         return bits::put_bytes(
-            low ^ (reed_muller::message_held(words[1], 5, 26) << 6),
+            low ^ (level_message::message_held(words[1], 5, 26) << 6),
             4,
             out,
             0,
         );
     }
-    let low = reed_muller::message_held(words[0], 6, 7);
+    let low = level_message::message_held(words[0], 6, 7);
     let rest = bits::put_bytes(
-        low ^ (reed_muller::message_held(words[1], 6, 42) << 7),
+        low ^ (level_message::message_held(words[1], 6, 42) << 7),
         6,
         out,
         0,
     );
     bits::put_bytes(
-        rest ^ (reed_muller::message_held(words[2], 6, 63) << 1),
+        rest ^ (level_message::message_held(words[2], 6, 63) << 1),
         8,
         out,
         6,

@@ -38,7 +38,7 @@ fn broken_level(kind: u8, words: [u64; 3]) -> u8
         if i < count {
             let degree = kind_table::degree(kind, i);
             let bits = words[i];
-            if !reed_muller::clear_above(bits, m, degree) {
+            if !level_transform::clear_above(bits, m, degree) {
                 return kind_table::broken(i);
             }
         }

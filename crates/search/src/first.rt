@@ -53,7 +53,7 @@ fn first_level(kind: u8, samples: &[i32], limit: u32, costs: &[u32]) -> Pair
     ensures { λ r. ⌜ FoundPair kind (now (samples .entry)) (r .found) (r .a) (r .b) (r .cost) ⌝ }
 {
     let n = samples.len();
-    let count = 1u64 << reed_muller::dimension_of(kind as usize, 1);
+    let count = 1u64 << level_tables::dimension_of(kind as usize, 1);
     let steps = &STEPS;
     let mut word: u64 = 0;
     let mut i: u64 = 0;

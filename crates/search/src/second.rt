@@ -25,7 +25,7 @@ fn is_second(kind: u8, word: u64) -> bool
     ensures { λ r. ⌜ r ≡ belongs 3 kind (bitOf word) ⌝ }
 {
     let m = kind as usize;
-    reed_muller::clear_above(reed_muller::transformed(word, m), m, 3)
+    level_transform::clear_above(level_transform::transformed(word, m), m, 3)
 }
 
 // The place from which on w agrees with the number before it.

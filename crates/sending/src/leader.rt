@@ -20,29 +20,29 @@ pub fn codewords(kind: u8, message: &[u8]) -> [u64; 3]
     // so that the compiler lays out a code for each level.
     if kind == 3 {
         return [
-            reed_muller::codeword_held(bits::bits_at(message, 0, 4), 3, 1),
+            level_codeword::codeword_held(bits::bits_at(message, 0, 4), 3, 1),
             0,
             0,
         ];
     }
     if kind == 4 {
         return [
-            reed_muller::codeword_held(bits::bits_at(message, 0, 5), 4, 1),
-            reed_muller::codeword_held(bits::bits_at(message, 5, 15), 4, 3),
+            level_codeword::codeword_held(bits::bits_at(message, 0, 5), 4, 1),
+            level_codeword::codeword_held(bits::bits_at(message, 5, 15), 4, 3),
             0,
         ];
     }
     if kind == 5 {
         return [
-            reed_muller::codeword_held(bits::bits_at(message, 0, 6), 5, 1),
-            reed_muller::codeword_held(bits::bits_at(message, 6, 26), 5, 3),
+            level_codeword::codeword_held(bits::bits_at(message, 0, 6), 5, 1),
+            level_codeword::codeword_held(bits::bits_at(message, 6, 26), 5, 3),
             0,
         ];
     }
     [
-        reed_muller::codeword_held(bits::bits_at(message, 0, 7), 6, 1),
-        reed_muller::codeword_held(bits::bits_at(message, 7, 42), 6, 3),
-        reed_muller::codeword_held(bits::bits_at(message, 49, 63), 6, 5),
+        level_codeword::codeword_held(bits::bits_at(message, 0, 7), 6, 1),
+        level_codeword::codeword_held(bits::bits_at(message, 7, 42), 6, 3),
+        level_codeword::codeword_held(bits::bits_at(message, 49, 63), 6, 5),
     ]
 }
 

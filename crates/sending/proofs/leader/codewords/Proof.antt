@@ -9,7 +9,7 @@ use Rattle.bits.specs.Number.{table}
 use Rattle.bits.specs.Message.{messageBit}
 use Rattle.bits.proofs.Message.{message-small}
 use Rattle.reed_muller.specs.Level.{dimension, masks, ofWeight}
-use Rattle.reed_muller.proofs.MaskTables.{last}
+use Rattle.level_tables.proofs.MaskTables.{last}
 use Rattle.frames.specs.Kind.{kinds, degrees, levels, levelBits}
 use Rattle.frames.proofs.Limits.{tabled}
 use Rattle.sending.specs.Words.{codewordsOf}
