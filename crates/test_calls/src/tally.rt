@@ -20,7 +20,7 @@ pub fn zeros() -> [u64; 7] {
     [0; 7]
 }
 
-fn write_name(check: usize) {
+fn write_name(check: usize) -> bool {
     match check {
         SEND => write(b"sending"),
         READ_OPEN => write(b"open reading"),

@@ -12,7 +12,7 @@ pub fn zeros() -> [u64; 3] {
     [0; 3]
 }
 
-fn write_name(way: usize) {
+fn write_name(way: usize) -> bool {
     match way {
         LIBRARY => write(b"library"),
         EXPORTED => write(b"exported"),
