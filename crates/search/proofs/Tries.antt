@@ -17,7 +17,8 @@ use Rattle.near_frames.proofs.NearKinds.{size}
 use Rattle.near_frames.proofs.Frames.{limit-low, near-is, far-is}
 use Rattle.costs.specs.Costs.{gap, cost, candidate, parityCost}
 use Rattle.costs.proofs.Residue.{parity-nearer}
-use Rattle.search.specs.Search.{firstWord, Searched, FoundPair}
+use Rattle.level_1_search.specs.Changes.{Searched}
+use Rattle.search.specs.Search.{firstWord, FoundPair}
 use Rattle.search.proofs.Pairs.{pair-of, frame-of, numbered}
 use Rattle.search.proofs.Steps.{word-lt, word-digit}
 

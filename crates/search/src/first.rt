@@ -1,6 +1,6 @@
 // The search over the codewords of level 0, each left as soon as the samples are too far from its parities.
-use super::second::second_level;
 use bits::word::bit;
+use level_1_search::second_level;
 ghost use mathlib.Core.Path.{_≡_};
 ghost use mathlib.Core.Bool.{true};
 ghost use Prim.Native.Nat.{_+_, _-_, _^_, _≤_};

@@ -15,7 +15,7 @@ use Rattle.reed_muller.proofs.Belongs.{belongs-cong}
 use Rattle.near_frames.specs.Near.{nearLimit}
 use Rattle.costs.specs.Costs.{costAt, cost, changeCosts}
 use Rattle.costs.proofs.Costs.{change-costs-at}
-use Rattle.search.specs.Search.{changeCost, Open, Changed, Searched}
+use Rattle.level_1_search.specs.Changes.{changeCost, Open, Changed, Searched}
 
 module _ (t : List ℤ) (a base : ℕ) where
   -- the cost of changes is that of the word that they make

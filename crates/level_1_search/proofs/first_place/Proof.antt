@@ -3,10 +3,10 @@ use Prim.Native.Nat.{ℕ}
 use mathlib.Core.Path.{sym, ap, _∙_}
 use native.Mathlib.Omega.{arith}
 use lib.Count.{trailing-le}
-use Rattle.search.specs.Search.{firstPlace}
-use Rattle.search.proofs.Carry.{first-of-zero, first-of}
-use Rattle.search.proofs.second.first_place.Statement.{statement}
-use Rattle.search.proofs.second.first_place.Tie as tie
+use Rattle.level_1_search.specs.Changes.{firstPlace}
+use Rattle.level_1_search.proofs.Carry.{first-of-zero, first-of}
+use Rattle.level_1_search.proofs.first_place.Statement.{statement}
+use Rattle.level_1_search.proofs.first_place.Tie as tie
 
 returns : tie.Need-returns
 returns c =

@@ -8,11 +8,11 @@ use lib.Pow.{pow-mono}
 use lib.ListN.{length, getD, length-set, getD-replicate}
 use Rattle.bits.proofs.Digits.{one-shifted}
 use Rattle.near_frames.proofs.NearKinds.{size}
-use Rattle.search.specs.Search.{Open}
-use Rattle.search.proofs.Carry.{after, after-more}
-use Rattle.search.proofs.Changes.{costFrom, from-more, Partial, partial-more, Passed, passed-first, too-far, no-word, passed-on, changed-found, changed-none}
-use Rattle.search.proofs.second.changes.Statement.{statement}
-use Rattle.search.proofs.second.changes.Tie as tie
+use Rattle.level_1_search.specs.Changes.{Open}
+use Rattle.level_1_search.proofs.Carry.{after, after-more}
+use Rattle.level_1_search.proofs.Counted.{costFrom, from-more, Partial, partial-more, Passed, passed-first, too-far, no-word, passed-on, changed-found, changed-none}
+use Rattle.level_1_search.proofs.changes.Statement.{statement}
+use Rattle.level_1_search.proofs.changes.Tie as tie
 
 abbrev Inv-loop : tie.InvT-loop
 Inv-loop kind n costs base limit end sums₀ w₀ p₀ d₀ sums w p d = (w ≡ w₀) × (length sums ≡ 33) × Partial n limit costs sums w p × (d ≡ costFrom n costs w p)

@@ -3,9 +3,9 @@ use native.Mathlib.Nat.{mod-eq-of-lt}
 use native.Mathlib.Omega.{arith}
 use lib.Pow.{shr-le}
 use borrow.Author.Needs.{needs}
-use Rattle.search.proofs.Carry.{after-fits}
-use Rattle.search.proofs.second.next_after.Statement.{statement}
-use Rattle.search.proofs.second.next_after.Tie as tie
+use Rattle.level_1_search.proofs.Carry.{after-fits}
+use Rattle.level_1_search.proofs.next_after.Statement.{statement}
+use Rattle.level_1_search.proofs.next_after.Tie as tie
 
 shr-result : tie.Need-shr-result
 shr-result c = search needs

@@ -6,8 +6,8 @@ use Rattle.reed_muller.proofs.Parity.{backwards-small}
 use Rattle.reed_muller.proofs.Belongs.{belongs-bits}
 use Rattle.near_frames.proofs.NearKinds.{size}
 use Rattle.bits.specs.Number.{bitOf}
-use Rattle.search.proofs.second.is_second.Statement.{statement}
-use Rattle.search.proofs.second.is_second.Tie as tie
+use Rattle.level_1_search.proofs.is_second.Statement.{statement}
+use Rattle.level_1_search.proofs.is_second.Tie as tie
 
 transformed-requires : tie.Need-transformed-requires
 transformed-requires c κs = omega (arith, size (c .args .kind) (c .pre) .high)

@@ -10,7 +10,7 @@ use lib.Pow.{split, high, shr-lt, shr-shr, pow-pos, pow-mono, pow-add}
 use lib.Bits.{shifted-half, shifted-even}
 use lib.Count.{trailingZeros, under}
 use borrow.Author.Tests.{ne-eqb}
-use Rattle.search.specs.Search.{firstPlace}
+use Rattle.level_1_search.specs.Changes.{firstPlace}
 
 -- ---- zeros at the low end
 

@@ -13,11 +13,11 @@ use Rattle.near_frames.proofs.Frames.{limit-low}
 use Rattle.costs.specs.Costs.{changeCosts}
 use Rattle.costs.proofs.Chosen.{nearest-low}
 use Rattle.costs.proofs.Costs.{change-costs-length, change-costs-low}
-use Rattle.search.specs.Search.{Changed}
-use Rattle.search.proofs.Front.{front-length, front-inside}
-use Rattle.search.proofs.Words.{searched-found, searched-none}
-use Rattle.search.proofs.second.second_level.Statement.{statement}
-use Rattle.search.proofs.second.second_level.Tie as tie
+use Rattle.level_1_search.specs.Changes.{Changed}
+use Rattle.level_1_search.proofs.Front.{front-length, front-inside}
+use Rattle.level_1_search.proofs.Words.{searched-found, searched-none}
+use Rattle.level_1_search.proofs.second_level.Statement.{statement}
+use Rattle.level_1_search.proofs.second_level.Tie as tie
 
 few : (c : tie.Start) → length (c .args .samples .now) ≤ 32
 few c = omega (arith, c .pre .1, size (c .args .kind) (c .pre .0) .positions)

@@ -14,8 +14,8 @@ use lib.Seq.{getD-set-same, getD-set-other}
 use Rattle.bits.specs.Number.{sumTo, bitOf}
 use Rattle.bits.proofs.Sum.{sum-ext, sum-split, sum-first}
 use Rattle.reed_muller.specs.Level.{belongs}
-use Rattle.search.specs.Search.{changeCost, firstPlace, Open, Changed}
-use Rattle.search.proofs.Carry.{agree-later, after, after-more, after-agree, after-fits, zeros-from, carry-agree, first-of-zero, first-of, first-within}
+use Rattle.level_1_search.specs.Changes.{changeCost, firstPlace, Open, Changed}
+use Rattle.level_1_search.proofs.Carry.{agree-later, after, after-more, after-agree, after-fits, zeros-from, carry-agree, first-of-zero, first-of, first-within}
 
 module _ (n : ℕ) (costs : List ℕ) where
   -- the cost of the changes w from place q on

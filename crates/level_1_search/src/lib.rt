@@ -10,7 +10,7 @@ ghost use Rattle.reed_muller.specs.Level.{belongs};
 ghost use Rattle.e8.specs.Energy.{Within};
 ghost use Rattle.near_frames.specs.Near.{nearKind, nearLimit};
 ghost use Rattle.bits.specs.Number.{bitOf};
-ghost use Rattle.search.specs.Search.{firstPlace, Changed, Searched};
+ghost use Rattle.level_1_search.specs.Changes.{firstPlace, Changed, Searched};
 
 // A word, or changes of one, and the squared distance; 0 each where there is none.
 pub struct Found {
