@@ -2,11 +2,11 @@
 // the listing that stands there. The lines are asked for from the first place on, numbered from 0, also of a long sheet, which has none. It
 // prints how many sheets have their listing, after a line for each that has not. Before, it prints the listings of an empty sheet and of two
 // long ones, as the sheet program does.
+use libc::STDOUT_FILENO;
 use test_data::fill;
 use test_data::number;
 use test_data::write;
 use test_data::write_number;
-use libc::STDOUT_FILENO;
 ghost use Prim.Native.Nat.{_≤_};
 ghost use lib.ListN.{length};
 
