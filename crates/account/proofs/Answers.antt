@@ -12,7 +12,7 @@ use Rattle.frames.specs.Sending.{sendRefusal}
 use Rattle.frames.proofs.Limits.{kind-high}
 use Rattle.frames.proofs.Bounds.{sent-energy}
 use Rattle.frames.proofs.Accepted.{all-passed}
-use Rattle.sending.proofs.Answers.{at-most-five}
+use Rattle.accepting.proofs.Answers.{at-most-five}
 use Rattle.account.specs.declared.Account.{Account}
 use Rattle.account.specs.Power.{Measured, full, grown}
 use Rattle.account.specs.Counted.{numberFor, countedRefusal, countedAccount}
