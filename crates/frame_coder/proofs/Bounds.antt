@@ -19,9 +19,9 @@ use Rattle.frames.proofs.Refusals.{accepted, range-within}
 use Rattle.frames.proofs.Limits.{few-positions}
 use Rattle.frames.proofs.Bounds.{short-energy, sent-energy}
 use Rattle.frames.proofs.Reading.{strict-passed}
-use Rattle.account.specs.declared.Account.{Account}
-use Rattle.account.specs.Counted.{numberFor, countedRefusal}
-use Rattle.account.proofs.Answers.{passed}
+use Rattle.power_account.specs.declared.Account.{Account}
+use Rattle.power_account.specs.Counted.{numberFor, countedRefusal}
+use Rattle.power_account.proofs.Answers.{passed}
 use Rattle.near_reading.specs.declared.NearReading.{NearReading}
 use Rattle.near_reading.specs.declared.NearReading.the-variants.{Near, Far, Refused}
 use Rattle.near_reading.specs.Answer.{nearNumber, nearDistance, nearAnswer}

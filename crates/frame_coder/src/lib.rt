@@ -6,7 +6,7 @@ ghost use lib.ListN.{length};
 ghost use Rattle.frames.specs.Sending.{LeastEnergy};
 ghost use Rattle.frame_coder.specs.Answer.{answerOf, sendAnswer, sendFrame, openAnswer, openBytes, strictAnswer, strictBytes};
 ghost use Rattle.frame_coder.specs.Answer.{accountOf, openingAnswer, countedAnswer, countedFrame, countedHeld, queueAnswer};
-ghost use Rattle.account.specs.Opening.{openedWith};
+ghost use Rattle.power_account.specs.Opening.{openedWith};
 ghost use Rattle.frame_coder.specs.Answer.{nearCode, nearHeld};
 ghost use Rattle.queue.specs.Queue.{queueOutcome, queueFrames, EachLeast};
 ghost use Rattle.near_reading.specs.Answer.{nearMessage};

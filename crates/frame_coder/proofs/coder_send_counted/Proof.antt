@@ -5,13 +5,13 @@ use native.Mathlib.Omega.{arith}
 use lib.ListN.{length}
 use mir.Facts.{toZ-ofZ}
 use borrow.Author.Needs.{needs}
-use Rattle.account.specs.declared.Account.{Account}
+use Rattle.power_account.specs.declared.Account.{Account}
 use Rattle.frames.specs.Sending.{frameAfter}
 use Rattle.frames.proofs.Accepted.{refused-leaves}
-use Rattle.account.specs.Counted.{numberFor, countedAccount}
-use Rattle.account.specs.History.{Call}
-use Rattle.account.proofs.Answers.{account-refused}
-use Rattle.account.proofs.History.{after-changeover}
+use Rattle.power_account.specs.Counted.{numberFor, countedAccount}
+use Rattle.power_account.specs.History.{Call}
+use Rattle.power_account.proofs.Answers.{account-refused}
+use Rattle.power_account.proofs.History.{after-changeover}
 use Rattle.frame_coder.specs.Answer.{answerOf, accountOf, countedFrame, countedHeld}
 use Rattle.frame_coder.proofs.Bounds.{counted-fits, counted-answer, account-of, least-answer}
 use Rattle.frame_coder.proofs.coder_send_counted.Statement.{statement}

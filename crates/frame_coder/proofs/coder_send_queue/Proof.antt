@@ -2,7 +2,7 @@
 use mathlib.Core.Path.{ap, _∙_}
 use mir.Facts.{toZ-ofZ}
 use borrow.Author.Needs.{needs}
-use Rattle.account.specs.declared.Account.{Account}
+use Rattle.power_account.specs.declared.Account.{Account}
 use Rattle.queue.specs.declared.Queued.{Queued}
 use Rattle.queue.proofs.InOrder.{queue-changeover}
 use Rattle.frame_coder.specs.Answer.{answerOf, accountOf, queueAnswer}
