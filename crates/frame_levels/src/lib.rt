@@ -1,12 +1,15 @@
 // The levels of a frame, each held in a number: the bits of one weight of its coordinates, the same taken backwards, and the test of the levels.
+mod broken;
+
+pub use broken::broken_level;
 ghost use mathlib.Core.Path.{_≡_};
 ghost use mathlib.Core.Bool.{true};
 ghost use Prim.Native.Nat.{_*_, _/_, _^_, _<_, _≤_};
 ghost use lib.ListN.{length};
 ghost use Rattle.bits.specs.Number.{number};
-ghost use Rattle.frames.specs.Kind.{isKind, degrees};
+ghost use Rattle.frames.specs.Kind.{isKind};
 ghost use Rattle.frames.specs.Frame.{weightBit, levelWord};
-ghost use Rattle.frame_levels.specs.Words.{backwardWords, brokenIn};
+ghost use Rattle.frame_levels.specs.Words.{backwardWords};
 
 // The bit of weight 2^i of a whole number: the floor quotient by 2^i, and its remainder by 2, which is never negative.
 pub fn weight_bit(z: i32, i: usize) -> u8
@@ -66,26 +69,4 @@ pub fn level_words(kind: u8, frame: &[i32]) -> [u64; 3]
         i += 1;
     }
     words
-}
-
-// The number of the first level that is not a codeword, 0 where each one is; the words hold the levels, taken backwards.
-// Always three turns, so that the compiler lays them out one by one.
-pub fn broken_level(kind: u8, words: [u64; 3]) -> u8
-    requires { ⌜ isKind kind ≡ true ⌝ }
-    ensures { λ r. ⌜ r ≡ brokenIn kind 0 (degrees kind) words ⌝ }
-{
-    let m = kind as usize;
-    let count = kind_table::levels(kind);
-    let mut i: usize = 0;
-    while i < 3 {
-        if i < count {
-            let degree = kind_table::degree(kind, i);
-            let bits = words[i];
-            if !level_transform::clear_above(bits, m, degree) {
-                return kind_table::broken(i);
-            }
-        }
-        i += 1;
-    }
-    0
 }

@@ -14,8 +14,8 @@ use Rattle.frames.specs.Kind.{degrees, levels}
 use Rattle.frames.proofs.Limits.{few-levels, levels-numbered, tabled, degree-fits}
 use Rattle.frame_levels.specs.Words.{brokenIn}
 use Rattle.frame_levels.proofs.Words.{clear-at, broken-at, whole-at, no-more}
-use Rattle.frame_levels.proofs.broken_level.Statement.{statement}
-use Rattle.frame_levels.proofs.broken_level.Tie as tie
+use Rattle.frame_levels.proofs.broken.broken_level.Statement.{statement}
+use Rattle.frame_levels.proofs.broken.broken_level.Tie as tie
 
 abbrev Inv-loop : tie.InvT-loop
 Inv-loop kind words m count i₀ i = brokenIn kind 0 (degrees kind) words ≡ brokenIn kind i (drop i (degrees kind)) words
