@@ -15,11 +15,11 @@ use Rattle.frames.specs.Kind.{isKind, isGrade, degrees, messageBytes, brokenNum
 use Rattle.frames.specs.Frame.{levelWord}
 use Rattle.frames.specs.Sending.{unless, spareSet, sendRefusal, energySent}
 use Rattle.frames.specs.Reading.{inRange, broken, openRefusal, isSent, strictRefusal, energyRead}
-use Rattle.account.specs.declared.Account.{Account}
+use Rattle.power_account.specs.declared.Account.{Account}
 use Rattle.account.specs.declared.Counted.{Counted}
-use Rattle.account.specs.Power.{full}
-use Rattle.account.specs.Opening.{openingRefusal, openedWith}
-use Rattle.account.specs.Counted.{numberFor, countedRefusal}
+use Rattle.power_account.specs.Power.{full}
+use Rattle.power_account.specs.Opening.{openingRefusal, openedWith}
+use Rattle.power_account.specs.Counted.{numberFor, countedRefusal}
 use Rattle.frame_coder.specs.Answer.{answerOf, sendAnswer, openAnswer, strictAnswer, countedAnswer, countedHeld, openingAnswer}
 use Rattle.test_calls.specs.Outcome.{answered, decoded}
 

@@ -9,7 +9,7 @@ use lib.ListN.{length, take, drop}
 use borrow.Rule.Slice.PartMut.{putMid, post-is}
 use borrow.Author.Tests.{lt-ltb, le-ltb}
 use Rattle.frames.specs.Reading.{sameFrame}
-use Rattle.account.specs.declared.Account.{Account}
+use Rattle.power_account.specs.declared.Account.{Account}
 use Rattle.account.specs.declared.Counted.{Counted}
 use Rattle.test_data.specs.Alike.{sameBytes}
 use Rattle.test_calls.specs.declared.record.Call.{Call}

@@ -8,10 +8,10 @@ use lib.ListN.{length}
 use borrow.Author.Tests.{eq-eqb, ne-eqb}
 use Rattle.frames.specs.Sending.{sendRefusal, frameAfter, energySent}
 use Rattle.frames.specs.Reading.{openRefusal, strictRefusal, messageAfter, energyRead}
-use Rattle.account.specs.declared.Account.{Account}
+use Rattle.power_account.specs.declared.Account.{Account}
 use Rattle.account.specs.declared.Counted.{Counted}
-use Rattle.account.specs.Opening.{openedWith}
-use Rattle.account.specs.Counted.{numberFor, countedRefusal, countedAccount}
+use Rattle.power_account.specs.Opening.{openedWith}
+use Rattle.power_account.specs.Counted.{numberFor, countedRefusal, countedAccount}
 use Rattle.test_calls.specs.Outcome.{
   answered,
   Outcome,

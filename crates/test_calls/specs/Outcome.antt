@@ -7,10 +7,10 @@ use lib.IntN.{ℤ, pos, negsuc}
 use lib.ListN.{length, take, drop}
 use Rattle.frames.specs.Sending.{sendRefusal, frameAfter, energySent}
 use Rattle.frames.specs.Reading.{openRefusal, strictRefusal, messageAfter, energyRead, sameFrame}
-use Rattle.account.specs.declared.Account.{Account}
+use Rattle.power_account.specs.declared.Account.{Account}
 use Rattle.account.specs.declared.Counted.{Counted}
-use Rattle.account.specs.Opening.{openedWith}
-use Rattle.account.specs.Counted.{numberFor, countedRefusal, countedAccount}
+use Rattle.power_account.specs.Opening.{openedWith}
+use Rattle.power_account.specs.Counted.{numberFor, countedRefusal, countedAccount}
 use Rattle.test_data.specs.Alike.{sameBytes, sameAccount}
 use Rattle.test_calls.specs.declared.record.Call.{Call}
 use Rattle.test_calls.specs.declared.record.Lent.{Lent}

@@ -7,8 +7,8 @@ use account::Account;
 use account::Counted;
 ghost use mathlib.Core.Path.{_≡_};
 ghost use lib.ListN.{length};
-ghost use Rattle.account.specs.Opening.{openedWith};
-ghost use Rattle.account.specs.Counted.{numberFor, countedRefusal};
+ghost use Rattle.power_account.specs.Opening.{openedWith};
+ghost use Rattle.power_account.specs.Counted.{numberFor, countedRefusal};
 ghost use Rattle.test_calls.specs.Outcome.{answered, decoded, countedOutcome, outcomeOf};
 
 // The energy, or minus the refusal number, which is below 256.

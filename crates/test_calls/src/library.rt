@@ -6,7 +6,7 @@ use super::SEND_COUNTED;
 use account::Account;
 use account::Counted;
 ghost use mathlib.Core.Path.{_≡_};
-ghost use Rattle.account.specs.Opening.{openedWith};
+ghost use Rattle.power_account.specs.Opening.{openedWith};
 ghost use Rattle.test_calls.specs.Outcome.{answered, outcomeOf};
 
 // What a reading or sending answers, with the account as it came.

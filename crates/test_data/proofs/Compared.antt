@@ -10,9 +10,12 @@ use lib.IntN.{ℤ}
 use lib.ListN.{length, getD, take}
 use lib.Seq.{take-suc, take-all}
 use borrow.Author.Tests.{eqb-true, eq-eqb}
-use Rattle.frames.specs.Reading.{sameFrame}
+use mir.Syntax.{Width}
+use mir.Val.{SFits, toZ, ofZ}
+use mir.Facts.{toZ-ofZ}
+use Rattle.frames.specs.Reading.{sameNumber, sameFrame}
 use Rattle.e8.proofs.Within.{and-both}
-use Rattle.frames.proofs.Refusals.{same-frame, frame-same}
+use Rattle.frames.proofs.Refusals.{number-same, same-frame, frame-same}
 use Rattle.test_data.specs.Alike.{sameBytes}
 
 -- SAME BYTES: the test holds exactly of a row and itself
@@ -61,3 +64,17 @@ frames-equal {x} {y} e = sym (ap (sameFrame x) (sym e) ∙ frame-same x)
 
 pub frames-differ : {x y : List ℤ} → (x ≡ y → ⊥) → false ≡ sameFrame x y
 frames-differ {x} {y} n = sym (no-truth (sameFrame x y) (λ e. n (same-frame x y e)))
+
+-- whole numbers compared by their bits
+pub bits-compared : (w : Width) (x y : ℤ) → SFits w x → SFits w y → eqb (ofZ w x) (ofZ w y) ≡ sameNumber x y
+unfolding sameFrame
+bits-compared w x y fx fy = go (eqb (ofZ w x) (ofZ w y)) refl
+  where
+    go : (t : Bool) → eqb (ofZ w x) (ofZ w y) ≡ t → t ≡ sameNumber x y
+    go true e =
+        let s : x ≡ y = sym (toZ-ofZ fx) ∙ ap (toZ w) (eqb-true (ofZ w x) (ofZ w y) e) ∙ toZ-ofZ fy in
+        sym (ap (sameNumber x) (sym s) ∙ number-same x)
+    go false e = sym (no-truth (sameNumber x y) (λ t. differ e (same-frame (x ∷ []) (y ∷ []) (rw t refl))))
+      where
+        differ : eqb (ofZ w x) (ofZ w y) ≡ false → (x ∷ []) ≡ (y ∷ []) → ⊥
+        differ e s = true≢false (sym (eq-eqb (ofZ w x) (ofZ w y) (ap (λ (l : List ℤ). ofZ w (getD l 0 x)) s)) ∙ e)

@@ -4,7 +4,7 @@ use mathlib.Core.Bool.{Bool, true, false, _&&_}
 use mathlib.Core.List.{List, [], _∷_}
 use lib.Dec.{eqb}
 use lib.Ieee.{Float, binary64, toBits}
-use Rattle.account.specs.declared.Account.{Account}
+use Rattle.power_account.specs.declared.Account.{Account}
 
 -- the same bytes, and as many
 unfoldable pub sameBytes : List ℕ → List ℕ → Bool

@@ -6,8 +6,8 @@ use lib.Dec.{leb, ltb}
 use lib.IntN.{ℤ, pos, _-ℤ_}
 use lib.ListN.{length, take, drop}
 use lib.Ieee.{Float, binary32, binary64, ofBits}
-use Rattle.account.specs.declared.Account.{Account}
-use Rattle.account.specs.Power.{begun}
+use Rattle.power_account.specs.declared.Account.{Account}
+use Rattle.power_account.specs.Power.{begun}
 
 -- the number that bytes hold, lowest byte first
 unfoldable pub held : List ℕ → ℕ

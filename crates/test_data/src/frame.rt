@@ -1,7 +1,7 @@
-// Coordinates that bytes hold, and frames compared.
+// Coordinates that bytes hold, and frames and answers compared.
 use crate::count;
 ghost use mathlib.Core.Path.{_≡_};
-ghost use Rattle.frames.specs.Reading.{sameFrame};
+ghost use Rattle.frames.specs.Reading.{sameNumber, sameFrame};
 ghost use Rattle.test_data.specs.Held.{signedOf, coordinateIn, takenFrom};
 
 // The i32 of these bits.
@@ -48,4 +48,11 @@ pub fn same_coordinates(x: &[i32], y: &[i32]) -> bool
         p += 1;
     }
     true
+}
+
+// Whether two answers of exported functions are the same.
+pub fn same_answer(a: i64, b: i64) -> bool
+    ensures { λ r. ⌜ r ≡ sameNumber a b ⌝ }
+{
+    a == b
 }

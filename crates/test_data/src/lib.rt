@@ -7,6 +7,7 @@ pub use float::float_in;
 pub use float::same_float;
 pub use float::samples;
 pub use frame::coordinates;
+pub use frame::same_answer;
 pub use frame::same_coordinates;
 use libc::STDOUT_FILENO;
 ghost use mathlib.Core.Path.{_≡_};

@@ -1,6 +1,6 @@
 -- `open` of the library: what opening answers, with no energy. Assumes nothing.
 use mathlib.Core.Path.{ap, _∙_}
-use Rattle.account.specs.declared.Opened.{Opened}
+use Rattle.power_account.specs.declared.Opened.{Opened}
 use Rattle.test_calls.specs.Outcome.{answered}
 use borrow.Author.Needs.{needs}
 use Rattle.test_calls.proofs.library.open.Statement.{statement}
