@@ -16,8 +16,9 @@ use Rattle.frames.specs.Frame.{half, isOdd, numberedFrame}
 use Rattle.frames.specs.Sending.{anySet, spareSet, sendRefusal}
 use Rattle.text.specs.Text.{bytes, digitsOf, decimalOf, signedOf}
 use Rattle.text.specs.Line.{headerText, coordinatesOf, lineOf, refusedText}
-use Rattle.listing.specs.Record.{marked, recordRefusal, recordNumber}
-use Rattle.listing.specs.Listing.{sentLine, lineAt, nextAt, linesFrom, listingOf}
+use Rattle.sheet_record.specs.Record.{marked, recordRefusal, recordNumber}
+use Rattle.sheet_line.specs.Sent.{sentLine}
+use Rattle.listing.specs.Listing.{lineAt, nextAt, linesFrom, listingOf}
 
 -- 4C 43 03 01 00 08 4C 43 03 01 02 00 4C 43 03 05
 pub sheet : List ℕ
@@ -45,16 +46,3 @@ numbered = refl
 pub empty : listingOf [] ≡ headerText
 unfolding listingOf linesFrom headerText bytes
 empty = refl
-
--- a lone 4C lacks the mark; a record of a wrong kind that is cut short is refused for its kind
-pub lone : recordNumber (76 ∷ []) 0 ≡ 10
-unfolding recordNumber recordRefusal marked
-lone = refl
-
-pub kind-first : recordNumber (76 ∷ 67 ∷ 7 ∷ []) 0 ≡ 1
-unfolding recordNumber recordRefusal marked isKind kinds
-kind-first = refl
-
-pub cut-short : recordNumber (76 ∷ 67 ∷ 3 ∷ []) 0 ≡ 3
-unfolding recordNumber recordRefusal marked isKind kinds
-cut-short = refl

@@ -1,4 +1,4 @@
-pub mod Tests
+pub mod Cases
 pub mod Lines
 pub mod Example
 pub mod Room

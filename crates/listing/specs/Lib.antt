@@ -1,2 +1,2 @@
-pub mod Record
 pub mod Listing
+pub mod Places

@@ -3,7 +3,9 @@ use libc::STDIN_FILENO;
 use libc::STDOUT_FILENO;
 
 fn main() {
-    if printing::list(STDIN_FILENO, STDOUT_FILENO) {
+    let listed = printing::list(STDIN_FILENO, STDOUT_FILENO);
+    let printed = listed.printed;
+    if printed.whole {
         printing::close(STDOUT_FILENO);
     }
 }

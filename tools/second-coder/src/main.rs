@@ -38,15 +38,14 @@ fn write_files() -> std::io::Result<()> {
     println!("ways.bin: {sorts:?} messages of each sort, the refused and those of a wrong sort last, {bytes} bytes");
     let sheets = vectors::sheet_file();
     std::fs::write(crates("test_sheet/data/sheets.bin"), &sheets)?;
-    let count = vectors::sheets().len();
-    println!("sheets.bin: {count} sheets, {} bytes", sheets.len());
-    let mut printed = String::new();
+    println!("sheets.bin: {} sheets, {} bytes", vectors::sheets().len(), sheets.len());
     for (name, sheet) in vectors::files() {
         std::fs::write(crates("test_sheet/data").join(name), &sheet)?;
         println!("{name}: {} bytes", sheet.len());
-        printed += &sheet::listing(&sheet);
     }
-    std::fs::write(crates("test_sheet/stdout"), format!("{printed}sheets {count}\ndifferent 0\n"))?;
+    let printed = vectors::sheet_listings();
+    std::fs::write(crates("test_sheet/stdout"), &printed)?;
+    println!("test_sheet/stdout: {} bytes", printed.len());
     let (file, calls::Counts { sorts, functions, numbers, wrong }) = calls::call_file();
     write_test("test_calls", "calls.bin", &file)?;
     println!(
@@ -117,19 +116,13 @@ fn compare(program: &str, count: u64, seed: u64) -> std::io::Result<u64> {
     )
 }
 
-/// The sheets of sheets.bin, with the listings that stand there.
+/// The sheets of sheets.bin, with what this coder lists for them.
 fn stored(program: &str) -> std::io::Result<u64> {
-    let file = std::fs::read(crates("test_sheet/data/sheets.bin"))?;
-    let mut rest = &file[..];
-    let sheets = std::iter::from_fn(|| {
-        let (head, after) = rest.split_first_chunk::<12>()?;
-        let length = |i: usize| u32::from_le_bytes(head[i..i + 4].try_into().unwrap()) as usize;
-        let (sheet, after) = after.split_at(length(0));
-        let (listing, after) = after.split_at(length(8));
-        rest = after;
-        Some((sheet.to_vec(), String::from_utf8_lossy(listing).into_owned()))
-    });
-    judge(program, sheets)
+    let listed = |sheet: Vec<u8>| {
+        let listing = sheet::listing(&sheet);
+        (sheet, listing)
+    };
+    judge(program, vectors::sheets().into_iter().map(listed))
 }
 
 fn main() -> ExitCode {

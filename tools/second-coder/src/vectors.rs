@@ -636,19 +636,24 @@ pub fn files() -> [(&'static str, Vec<u8>); 3] {
     [file("empty.bin", 0), file("long.bin", LONGEST + 1), file("longer.bin", 40_000)]
 }
 
-/// All sheets with the places from which their records are listed and their listings, in the format of README.md.
+/// All sheets, in the format of README.md.
 pub fn sheet_file() -> Vec<u8> {
     let mut file = Vec::new();
     for sheet in sheets() {
-        let text = listing(&sheet);
-        let start = if sheet.len() > LONGEST { sheet.len() } else { 0 };
-        for number in [sheet.len(), start, text.len()] {
-            file.extend((number as u32).to_le_bytes());
-        }
+        file.extend((sheet.len() as u32).to_le_bytes());
         file.extend(&sheet);
-        file.extend(text.as_bytes());
     }
     file
+}
+
+/// What the program that lists them prints: the listings of the files, those of all sheets, each after its number, and how many these are.
+pub fn sheet_listings() -> String {
+    let mut printed: String = files().iter().map(|(_, sheet)| listing(sheet)).collect();
+    let sheets = sheets();
+    for (i, sheet) in sheets.iter().enumerate() {
+        printed += &format!("sheet {}\n{}", i + 1, listing(sheet));
+    }
+    printed + &format!("sheets {}\n", sheets.len())
 }
 
 /// A fresh sheet: good, damaged, cut short, of random bytes or long.

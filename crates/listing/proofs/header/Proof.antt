@@ -6,7 +6,7 @@ use mathlib.Core.List.{List}
 use Rattle.text.specs.Text.{Put}
 use Rattle.text.specs.Line.{headerText}
 use Rattle.text.proofs.Buffer.{Within, within-none, within-more, put-more}
-use Rattle.listing.proofs.Tests.{begins, begins-long, header-length}
+use Rattle.listing.proofs.Cases.{begins, begins-long, header-length}
 use borrow.Author.Needs.{needs}
 use Rattle.listing.proofs.header.Statement.{statement}
 use Rattle.listing.proofs.header.Tie as tie

@@ -9,33 +9,58 @@ use Rattle.frames.specs.Sending.{sendRefusal}
 use Rattle.frames.proofs.Rows.{grade-high}
 use Rattle.text.specs.Text.{Put}
 use Rattle.text.specs.Line.{refusedText}
-use Rattle.listing.specs.Record.{kindAt, gradeAt, recordNumber}
-use Rattle.listing.specs.Listing.{sentLine}
-use Rattle.listing.proofs.Tests.{Whole, whole-record, number-refused, number-sent, refused-line, sent-line, message-is}
+use Rattle.sheet_record.specs.Record.{kindAt, gradeAt, recordNumber}
+use Rattle.sheet_record.proofs.Tests.{Whole, whole-record, number-refused, number-sent, message-is}
+use Rattle.sheet_line.specs.Sent.{sentLine}
+use Rattle.listing.specs.Places.{nextOn}
+use Rattle.listing.proofs.Cases.{refused-line, sent-line, next-is}
 use borrow.Author.Needs.{needs}
 use Rattle.listing.proofs.record_line.Statement.{statement}
 use Rattle.listing.proofs.record_line.Tie as tie
 
--- a record that passed its tests is whole
-whole : (c : tie.Else1) → let s = c .before .before .before .before .args in Whole (s .sheet .now) (s .p)
-whole c = let s = c .before .before .before .before .args in whole-record (s .sheet .now) (s .p) (sym (c .before .test-record .ensures) ∙ c .if1 .left)
+-- the places before those of the needs
+abbrev at-start : tie.After-test-record → tie.Start
+at-start c = c .before .before .before .before
 
-record-ends : (c : tie.After-message-bytes)
-    → let s = c .before .before .before .before .before .before .before .args in s .p + 4 + c .message-bytes .result ≤ length (s .sheet .now)
-record-ends c = omega (arith, whole (c .before .before .before) .ends, c .message-bytes .ensures)
+abbrev tested : tie.After-message-bytes → tie.Else1
+tested c = c .before .before .before
+
+abbrev counted : tie.After-put-message → tie.After-message-bytes
+counted c = c .before .before .before
+
+-- the sheet, and where its record stands
+abbrev sheet : tie.Start → List ℕ
+sheet s = s .args .sheet .now
+
+abbrev at : tie.Start → ℕ
+at s = s .args .place .at
+
+-- the next number
+next-number : (c : tie.After-test-record) → c .before .wrapping-add-u32 .result ≡ nextOn (sheet (at-start c)) (at-start c .args .place) .number
+unfolding nextOn
+next-number c = c .before .wrapping-add-u32 .ensures
+
+-- a record that passed its tests is whole
+whole : (c : tie.Else1) → let s = at-start (c .before) in Whole (sheet s) (at s)
+whole c = let s = at-start (c .before) in whole-record (sheet s) (at s) (sym (c .before .test-record .ensures) ∙ c .if1 .left)
+
+record-ends : (c : tie.After-message-bytes) → let s = at-start (tested c .before) in at s + 4 + c .message-bytes .result ≤ length (sheet s)
+record-ends c = omega (arith, whole (tested c) .ends, c .message-bytes .ensures)
 
 -- the number of a whole record is that of sending its message
 number : (c : tie.After-put-message)
-    → let s = c .before .before .before .before .before .before .before .before .before .before .args in
-    recordNumber (s .sheet .now) (s .p) ≡ c .put-message .result .number
+    → let s = at-start (tested (counted c) .before) in recordNumber (sheet s) (at s) ≡ c .put-message .result .number
 number c =
-    let b = c .before .before .before in
-    let d = b .before .before .before in
-    let s = d .before .before .before .before .args in
-    let l = s .sheet .now in
-    number-sent l (s .p) (sym (d .before .test-record .ensures) ∙ d .if1 .left)
-    ∙ sym (c .put-message .ensures .0 ∙ ap (λ (x : List ℕ). sendRefusal (kindAt l (s .p)) (gradeAt l (s .p)) x (2 ^ kindAt l (s .p)))
-    (message-is l (s .p) (b .message-bytes .result) (b .message-bytes .ensures)))
+    let b = counted c in
+    let d = tested b in
+    let s = at-start (d .before) in
+    let l = sheet s in
+    number-sent l (at s) (sym (d .before .test-record .ensures) ∙ d .if1 .left)
+    ∙ sym (c .put-message .ensures .0 ∙ ap (λ (x : List ℕ). sendRefusal (kindAt l (at s)) (gradeAt l (at s)) x (2 ^ kindAt l (at s)))
+    (message-is l (at s) (b .message-bytes .result) (b .message-bytes .ensures)))
+
+wrapping-add-u32-requires : tie.Need-wrapping-add-u32-requires
+wrapping-add-u32-requires c κs = search needs
 
 test-record-requires : tie.Need-test-record-requires
 test-record-requires c κs = search needs
@@ -49,18 +74,18 @@ same-length c = search needs
 returns : tie.Need-returns
 returns c =
     let t = c .before .before .before .before .before in
-    let s = t .before .before .before in
-    let l = s .args .sheet .now in
+    let s = at-start t in
     let e = c .before .before .put-refused .ensures in
-    let q : recordNumber l (s .args .p) ≡ t .test-record .result =
-    number-refused l (s .args .p) (λ z. c .before .before .before .before .if1 .taken (t .test-record .ensures ∙ z)) ∙ sym (t .test-record .ensures) in
-    let r = refused-line l (s .args .p) (s .args .number) (λ z. c .before .before .before .before .if1 .taken (sym q ∙ z)) in (
+    let refused = c .before .before .before .before .if1 .taken in
+    let q : recordNumber (sheet s) (at s) ≡ t .test-record .result =
+    number-refused (sheet s) (at s) (λ z. refused (t .test-record .ensures ∙ z)) ∙ sym (t .test-record .ensures) in
+    let r = refused-line (sheet s) (at s) (s .args .place .number) (λ z. refused (sym q ∙ z)) in (
       (
         subst (λ (x : List ℕ). Put (s .args .out .now) 0 x (c .before .before .put-refused .result) (c .before .before .put-refused .last .0))
             (ap refusedText (sym q) ∙ r .0) (e .0),
         omega (arith, e .1),
       ),
-      (r .1, s .pre .0, omega arith),
+      (next-is (sheet s) (s .args .place) (r .1) (next-number t), s .pre .0),
     )
 
 add-kind : tie.Need-add-kind
@@ -97,8 +122,7 @@ part-put-message-end : tie.Need-part-put-message-end
 part-put-message-end c = let h = record-ends c in search needs
 
 put-message-requires : tie.Need-put-message-requires
-put-message-requires c κs =
-    (whole (c .before .before .before .before .before) .kind, c .before .before .before .before .before .before .before .before .before .pre .1)
+put-message-requires c κs = let d = tested (c .before .before) in (whole d .kind, at-start (d .before) .pre .1)
 
 same-length-2 : tie.Need-same-length-2
 same-length-2 c = search needs
@@ -106,18 +130,18 @@ same-length-2 c = search needs
 returns-2 : tie.Need-returns-2
 returns-2 c =
     let m = c .before .before .before .before in
-    let s = c .before .before .before .before .before .before .before .before .before .before .before .before .before .before in
-    let l = s .args .sheet .now in
+    let t = tested (counted m) .before in
+    let s = at-start t in
     let e = m .put-message .ensures in
-    let q : recordNumber l (s .args .p) ≡ m .put-message .result .number = number m in
-    let n : recordNumber l (s .args .p) ≡ 0 → ⊥ = λ z. c .if2 .taken (sym q ∙ z) in
-    let r = refused-line l (s .args .p) (s .args .number) n in (
+    let q : recordNumber (sheet s) (at s) ≡ m .put-message .result .number = number m in
+    let n : recordNumber (sheet s) (at s) ≡ 0 → ⊥ = λ z. c .if2 .taken (sym q ∙ z) in
+    let r = refused-line (sheet s) (at s) (s .args .place .number) n in (
       (
         subst (λ (x : List ℕ). Put (s .args .out .now) 0 x (m .put-message .result .length) (m .put-message .last .1 .1 .1 .1 .0))
             (ap refusedText (sym q) ∙ r .0) (e .1 .1 .0 (c .if2 .taken)),
         e .1 .1 .1,
       ),
-      (r .1, s .pre .0, omega arith),
+      (next-is (sheet s) (s .args .place) (r .1) (next-number t), s .pre .0),
     )
 
 same-length-3 : tie.Need-same-length-3
@@ -126,26 +150,27 @@ same-length-3 c = search needs
 returns-3 : tie.Need-returns-3
 returns-3 c =
     let m = c .before .before .before .before in
-    let b = m .before .before .before in
-    let s = c .before .before .before .before .before .before .before .before .before .before .before .before .before .before in
-    let l = s .args .sheet .now in
+    let b = counted m in
+    let t = tested b .before in
+    let s = at-start t in
     let e = m .put-message .ensures in
-    let r = sent-line l (s .args .p) (s .args .number) (number m ∙ c .if2 .left) in
-    let k = kindAt l (s .args .p) in
-    let g = gradeAt l (s .args .p) in
+    let r = sent-line (sheet s) (at s) (s .args .place .number) (number m ∙ c .if2 .left) in
+    let k = kindAt (sheet s) (at s) in
+    let g = gradeAt (sheet s) (at s) in
     let q : b .message-bytes .result ≡ messageBytes k g = b .message-bytes .ensures in (
       (
         subst (λ (x : List ℕ). Put (s .args .out .now) 0 x (m .put-message .result .length) (m .put-message .last .1 .1 .1 .1 .0))
-            (ap (sentLine k g (s .args .number)) (message-is l (s .args .p) (b .message-bytes .result) q) ∙ r .0) (e .1 .0 (c .if2 .left)),
+            (ap (sentLine k g (s .args .place .number)) (message-is (sheet s) (at s) (b .message-bytes .result) q) ∙ r .0) (e .1 .0 (c .if2 .left)),
         e .1 .1 .1,
       ),
-      (ap (λ (x : ℕ). s .args .p + 4 + x) q ∙ r .1, omega arith, record-ends b),
+      (next-is (sheet s) (s .args .place) (ap (λ (x : ℕ). at s + 4 + x) q ∙ r .1) (next-number t), omega arith),
     )
 
 pub record-line-spec : {M : Type 1} → statement M
 record-line-spec =
     tie.close
     (tie.spec
+    wrapping-add-u32-requires
     test-record-requires
     put-refused-requires
     same-length

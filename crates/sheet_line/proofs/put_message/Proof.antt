@@ -14,11 +14,11 @@ use Rattle.frames.proofs.Limits.{few-positions}
 use Rattle.frames.proofs.Accepted.{all-passed}
 use Rattle.text.specs.Text.{Put}
 use Rattle.text.specs.Line.{lineOf}
-use Rattle.listing.specs.Listing.{sentLine}
-use Rattle.listing.proofs.Tests.{sent-shown}
+use Rattle.sheet_line.specs.Sent.{sentLine}
+use Rattle.sheet_line.proofs.Sent.{sent-shown}
 use borrow.Author.Needs.{needs}
-use Rattle.listing.proofs.put_message.Statement.{statement}
-use Rattle.listing.proofs.put_message.Tie as tie
+use Rattle.sheet_line.proofs.put_message.Statement.{statement}
+use Rattle.sheet_line.proofs.put_message.Tie as tie
 
 -- the room for a frame
 abbrev room : List ℤ

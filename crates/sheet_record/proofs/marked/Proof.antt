@@ -1,9 +1,9 @@
 -- `marked` meets its contract. Assumes nothing.
 use native.Mathlib.Omega.{arith}
-use Rattle.listing.proofs.Tests.{mark-cut, mark-first, mark-second}
+use Rattle.sheet_record.proofs.Tests.{mark-cut, mark-first, mark-second}
 use borrow.Author.Needs.{needs}
-use Rattle.listing.proofs.marked.Statement.{statement}
-use Rattle.listing.proofs.marked.Tie as tie
+use Rattle.sheet_record.proofs.marked.Statement.{statement}
+use Rattle.sheet_record.proofs.marked.Tie as tie
 
 sub-if1 : tie.Need-sub-if1
 sub-if1 c = search needs

@@ -1,23 +1,16 @@
 -- The number of a record by the tests that were passed, and what a whole record is. Assumes nothing.
 use Prim.Native.Nat.{ℕ, _+_, _-_, _^_, _≤_, _<_}
-use mathlib.Core.Path.{_≡_, refl, sym, ap, ap₂, _∙_}
+use mathlib.Core.Path.{_≡_, ap, _∙_}
 use mathlib.Core.Bool.{true, false, and-false}
-use mathlib.Core.List.{List, _++_, append-nil}
+use mathlib.Core.List.{List}
 use native.Mathlib.Omega.{arith}
-use lib.Dec.{eqb, leb, ltb}
-use lib.IntN.{ℤ}
+use lib.Dec.{eqb, leb}
 use lib.ListN.{length, getD, take, drop}
-use borrow.Author.Tests.{eq-eqb, ne-eqb, le-leb, lt-leb, lt-ltb, le-ltb, leb-true}
+use borrow.Author.Tests.{eq-eqb, ne-eqb, le-leb, lt-leb, leb-true}
 use Rattle.frames.specs.Kind.{isKind, isGrade, messageBytes}
-use Rattle.e8.specs.Energy.{energy}
-use Rattle.frames.specs.Frame.{numberedFrame}
-use Rattle.frames.specs.Sending.{sendRefusal, frameAfter, energySent}
-use Rattle.frames.proofs.Accepted.{sent-leaves}
+use Rattle.frames.specs.Sending.{sendRefusal}
 use Rattle.frames.proofs.Refusals.{passed}
-use Rattle.listing.specs.Record.{marked, kindAt, gradeAt, messageAt, endAt, recordRefusal, recordNumber}
-use Rattle.listing.specs.Listing.{sentLine, lineAt, nextAt, beginning, startOf}
-use Rattle.text.specs.Text.{bytes}
-use Rattle.text.specs.Line.{headerText, lineOf, refusedText}
+use Rattle.sheet_record.specs.Record.{marked, kindAt, gradeAt, messageAt, endAt, recordRefusal, recordNumber}
 
 module _ (s : List ℕ) (p : ℕ) where
   pub mark-cut : length s < p + 2 → false ≡ marked s p
@@ -83,7 +76,7 @@ whole-record s p e =
     let e₆ = passed (leb (endAt s p) (length s)) 2 _ (e₅ .1) in
     record { kind = e₃ .0; grade = e₅ .0; ends = leb-true _ _ (e₆ .0) }
 
--- ---- the line and the next place, by the number
+-- ---- the number of a record, by its refusal
 
 module _ (s : List ℕ) (p : ℕ) where
   pub number-refused : (recordRefusal s p ≡ 0 → ⊥) → recordNumber s p ≡ recordRefusal s p
@@ -94,43 +87,6 @@ module _ (s : List ℕ) (p : ℕ) where
   unfolding recordNumber
   number-sent z = let e : eqb (recordRefusal s p) 0 ≡ true = eq-eqb _ _ z in simp e
 
-  pub refused-line : (number : ℕ) → (recordNumber s p ≡ 0 → ⊥) → (refusedText (recordNumber s p) ≡ lineAt s p number) × (length s ≡ nextAt s p)
-  unfolding lineAt nextAt
-  refused-line number n = let e : eqb (recordNumber s p) 0 ≡ false = ne-eqb _ _ n in (simp e, simp e)
-
-  pub sent-line : (number : ℕ) → recordNumber s p ≡ 0
-      → (sentLine (kindAt s p) (gradeAt s p) number (messageAt s p) ≡ lineAt s p number) × (endAt s p ≡ nextAt s p)
-  unfolding lineAt nextAt
-  sent-line number z = let e : eqb (recordNumber s p) 0 ≡ true = eq-eqb _ _ z in (simp e, simp e)
-
 -- the message, as the code takes it
 pub message-is : (s : List ℕ) (p n : ℕ) → n ≡ messageBytes (kindAt s p) (gradeAt s p) → take (p + 4 + n - (p + 4)) (drop (p + 4) s) ≡ messageAt s p
 message-is s p n e = let q : p + 4 + n - (p + 4) ≡ n = omega arith in ap (λ (m : ℕ). take m (drop (p + 4) s)) (q ∙ e)
-
--- ---- what the listing begins with
-
-module _ (s : List ℕ) where
-  pub begins-long : 32768 < length s → (headerText ++ refusedText 12 ≡ beginning s) × (length s ≡ startOf s)
-  unfolding beginning startOf
-  begins-long h = let e : ltb 32768 (length s) ≡ true = lt-ltb _ _ h in (simp e, simp e)
-
-  pub begins : length s ≤ 32768 → (headerText ≡ beginning s) × (0 ≡ startOf s)
-  unfolding beginning startOf
-  begins h = let e : ltb 32768 (length s) ≡ false = le-ltb _ _ h in (simp e (sym (append-nil headerText)), simp e)
-
-pub header-length : length headerText ≡ 24
-unfolding headerText bytes
-header-length = refl
-
--- ---- what sending a message of a record gives, for its line
-
-module _ (k b number : ℕ) (m : List ℕ) (f : List ℤ) where
-  is : lineOf k b (energy (numberedFrame k b number m)) (numberedFrame k b number m) ≡ sentLine k b number m
-  unfolding sentLine
-  is = refl
-
-  pub sent-shown : (refusal : ℕ) → refusal ≡ 0 → (g : List ℤ) (e : ℕ) → g ≡ frameAfter refusal k b number m f → e ≡ energySent refusal k b number m
-      → (g ≡ numberedFrame k b number m) × (lineOf k b e g ≡ sentLine k b number m)
-  sent-shown refusal z g e qg qe =
-      let r = sent-leaves refusal k b number m f z in
-      (qg ∙ r .0, ap₂ (λ (x : ℕ) (y : List ℤ). lineOf k b x y) (qe ∙ r .1) (qg ∙ r .0) ∙ is)

@@ -8,11 +8,11 @@ use borrow.Author.Tests.{not-true, not-false}
 use Rattle.frames.specs.Kind.{isKind}
 use Rattle.frames.specs.Kind.{isGrade}
 use Rattle.frames.proofs.Rows.{grade-high}
-use Rattle.listing.specs.Record.{marked, kindAt, gradeAt}
-use Rattle.listing.proofs.Tests.{no-mark, no-kind-byte, no-kind, no-grade-byte, no-grade, cut-message, whole}
+use Rattle.sheet_record.specs.Record.{marked, kindAt, gradeAt}
+use Rattle.sheet_record.proofs.Tests.{no-mark, no-kind-byte, no-kind, no-grade-byte, no-grade, cut-message, whole}
 use borrow.Author.Needs.{needs}
-use Rattle.listing.proofs.test_record.Statement.{statement}
-use Rattle.listing.proofs.test_record.Tie as tie
+use Rattle.sheet_record.proofs.test_record.Statement.{statement}
+use Rattle.sheet_record.proofs.test_record.Tie as tie
 
 -- what the tests passed say, one after the other
 has-mark : (c : tie.Else1) → let s = c .before .before .before .args in marked (s .sheet .now) (s .p) ≡ true
