@@ -6,20 +6,17 @@ use mathlib.Core.List.{List, _++_}
 use native.Mathlib.Omega.{arith}
 use lib.IntN.{ℤ}
 use lib.ListN.{length, take, drop}
-use borrow.Rule.Slice.PartMut.{putMid, post-is}
+use borrow.Rule.Slice.PartMut.{putMid}
 use borrow.Author.Tests.{lt-ltb, le-ltb}
 use Rattle.frames.specs.Reading.{sameFrame}
 use Rattle.power_account.specs.declared.Account.{Account}
 use Rattle.account.specs.declared.Counted.{Counted}
 use Rattle.test_data.specs.Alike.{sameBytes}
+use Rattle.test_data.proofs.Parts.{put-first}
 use Rattle.test_calls.specs.declared.record.Call.{Call}
 use Rattle.test_calls.specs.declared.record.Lent.{Lent}
 use Rattle.test_calls.specs.Outcome.{answered, Outcome, outcomeOf, madeOutcome, sameAnswer, isHeld}
 use Rattle.test_calls.proofs.Outcomes.{Comes}
-
--- a part lent from the beginning, written back
-put-first : {A : Type 0} (n : ℕ) (l l′ : List A) → putMid 0 (n - 0) l l′ ≡ l′ ++ drop n l
-put-first n l l′ = ap (λ (t : List _). l′ ++ t) (post-is 0 n l (omega arith))
 
 module _ (c : Call) (m : List ℕ) (x : List ℤ) (a : Account) where
   -- what is lent to the function

@@ -1,3 +1,4 @@
 pub mod Compared
 pub mod Taken
 pub mod Patterns
+pub mod Parts

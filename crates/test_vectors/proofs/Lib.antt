@@ -1,0 +1,4 @@
+pub mod Sent
+pub mod Received
+pub mod Moving
+pub mod Judging
