@@ -1,4 +1,4 @@
-//! Points the linker to the archives of what is measured beside the library, libblock.a and libplain.a: in
+//! Points the linker to the archives of what is measured beside the library, libbench_block.a and libbench_plain.a: in
 //! target/staticlib of the repository, or in the folder that FRAME_CODER_DIR names. The hand-tuned coder alone does not
 //! need them.
 
@@ -14,7 +14,7 @@ fn main() {
         None => Path::new(env!("CARGO_MANIFEST_DIR")).join("../../target/staticlib"),
     };
     println!("cargo:rustc-link-search=native={}", folder.display());
-    for name in ["block", "plain"] {
+    for name in ["bench_block", "bench_plain"] {
         let archive = folder.join(format!("lib{name}.a"));
         println!("cargo:rerun-if-changed={}", archive.display());
         println!("cargo:rustc-link-lib=static={name}");

@@ -6,7 +6,7 @@ use lib.ListN.{getD, take}
 use Rattle.bits.specs.Number.{number}
 use Rattle.frames.specs.Message.{widths, numbers}
 use Rattle.frames.proofs.Numbers.{total}
-use Rattle.sending.proofs.Block.{numbers-at}
+use Rattle.leader.proofs.BlockNumbers.{numbers-at}
 
 -- behind the first, which has one bit less than the others
 pub begins : (b o : ℕ) → 1 ≤ b → 1 ≤ o → o < 8 → total (take o (widths b)) ≡ b * o - 1

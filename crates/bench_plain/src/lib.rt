@@ -39,8 +39,8 @@ fn coordinate(kind: u8, message: &[u8], p: usize, s: u64) -> i32
     while 0 < i {
         i -= 1;
         let r = degrees[i];
-        from -= reed_muller::dimension_of(m, r);
-        x = reed_muller::value_at(message, from, m, r, p) as u64 + 2 * x;
+        from -= level_tables::dimension_of(m, r);
+        x = level_tables::value_at(message, from, m, r, p) as u64 + 2 * x;
     }
     x as i32
 }

@@ -1,5 +1,5 @@
 -- Sums, rows and numbers made of the values of a function. Clients cite all of it. Assumes nothing.
-use Prim.Native.Nat.{ℕ, zero, suc, _+_, _*_, _^_}
+use Prim.Native.Nat.{ℕ, zero, suc, _+_, _*_, _/_, _%_, _^_}
 use mathlib.Core.Bool.{Bool, cond}
 use mathlib.Core.List.{List, [], _∷_, _++_}
 
@@ -20,3 +20,7 @@ table (suc n) f = table n f ++ (f n ∷ [])
 -- the number whose bit p is f p for p < n, and 0 above: lowest first, bit p counts 2 ^ p
 abbrev pub number : ℕ → (ℕ → ℕ) → ℕ
 number n f = sumTo n (λ p. f p * 2 ^ p)
+
+-- bit p of a word that is held in a number
+abbrev pub bitOf : ℕ → ℕ → ℕ
+bitOf w p = w / 2 ^ p % 2

@@ -11,10 +11,10 @@ use lib.ListN.{length, getD, set, length-set}
 use lib.Seq.{getD-set-same, getD-set-other}
 use lib.IntN.{ℤ}
 use borrow.Author.Tests.{lt-ltb, le-ltb}
-use Rattle.bits.specs.Number.{table, given}
+use Rattle.bits.specs.Number.{table, given, bitOf}
 use Rattle.bits.proofs.Message.{number-lt, number-bit, number-of, bytes-are}
 use Rattle.bits.proofs.Digits.{digits-more, digits-fit}
-use Rattle.costs.specs.Costs.{bitOf, costAt, nearestWord, changeCosts}
+use Rattle.costs.specs.Costs.{costAt, nearestWord, changeCosts}
 
 -- two values written before those that stand there already
 stored-before : (g : ℕ → ℕ) (f : List ℕ) (n p v w : ℕ) → p + 1 < length f → v ≡ g p → w ≡ g (p + 1)

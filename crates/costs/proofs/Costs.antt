@@ -6,10 +6,10 @@ use native.Mathlib.Decide.{decLt}
 use native.Mathlib.Omega.{arith}
 use lib.ListN.{length, getD, List·getD-eq-default}
 use lib.IntN.{ℤ, pos, _-ℤ_}
-use Rattle.bits.specs.Number.{table}
+use Rattle.bits.specs.Number.{table, bitOf}
 use Rattle.bits.proofs.Table.{length-table, table-at}
 use Rattle.bits.proofs.Message.{bytes-are}
-use Rattle.costs.specs.Costs.{bitOf, costAt, parityCosts, changeCosts}
+use Rattle.costs.specs.Costs.{costAt, parityCosts, changeCosts}
 use Rattle.costs.proofs.Nearest.{gap-small}
 
 module _ (t : List ℤ) where

@@ -9,7 +9,7 @@ use lib.Dec.{ltb}
 use lib.ListN.{length, getD}
 use lib.IntN.{ℤ, pos, _+ℤ_, _-ℤ_, _*ℤ_}
 use lib.Signed.{shrZ}
-use Rattle.bits.specs.Number.{sumTo, table, number, given}
+use Rattle.bits.specs.Number.{sumTo, table, number, given, bitOf}
 use Rattle.e8.specs.Energy.{sq}
 
 -- which multiple of 2·H is nearest to x
@@ -24,10 +24,6 @@ gap H x = sq (x -ℤ pos (2 * H) *ℤ nearest H x)
 -- half the multiples in use: those of 2 whole numbers, and those of 4
 abbrev pub Half : ℕ → Type 0
 Half h = (h ≡ 256) ⊎ (h ≡ 512)
-
--- bit p of a word
-abbrev pub bitOf : ℕ → ℕ → ℕ
-bitOf w p = w / 2 ^ p % 2
 
 -- the squared distance of sample p from the nearest whole number of residue c modulo 2, where half is 256, or modulo 4, where it is 512
 abbrev pub costAt : ℕ → List ℤ → ℕ → ℕ → ℕ

@@ -4,15 +4,7 @@ ghost use mathlib.Core.Path.{_≡_};
 ghost use Prim.Native.Nat.{_+_, _*_, _<_, _≤_};
 ghost use lib.IntN.{pos, natAbs, _+ℤ_, _-ℤ_, _*ℤ_};
 ghost use Rattle.e8.specs.Energy.{sq};
-ghost use Rattle.costs.specs.Costs.{nearest, gap, bitOf, Half};
-
-// Bit p of a word held in a number.
-pub fn bit(w: u64, p: usize) -> u32
-    requires { ⌜ p < 64 ⌝ }
-    ensures { λ r. ⌜ r ≡ bitOf w p ⌝ }
-{
-    ((w >> p) % 2) as u32
-}
+ghost use Rattle.costs.specs.Costs.{nearest, gap, Half};
 
 // A sample moved up.
 fn lifted(t: i32) -> u32

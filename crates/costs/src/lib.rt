@@ -3,7 +3,7 @@
 mod coordinate;
 mod tables;
 
-pub use coordinate::bit;
+use bits::word::bit;
 use coordinate::nearest_number;
 pub use tables::nearest_word;
 pub use tables::parity_costs;

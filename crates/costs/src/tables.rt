@@ -1,6 +1,6 @@
 // The costs of the samples, two for each: of both parities, and of keeping and changing each bit of the nearest word of level 1.
-use super::coordinate::bit;
 use super::coordinate::gap_of;
+use bits::word::bit;
 ghost use mathlib.Core.Path.{_≡_};
 ghost use Prim.Native.Nat.{_*_, _≤_};
 ghost use lib.ListN.{length};

@@ -19,14 +19,19 @@ use Rattle.e8.proofs.Block.{block-in, block-least, block-range}
 
 -- ---- classes
 
-pub differ-refl : (H n : ℕ) (xs : List ℤ) → Differ H n xs xs
-differ-refl H n xs = record { long = refl; blocks = λ i h. block-refl H (part i xs) }
+pub differ-refl : (H n : ℕ) (xs : List ℤ) → length xs ≡ 8 * n → Differ H n xs xs
+differ-refl H n xs l = record { whole = l; long = refl; blocks = λ i h. block-refl H (part i xs) }
 
 pub differ-sym : (H n : ℕ) (xs ys : List ℤ) → Differ H n xs ys → Differ H n ys xs
-differ-sym H n xs ys d = record { long = sym (d .long); blocks = λ i h. block-sym H (part i xs) (part i ys) (d .blocks i h) }
+differ-sym H n xs ys d = record {
+  whole = d .long ∙ d .whole;
+  long = sym (d .long);
+  blocks = λ i h. block-sym H (part i xs) (part i ys) (d .blocks i h);
+}
 
 pub differ-trans : (H n : ℕ) (xs ys zs : List ℤ) → Differ H n xs ys → Differ H n ys zs → Differ H n xs zs
 differ-trans H n xs ys zs d e = record {
+  whole = d .whole;
   long = e .long ∙ d .long;
   blocks = λ i h. block-trans H (part i xs) (part i ys) (part i zs) (d .blocks i h) (e .blocks i h);
 }
@@ -46,12 +51,13 @@ module _ (H n : ℕ) (xs zs : List ℤ) where
 
   differ-rest : Differ H (suc n) xs zs → Differ H n (drop 8 xs) (drop 8 zs)
   differ-rest d = record {
+    whole = simp length-drop (omega (arith, d .whole));
     long = simp length-drop (omega (arith, d .long));
     blocks = λ i h. subst₂ (InBlock H) (sym (part-next i xs)) (sym (part-next i zs)) (d .blocks (suc i) (omega arith));
   }
 
-  differ-join : length zs ≡ length xs → InBlock H (take 8 xs) (take 8 zs) → Differ H n (drop 8 xs) (drop 8 zs) → Differ H (suc n) xs zs
-  differ-join l a d = record { long = l; blocks = go }
+  differ-join : length xs ≡ 8 * suc n → length zs ≡ length xs → InBlock H (take 8 xs) (take 8 zs) → Differ H n (drop 8 xs) (drop 8 zs) → Differ H (suc n) xs zs
+  differ-join w l a d = record { whole = w; long = l; blocks = go }
     where
       go : (i : ℕ) → i < suc n → InBlock H (part i xs) (part i zs)
       go zero h = a
@@ -83,13 +89,13 @@ module _ (H : ℕ) (pos-H : 0 < H) where
 
   frame-in : (n : ℕ) (x : List ℤ) → length x ≡ 8 * n → Differ H n x (leastFrame H n x)
   unfolding leastFrame
-  frame-in zero x l = record { long = omega arith; blocks = λ i h. absurd (omega arith) }
+  frame-in zero x l = record { whole = l; long = omega arith; blocks = λ i h. absurd (omega arith) }
   frame-in (suc n) x l =
       let la : length (take 8 x) ≡ 8 = simp length-take (omega arith) in
       let lb : length (drop 8 x) ≡ 8 * n = simp length-drop (omega arith) in
       let a : List ℤ = leastBlock H (take 8 x) in
       let b : List ℤ = leastFrame H n (drop 8 x) in
-      differ-join H n x (a ++ b) (frame-size (suc n) x l ∙ sym l)
+      differ-join H n x (a ++ b) l (frame-size (suc n) x l ∙ sym l)
       (subst (InBlock H (take 8 x)) (sym (take-at a b 8 (block-size (take 8 x) la))) (block-in H pos-H 1 (take 8 x) la))
       (subst (Differ H n (drop 8 x)) (sym (drop-at a b 8 (block-size (take 8 x) la))) (frame-in n (drop 8 x) lb))
 

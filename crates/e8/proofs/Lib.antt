@@ -14,3 +14,4 @@ pub mod Within
 pub mod Largest
 pub mod Negation
 pub mod Ties
+pub mod Blockwise

@@ -97,6 +97,7 @@ negated-part i xs = negated-take 8 (drop (8 * i) xs) ∙ ap (take 8) (negated-dr
 -- and so the negated frames
 pub differ-negated : (H n : ℕ) (xs zs : List ℤ) → Differ H n xs zs → Differ H n (negated xs) (negated zs)
 differ-negated H n xs zs d = record {
+  whole = negated-length xs ∙ d .whole;
   long = negated-length zs ∙ d .long ∙ sym (negated-length xs);
   blocks = λ i h. subst₂ (InBlock H) (negated-part i xs) (negated-part i zs) (block-negated H (part i xs) (part i zs) (d .blocks i h));
 }

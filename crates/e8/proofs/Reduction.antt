@@ -10,7 +10,7 @@ use Rattle.integers.specs.Integer.{modZ}
 use Rattle.integers.proofs.Zed.{`_, #_, _⊕_, _⊖_, _⊗_, eq!, eq?}
 use Rattle.integers.proofs.Floor.{div-mod}
 use Rattle.e8.specs.Least.{lowered}
-use Rattle.e8.specs.Rows.{ints, takenOff, rows, reducedBy, remainders, reduced}
+use Rattle.e8.specs.Rows.{ints, takenOff, rows, reducedBy, laterNumbers, reduced}
 
 -- ---- blocks of eight
 
@@ -115,7 +115,7 @@ module _ (h : ℕ) (p : 0 < h) where
     mine y = own y 2 (omega arith)
 
     later-rows : reducedBy 1 (drop 1 (rows h)) (s ∷ y₂ ∷ y₃ ∷ y₄ ∷ y₅ ∷ y₆ ∷ y₇ ∷ y₈ ∷ [])
-        ≡ s ∷ ints (remainders h (pos 0) (y₂ ∷ y₃ ∷ y₄ ∷ y₅ ∷ y₆ ∷ y₇ ∷ y₈ ∷ []))
+        ≡ s ∷ ints (laterNumbers h (pos 0) (y₂ ∷ y₃ ∷ y₄ ∷ y₅ ∷ y₆ ∷ y₇ ∷ y₈ ∷ []))
     unfolding reducedBy
     later-rows =
         let r : ℤ = shrZ z₇ (h * 4) in

@@ -13,7 +13,7 @@ use Rattle.integers.specs.Integer.{modZ}
 use Rattle.integers.proofs.Floor.{modZ-lt, div-mod, digits-q, digits-r, multiple-rem, rem-multiple}
 use Rattle.e8.specs.Lattice.{sum, Each, moved, InBlock}
 use Rattle.e8.specs.Least.{lowered}
-use Rattle.e8.specs.Rows.{ints, remainders, reduced, Below, Ranged}
+use Rattle.e8.specs.Rows.{ints, laterNumbers, reduced, Below, Ranged}
 use Rattle.e8.proofs.Group.{block-trans, block-const}
 
 -- ---- lengths
@@ -26,28 +26,28 @@ pub ints-length : (l : List ℕ) → length (ints l) ≡ length l
 ints-length [] = refl
 ints-length (s ∷ l) = ap suc (ints-length l)
 
-pub remainders-length : (h : ℕ) (Q : ℤ) (ys : List ℤ) → length (remainders h Q ys) ≡ length ys
-remainders-length h Q [] = refl
-remainders-length h Q (y ∷ []) = refl
-remainders-length h Q (y ∷ z ∷ zs) = ap suc (remainders-length h (Q +ℤ shrZ y (2 * h)) (z ∷ zs))
+pub later-length : (h : ℕ) (Q : ℤ) (ys : List ℤ) → length (laterNumbers h Q ys) ≡ length ys
+later-length h Q [] = refl
+later-length h Q (y ∷ []) = refl
+later-length h Q (y ∷ z ∷ zs) = ap suc (later-length h (Q +ℤ shrZ y (2 * h)) (z ∷ zs))
 
 pub reduced-length : (h : ℕ) (xs : List ℤ) → length (reduced h xs) ≡ length xs
 unfolding reduced
 reduced-length h [] = refl
-reduced-length h (x ∷ xs) = ap suc (remainders-length h (pos 0) (lowered (pos h *ℤ shrZ x h) xs) ∙ lowered-length (pos h *ℤ shrZ x h) xs)
+reduced-length h (x ∷ xs) = ap suc (later-length h (pos 0) (lowered (pos h *ℤ shrZ x h) xs) ∙ lowered-length (pos h *ℤ shrZ x h) xs)
 
 -- ---- in range
 
-remainders-below : (h : ℕ) (Q y : ℤ) (ys : List ℤ) → 0 < h → Below h (remainders h Q (y ∷ ys))
-remainders-below h Q y [] k = modZ-lt (y -ℤ pos (2 * h) *ℤ Q) (4 * h) (omega arith)
-remainders-below h Q y (z ∷ []) k = (modZ-lt y (2 * h) (omega arith), remainders-below h (Q +ℤ shrZ y (2 * h)) z [] k)
-remainders-below h Q y (z ∷ z₁ ∷ zs) k = (modZ-lt y (2 * h) (omega arith), remainders-below h (Q +ℤ shrZ y (2 * h)) z (z₁ ∷ zs) k)
+later-below : (h : ℕ) (Q y : ℤ) (ys : List ℤ) → 0 < h → Below h (laterNumbers h Q (y ∷ ys))
+later-below h Q y [] k = modZ-lt (y -ℤ pos (2 * h) *ℤ Q) (4 * h) (omega arith)
+later-below h Q y (z ∷ []) k = (modZ-lt y (2 * h) (omega arith), later-below h (Q +ℤ shrZ y (2 * h)) z [] k)
+later-below h Q y (z ∷ z₁ ∷ zs) k = (modZ-lt y (2 * h) (omega arith), later-below h (Q +ℤ shrZ y (2 * h)) z (z₁ ∷ zs) k)
 
 pub reduced-ranged : (h : ℕ) (xs : List ℤ) → 0 < h → 1 < length xs → Ranged h (reduced h xs)
 unfolding reduced
 reduced-ranged h [] k n = absurd (omega arith)
 reduced-ranged h (x ∷ []) k n = absurd (omega arith)
-reduced-ranged h (x ∷ y ∷ ys) k n = (modZ-lt x h k, remainders-below h (pos 0) (y -ℤ pos h *ℤ shrZ x h) (lowered (pos h *ℤ shrZ x h) ys) k)
+reduced-ranged h (x ∷ y ∷ ys) k n = (modZ-lt x h k, later-below h (pos 0) (y -ℤ pos h *ℤ shrZ x h) (lowered (pos h *ℤ shrZ x h) ys) k)
 
 -- ---- in the class
 
@@ -59,8 +59,8 @@ record Lower (h : ℕ) (Q : ℤ) (ys zs : List ℤ) : Type 0 where
   even : Each false ws
   total : sum ws ≡ pos 2 *ℤ Q +ℤ pos 4 *ℤ k
 
-remainders-in : (h : ℕ) (Q y : ℤ) (ys : List ℤ) → 0 < h → Lower h Q (y ∷ ys) (ints (remainders h Q (y ∷ ys)))
-remainders-in h Q y [] p =
+later-in : (h : ℕ) (Q y : ℤ) (ys : List ℤ) → 0 < h → Lower h Q (y ∷ ys) (ints (laterNumbers h Q (y ∷ ys)))
+later-in h Q y [] p =
     let v : ℤ = y -ℤ pos (2 * h) *ℤ Q in
     let q : ℤ = shrZ v (4 * h) in
     let r : ℕ = modZ v (4 * h) in
@@ -77,10 +77,10 @@ remainders-in h Q y [] p =
       );
       total = eq! (# 2 ⊗ ` Q ⊕ # 4 ⊗ ` q ⊕ # 0) (# 2 ⊗ ` Q ⊕ # 4 ⊗ ` q) (omega arith);
     }
-remainders-in h Q y (z ∷ zs) p =
+later-in h Q y (z ∷ zs) p =
     let q : ℤ = shrZ y (2 * h) in
     let s : ℕ = modZ y (2 * h) in
-    let l : Lower h (Q +ℤ q) (z ∷ zs) (ints (remainders h (Q +ℤ q) (z ∷ zs))) = remainders-in h (Q +ℤ q) z zs p in
+    let l : Lower h (Q +ℤ q) (z ∷ zs) (ints (laterNumbers h (Q +ℤ q) (z ∷ zs))) = later-in h (Q +ℤ q) z zs p in
     record {
       ws = (pos 2 *ℤ q) ∷ l .ws;
       k = q +ℤ l .k;
@@ -100,8 +100,8 @@ reduced-in h j (x ∷ y ∷ ys) p n =
     let q : ℤ = shrZ x h in
     let y′ : ℤ = y -ℤ pos h *ℤ q in
     let ys′ : List ℤ = lowered (pos h *ℤ q) ys in
-    let l : Lower h (pos 0) (y′ ∷ ys′) (ints (remainders h (pos 0) (y′ ∷ ys′))) = remainders-in h (pos 0) y′ ys′ p in
-    block-trans h (x ∷ y ∷ ys) ((x -ℤ pos h *ℤ q) ∷ y′ ∷ ys′) (pos (modZ x h) ∷ ints (remainders h (pos 0) (y′ ∷ ys′))) (block-const h (suc j) q (x ∷ y ∷ ys) n)
+    let l : Lower h (pos 0) (y′ ∷ ys′) (ints (laterNumbers h (pos 0) (y′ ∷ ys′))) = later-in h (pos 0) y′ ys′ p in
+    block-trans h (x ∷ y ∷ ys) ((x -ℤ pos h *ℤ q) ∷ y′ ∷ ys′) (pos (modZ x h) ∷ ints (laterNumbers h (pos 0) (y′ ∷ ys′))) (block-const h (suc j) q (x ∷ y ∷ ys) n)
     (record {
       ws = pos 0 ∷ l .ws;
       long = ap suc (l .long);

@@ -47,7 +47,8 @@ pub record InBlock (H : ℕ) (xs zs : List ℤ) : Type 0 where
 abbrev pub part : ℕ → List ℤ → List ℤ
 part i xs = take 8 (drop (8 * i) xs)
 
--- the frames xs and zs of n blocks differ by a point of the shaping lattice, which is M·E8 on each block: they are of one class
+-- xs and zs are frames of n blocks and differ by a point of the shaping lattice, which is M·E8 on each block: they are of one class
 pub record Differ (H n : ℕ) (xs zs : List ℤ) : Type 0 where
+  pub whole : length xs ≡ 8 * n
   pub long : length zs ≡ length xs
   pub blocks : (i : ℕ) → i < n → InBlock H (part i xs) (part i zs)

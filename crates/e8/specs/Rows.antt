@@ -60,16 +60,18 @@ unfoldable pub reducedBy : ℕ → List (List ℤ) → List ℤ → List ℤ
 reducedBy i [] xs = xs
 reducedBy i (r ∷ rs) xs = reducedBy (suc i) rs (takenOff (shrZ (getD xs i (pos 0)) (natAbs (getD r i (pos 0)))) r xs)
 
--- the rows after the first, taken off as often as the remainder in their own place stays from 0 on; each changes the last place too, by 2h·Q in all
-abbrev pub remainders : ℕ → ℤ → List ℤ → List ℕ
-remainders h Q [] = []
-remainders h Q (y ∷ []) = modZ (y -ℤ pos (2 * h) *ℤ Q) (4 * h) ∷ []
-remainders h Q (y ∷ z ∷ zs) = modZ y (2 * h) ∷ remainders h (Q +ℤ shrZ y (2 * h)) (z ∷ zs)
+-- s2 to s8, from the numbers y2 to y8 that the first row leaves. Rows 2 to 7 have 2h in their own place and in the last: of yi row i is taken off
+-- as often as 2h goes into it, and si is the remainder by 2h; Q counts how often that was in all, and 2h·Q is gone from the last place. There the
+-- last row has 4h, and s8 is the remainder by 4h
+abbrev pub laterNumbers : ℕ → ℤ → List ℤ → List ℕ
+laterNumbers h Q [] = []
+laterNumbers h Q (y ∷ []) = modZ (y -ℤ pos (2 * h) *ℤ Q) (4 * h) ∷ []
+laterNumbers h Q (y ∷ z ∷ zs) = modZ y (2 * h) ∷ laterNumbers h (Q +ℤ shrZ y (2 * h)) (z ∷ zs)
 
 -- THE REDUCTION of a block to s1 .. s8, computed: the first row is taken off every place, then the others. It is the reduction by the rows (proofs/Reduction)
 unfoldable pub reduced : ℕ → List ℤ → List ℕ
 reduced h [] = []
-reduced h (x ∷ xs) = modZ x h ∷ remainders h (pos 0) (lowered (pos h *ℤ shrZ x h) xs)
+reduced h (x ∷ xs) = modZ x h ∷ laterNumbers h (pos 0) (lowered (pos h *ℤ shrZ x h) xs)
 
 -- the ranges that the diagonal gives: s2 to s7 below 2h, s8 below 4h
 abbrev pub Below : ℕ → List ℕ → Type 0

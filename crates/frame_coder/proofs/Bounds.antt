@@ -1,27 +1,27 @@
 -- What is reported by the functions that are exported: energies fit a signed number (at most 2^20 for a sent frame, 2^46 for a frame that
 -- is read), and the answer is made from them and the refusal number; an account is that of its lent numbers, since its changeover stays.
 -- Assumes nothing.
-use Prim.Native.Nat.{ℕ, _^_, _≤_}
-use mathlib.Core.Path.{_≡_, refl, sym, ap, _∙_}
+use Prim.Native.Nat.{ℕ, zero, suc, _^_, _≤_}
+use mathlib.Core.Path.{_≡_, refl, sym, ap, subst, _∙_}
 use mathlib.Core.Bool.{Bool, true, false, cond}
 use mathlib.Core.List.{List}
 use native.Mathlib.Omega.{arith}
 use lib.Dec.{eqb}
-use lib.IntN.{ℤ, pos, negℤ}
+use lib.IntN.{ℤ, pos, negsuc, negℤ, natAbs}
 use lib.Ieee.{Float}
 use borrow.Author.Tests.{eqb-true, eq-eqb, ne-eqb}
 use Rattle.e8.specs.Energy.{energy}
 use Rattle.frames.specs.Frame.{numberedFrame}
-use Rattle.frames.specs.Sending.{sendRefusal, energySent}
+use Rattle.frames.specs.Sending.{sendRefusal, energySent, LeastEnergy}
 use Rattle.frames.specs.Reading.{openRefusal, strictRefusal, energyRead}
 use Rattle.frames.proofs.Accepted.{all-passed}
 use Rattle.frames.proofs.Refusals.{accepted, range-within}
 use Rattle.frames.proofs.Limits.{few-positions}
 use Rattle.frames.proofs.Bounds.{short-energy, sent-energy}
 use Rattle.frames.proofs.Reading.{strict-passed}
-use Rattle.account.specs.declared.Account.{Account}
-use Rattle.account.specs.Counted.{numberFor, countedRefusal}
-use Rattle.account.proofs.Answers.{passed}
+use Rattle.power_account.specs.declared.Account.{Account}
+use Rattle.power_account.specs.Counted.{numberFor, countedRefusal}
+use Rattle.power_account.proofs.Answers.{passed}
 use Rattle.near_reading.specs.declared.NearReading.{NearReading}
 use Rattle.near_reading.specs.declared.NearReading.the-variants.{Near, Far, Refused}
 use Rattle.near_reading.specs.Answer.{nearNumber, nearDistance, nearAnswer}
@@ -35,6 +35,20 @@ answer-is number e = go (eqb number 0)
     go : (v : Bool) → cond v (pos (cond v e 0)) (negℤ (pos number)) ≡ cond v (pos e) (negℤ (pos number))
     go true = refl
     go false = refl
+
+-- what is promised where sending answers 0, where the answer is an energy: no refusal's is
+is-negative : ℤ → ℕ
+is-negative (pos n) = 0
+is-negative (negsuc n) = 1
+
+pub least-answer : (k b : ℕ) (f : List ℤ) (refusal e : ℕ) → (refusal ≡ 0 → LeastEnergy k b f e)
+    → (r : ℤ) → r ≡ answerOf refusal e → (e′ : ℕ) → r ≡ pos e′ → LeastEnergy k b f e′
+unfolding answerOf is-negative
+least-answer k b f zero e h r q e′ p = subst (LeastEnergy k b f) (ap natAbs (sym q ∙ p)) (h refl)
+least-answer k b f (suc n) e h r q e′ p =
+    let is = q ∙ ap (λ (t : Bool). cond t (pos e) (negsuc n)) (ne-eqb (suc n) 0 (λ z. omega (arith, z))) in
+    let o : _≡_ {A = ℕ} 1 0 = ap is-negative (sym is ∙ p) in
+    absurd (omega (arith, o))
 
 pub send-answer : (refusal k b number : ℕ) (bytes : List ℕ) (n : ℕ) → refusal ≡ sendRefusal k b bytes n
     → answerOf refusal (energySent refusal k b number bytes) ≡ sendAnswer k b number bytes n

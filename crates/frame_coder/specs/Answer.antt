@@ -10,9 +10,9 @@ use Rattle.e8.specs.Energy.{energy}
 use Rattle.frames.specs.Frame.{numberedFrame}
 use Rattle.frames.specs.Sending.{sendRefusal, frameAfter}
 use Rattle.frames.specs.Reading.{openRefusal, strictRefusal, messageAfter}
-use Rattle.account.specs.declared.Account.{Account}
-use Rattle.account.specs.Opening.{openingRefusal}
-use Rattle.account.specs.Counted.{numberFor, countedRefusal, countedAccount}
+use Rattle.power_account.specs.declared.Account.{Account}
+use Rattle.power_account.specs.Opening.{openingRefusal}
+use Rattle.power_account.specs.Counted.{numberFor, countedRefusal, countedAccount}
 use Rattle.queue.specs.Queue.{queueOutcome}
 use Rattle.near_reading.specs.Answer.{nearNumber, nearDistance}
 

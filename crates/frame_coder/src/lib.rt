@@ -1,12 +1,14 @@
 // The library as other languages call it: a slice passes as a pointer and a length. `frame_coder.h` says what a caller has to see to.
 ghost use mathlib.Core.Path.{_≡_};
-ghost use Prim.Native.Nat.{_≤_, _^_};
+ghost use Prim.Native.Nat.{ℕ, _≤_, _^_};
+ghost use lib.IntN.{pos};
 ghost use lib.ListN.{length};
+ghost use Rattle.frames.specs.Sending.{LeastEnergy};
 ghost use Rattle.frame_coder.specs.Answer.{answerOf, sendAnswer, sendFrame, openAnswer, openBytes, strictAnswer, strictBytes};
 ghost use Rattle.frame_coder.specs.Answer.{accountOf, openingAnswer, countedAnswer, countedFrame, countedHeld, queueAnswer};
-ghost use Rattle.account.specs.Opening.{openedWith};
+ghost use Rattle.power_account.specs.Opening.{openedWith};
 ghost use Rattle.frame_coder.specs.Answer.{nearCode, nearHeld};
-ghost use Rattle.queue.specs.Queue.{queueOutcome, queueFrames};
+ghost use Rattle.queue.specs.Queue.{queueOutcome, queueFrames, EachLeast};
 ghost use Rattle.near_reading.specs.Answer.{nearMessage};
 
 // The energy, or minus the refusal number.
@@ -31,6 +33,7 @@ pub extern "C" fn coder_send(
 ) -> i64
     ensures answer { λ r. ⌜ r ≡ sendAnswer kind grade number (now (message .entry)) (length (now (frame .entry))) ⌝ }
     ensures frame { λ r. ⌜ now (frame .exit) ≡ sendFrame kind grade number (now (message .entry)) (now (frame .entry)) ⌝ }
+    ensures least { λ r. ⌜ ((e : ℕ) → r ≡ pos e → LeastEnergy kind grade (now (frame .exit)) e) ⌝ }
 {
     let r = sending::send(kind, grade, number, message, frame);
     answer(r.number, r.energy)
@@ -104,6 +107,7 @@ pub extern "C" fn coder_send_counted(
     ensures account { λ r. ⌜ accountOf (now (count .exit)) (now (sum .exit)) (now (largest .exit)) changeover
         ≡ countedHeld kind grade (now (message .entry)) (length (now (frame .entry)))
         (accountOf (now (count .entry)) (now (sum .entry)) (now (largest .entry)) changeover) ⌝ }
+    ensures least { λ r. ⌜ ((e : ℕ) → r ≡ pos e → LeastEnergy kind grade (now (frame .exit)) e) ⌝ }
 {
     let before = account::Account {
         count: *count,
@@ -145,6 +149,7 @@ pub extern "C" fn coder_send_queue(
         (accountOf (now (count .entry)) (now (sum .entry)) (now (largest .entry)) changeover) .account ⌝ }
     ensures sent { λ r. ⌜ now (sent .exit) ≡ queueOutcome kind grade (now (messages .entry)) (length (now (frames .entry)))
         (accountOf (now (count .entry)) (now (sum .entry)) (now (largest .entry)) changeover) .sent ⌝ }
+    ensures least { λ r. ⌜ EachLeast kind grade (now (sent .exit)) (now (frames .exit)) ⌝ }
 {
     let before = account::Account {
         count: *count,

@@ -1,4 +1,5 @@
--- THE DEMANDS as theorems, sentence by sentence: what is sent, that its energy is least, one message for each class, and the distance.
+-- THE DEMANDS as theorems, sentence by sentence: what is sent, that its energy is least, one message for each class, and the distance (that it is reached
+-- stands in long_frames).
 -- For every kind of the table, every grade and every number of a frame. Assumes nothing.
 use Prim.Native.Nat.{ℕ, zero, suc, _+_, _-_, _*_, _/_, _%_, _^_, _≤_, _<_}
 use mathlib.Core.Path.{_≡_, refl, sym, ap, _∙_, subst}
@@ -19,7 +20,7 @@ use Rattle.frames.specs.Message.{Bytes, Message, blockNumbers, coordinat
 use Rattle.frames.specs.Frame.{InCodingSet, half, SameClass, isOdd, Sent, numberedFrame, leastDistance}
 use Rattle.frames.specs.Sending.{Accepts, LeastEnergy}
 use Rattle.frames.specs.Reading.{openMessage}
-use Rattle.frames.specs.Demands.{Sendable, OneMessage, Reached}
+use Rattle.frames.specs.Demands.{Sendable, OneMessage}
 use Rattle.frames.proofs.Levels.{Codes, apartBy, apart}
 use Rattle.frames.proofs.Stacked.{stacked-codes, codes-plus}
 use Rattle.frames.proofs.Frame.{at, codes-of, of-codes}
@@ -29,7 +30,6 @@ use Rattle.frames.proofs.Rows.{grade-low}
 use Rattle.frames.proofs.Limits.{shape, distances}
 use Rattle.frames.proofs.Distance.{distance-sum, Apart, somewhere}
 use Rattle.frames.proofs.Accepted.{message-accepted, accepted-exactly}
-use Rattle.frames.proofs.Reached.{reached}
 
 pub half-pos : (k b : ℕ) → 0 < half k b
 unfolding half
@@ -91,6 +91,23 @@ module _ (k b : ℕ) (kind : isKind k ≡ true) (grade : 1 ≤ b) (number : ℕ)
     small = sent-within bytes;
   })
 
+-- ---- the distance
+
+-- "Any two different coding-set frames are at least the kind's squared distance apart": 4, 8, 16, 32
+pub set-apart : (k : ℕ) → isKind k ≡ true → (f g : List ℤ) → InCodingSet k f → InCodingSet k g → (f ≡ g → ⊥) → leastDistance k ≤ distance f g
+unfolding levels
+set-apart k kind f g sf sg ne =
+    subst (λ (d : ℕ). d ≤ distance f g) (distances k kind)
+    (subst (λ (d : ℕ). apartBy k (degrees k) ≤ d) (sym (distance-sum f g same ∙ ap (λ (m : ℕ). sumTo m (λ p. sq (at f p -ℤ at g p))) (sf .long)))
+    (apart k (degrees k) (shape k kind .fit) (at f) (at g) (codes-of k (degrees k) f (sf .codewords)) (codes-of k (degrees k) g (sg .codewords))
+    (a .position) (omega (arith, a .inside, sf .long)) (a .differ)))
+  where
+    same : length f ≡ length g
+    same = sf .long ∙ sym (sg .long)
+
+    a : Apart f g
+    a = somewhere f g same ne
+
 -- ---- one message for each class
 
 leader-codes : (k b : ℕ) → Shape k → (bytes : List ℕ) → Codes k (degrees k) (at (leader k b bytes))
@@ -131,6 +148,11 @@ module _ (k b : ℕ) (kind : isKind k ≡ true) (grade : isGrade b ≡ true) whe
   sent-class : (number : ℕ) (bytes : List ℕ) → SameClass k b (leader k b bytes) (numberedFrame k b number bytes)
   sent-class number bytes = sent-frame k b kind low number bytes .member
 
+  -- a sent frame differs from itself by all zeros
+  sent-same : (number : ℕ) (bytes : List ℕ) → SameClass k b (numberedFrame k b number bytes) (numberedFrame k b number bytes)
+  sent-same number bytes =
+      differ-refl (half k b) (blocks k) (numberedFrame k b number bytes) (sent-length k b kind low number bytes ∙ sym (shape k kind .whole))
+
   -- every frame that differs from a sent frame by a lattice point is in the coding set: with `exactly-one`, these are all of its frames
   pub class-in-set : (number : ℕ) (bytes : List ℕ) (f : List ℤ) → SameClass k b (numberedFrame k b number bytes) f → InCodingSet k f
   class-in-set number bytes f d =
@@ -140,7 +162,7 @@ module _ (k b : ℕ) (kind : isKind k ≡ true) (grade : isGrade b ≡ true) whe
   -- the sent frame is in the coding set
   pub sent-in-set : (number : ℕ) (bytes : List ℕ) → InCodingSet k (numberedFrame k b number bytes)
   sent-in-set number bytes =
-      class-in-set number bytes (numberedFrame k b number bytes) (differ-refl (half k b) (blocks k) (numberedFrame k b number bytes))
+      class-in-set number bytes (numberedFrame k b number bytes) (sent-same number bytes)
 
   -- what the open reading gives is a message of the kind and grade
   pub read-message : (f : List ℤ) → InCodingSet k f → Message k b (openMessage k b f)
@@ -183,39 +205,18 @@ module _ (k b : ℕ) (kind : isKind k ≡ true) (grade : isGrade b ≡ true) whe
     only = λ other m d. one-only number number other (openMessage k b f) f m (read-message f set) d (read-class number f set);
   }
 
-  -- ---- the distance
-
-  -- "Any two different coding-set frames are at least the kind's squared distance apart": 4, 8, 16, 32
-  pub set-apart : (f g : List ℤ) → InCodingSet k f → InCodingSet k g → (f ≡ g → ⊥) → leastDistance k ≤ distance f g
-  unfolding levels
-  set-apart f g sf sg ne =
-      subst (λ (d : ℕ). d ≤ distance f g) (distances k kind)
-      (subst (λ (d : ℕ). apartBy k (degrees k) ≤ d) (sym (distance-sum f g same ∙ ap (λ (m : ℕ). sumTo m (λ p. sq (at f p -ℤ at g p))) (sf .long)))
-      (apart k (degrees k) (shape k kind .fit) (at f) (at g) (codes-of k (degrees k) f (sf .codewords)) (codes-of k (degrees k) g (sg .codewords))
-      (a .position) (omega (arith, a .inside, sf .long)) (a .differ)))
-    where
-      same : length f ≡ length g
-      same = sf .long ∙ sym (sg .long)
-
-      a : Apart f g
-      a = somewhere f g same ne
-
   -- different messages have different frames, whatever their two numbers
   pub messages-differ : (number other : ℕ) (x y : List ℕ) → Message k b x → Message k b y
       → numberedFrame k b number x ≡ numberedFrame k b other y → x ≡ y
   messages-differ number other x y mx my e = one-only number other x y (numberedFrame k b other y) mx my
-      (subst (SameClass k b (numberedFrame k b number x)) e (differ-refl (half k b) (blocks k) (numberedFrame k b number x)))
-      (differ-refl (half k b) (blocks k) (numberedFrame k b other y))
+      (subst (SameClass k b (numberedFrame k b number x)) e (sent-same number x))
+      (sent-same other y)
 
   -- "two different messages of one kind and grade keep their distance whatever their numbers"
   pub sent-apart : (number other : ℕ) (x y : List ℕ) → Message k b x → Message k b y → (x ≡ y → ⊥)
       → leastDistance k ≤ distance (numberedFrame k b number x) (numberedFrame k b other y)
-  sent-apart number other x y mx my ne = set-apart (numberedFrame k b number x) (numberedFrame k b other y) (sent-in-set number x) (sent-in-set other y)
+  sent-apart number other x y mx my ne = set-apart k kind (numberedFrame k b number x) (numberedFrame k b other y) (sent-in-set number x) (sent-in-set other y)
       (λ e. ne (messages-differ number other x y mx my e))
-
-  -- "and at each grade two messages are sent at exactly that"
-  pub exactly-apart : Reached k b
-  exactly-apart = reached k b kind grade
 
 -- ---- the same of what is SENT: of bytes that sending accepts, whatever kind and grade they are sent at
 

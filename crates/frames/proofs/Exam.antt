@@ -1,14 +1,15 @@
--- The table of kinds of document 01 and request E1, the leader's terms, the coding set of kind 6, the exam frames and the further cases are met,
+-- The table of kinds of document 01 and request E1, the leader's terms, the coding set, the exam frames and the further cases are met,
 -- and the tests are made in their order: all by computing. Assumes nothing.
-use Prim.Native.Nat.{ℕ, zero, suc, _+_, _*_, _<_}
-use mathlib.Core.Path.{_≡_, refl}
-use mathlib.Core.Bool.{true, false, _||_, or-false}
+use Prim.Native.Nat.{ℕ, zero, suc, _+_, _*_, _≤_, _<_}
+use mathlib.Core.Path.{_≡_, refl, sym, ap₂, _∙_}
+use mathlib.Core.Bool.{true, false, _&&_, _||_, or-false}
 use mathlib.Core.List.{List, [], _∷_, map}
 use native.Mathlib.Omega.{arith}
 use lib.Count.{ones}
 use lib.Dec.{eqb}
 use lib.IntN.{ℤ}
 use lib.ListN.{getD}
+use borrow.Author.Tests.{le-leb, lt-leb, ne-eqb}
 use Rattle.bits.specs.Number.{sumTo, table}
 use Rattle.reed_muller.specs.Level.{ofWeight, masks, order, dimension, codeword, backwards, clearAbove, belongs}
 use Rattle.bits.specs.Message.{messageBit, byteOf, bytesOf}
@@ -24,17 +25,30 @@ use Rattle.frames.specs.Sending.{anySet, spareSet, sendRefusal}
 use Rattle.frames.specs.Reading.{levelMessage, levelMessages, quotients, digits, allDigits, blockMessages, readBits, openMessage}
 use Rattle.frames.specs.Reading.{sameFrame, inRange, broken, openRefusal, isSent, strictRefusal}
 use Rattle.frames.specs.Exam.{printed, AllPrinted, levelAt, blockNumberAt, Leader, exams, sentAs, examined, layout, Numbered, numbered, sentUnder}
-use Rattle.frames.specs.Exam.{SixCodewords, CodingSetOfSix, NumberedTests, FurtherCases, SendingTests, ReadingTests, KindSixTests}
+use Rattle.frames.specs.Exam.{AllSets, NumberedTests, FurtherCases, SendingTests, ReadingTests}
 
 -- the kinds are those printed: 3, 4, 5, 6 and no other
 pub kinds-are : (k : ℕ) → isKind k ≡ (eqb k 3 || (eqb k 4 || (eqb k 5 || eqb k 6)))
 unfolding isKind kinds
 kinds-are k = rw (or-false (eqb k 6))
 
--- the grades are 1 to 4
-pub grades-are : map isGrade (0 ∷ 1 ∷ 2 ∷ 3 ∷ 4 ∷ 5 ∷ []) ≡ false ∷ true ∷ true ∷ true ∷ true ∷ false ∷ []
+-- the grades are those printed: 1, 2, 3, 4 and no other
+pub grades-are : (b : ℕ) → isGrade b ≡ (eqb b 1 || (eqb b 2 || (eqb b 3 || eqb b 4)))
 unfolding isGrade
-grades-are = refl
+grades-are zero = refl
+grades-are (suc zero) = refl
+grades-are (suc (suc zero)) = refl
+grades-are (suc (suc (suc zero))) = refl
+grades-are (suc (suc (suc (suc zero)))) = refl
+grades-are (suc (suc (suc (suc (suc c))))) = above (suc (suc (suc (suc (suc c))))) (omega arith)
+  where
+    above : (b : ℕ) → 4 < b → isGrade b ≡ (eqb b 1 || (eqb b 2 || (eqb b 3 || eqb b 4)))
+    above b h =
+        ap₂ _&&_ (le-leb 1 b (omega arith)) (lt-leb b 4 h)
+        ∙ sym (ap₂ _||_ (other 1 (omega arith)) (ap₂ _||_ (other 2 (omega arith)) (ap₂ _||_ (other 3 (omega arith)) (other 4 (omega arith)))))
+      where
+        other : (n : ℕ) → n ≤ 4 → eqb b n ≡ false
+        other n l = ne-eqb b n (λ e. omega arith)
 
 -- each row says what the definitions give
 pub printed-rows : AllPrinted printed
@@ -66,23 +80,53 @@ leader-terms b bytes p = record {
     four : (c₀ c₁ c₂ s : ℕ) → c₀ + 2 * (c₁ + 2 * (c₂ + 2 * s)) ≡ c₀ + 2 * c₁ + 4 * c₂ + 8 * s
     four c₀ c₁ c₂ s = omega arith
 
-pub coding-set-of-six : (f : List ℤ) → CodingSetOfSix f
+-- the coding set of each kind is the printed one
+pub sets-as-printed : (f : List ℤ) → AllSets printed f
 unfolding weightBit levels degrees kinds
-coding-set-of-six f = record {
-  codewords = λ set. record {
-    long = set .long;
-    weight-1 = set .codewords 0 (omega arith);
-    weight-2 = set .codewords 1 (omega arith);
-    weight-4 = set .codewords 2 (omega arith);
-  };
-  inside = λ six. record { long = six .long; codewords = each six };
-}
+sets-as-printed f = (
+  record {
+    long = λ set. set .long;
+    codewords = λ set. (set .codewords 0 (omega arith), tt);
+    inside = λ l c. record { long = l; codewords = one (λ i. belongs (getD (1 ∷ []) i 0) 3 (levelWord i f) ≡ true) (c .0) };
+  },
+  (
+    record {
+      long = λ set. set .long;
+      codewords = λ set. (set .codewords 0 (omega arith), (set .codewords 1 (omega arith), tt));
+      inside = λ l c. record { long = l; codewords = two (λ i. belongs (getD (1 ∷ 3 ∷ []) i 0) 4 (levelWord i f) ≡ true) (c .0) (c .1 .0) };
+    },
+    (
+      record {
+        long = λ set. set .long;
+        codewords = λ set. (set .codewords 0 (omega arith), (set .codewords 1 (omega arith), tt));
+        inside = λ l c. record { long = l; codewords = two (λ i. belongs (getD (1 ∷ 3 ∷ []) i 0) 5 (levelWord i f) ≡ true) (c .0) (c .1 .0) };
+      },
+      (
+        record {
+          long = λ set. set .long;
+          codewords = λ set. (set .codewords 0 (omega arith), (set .codewords 1 (omega arith), (set .codewords 2 (omega arith), tt)));
+          inside = λ l c. record {
+            long = l;
+            codewords = three (λ i. belongs (getD (1 ∷ 3 ∷ 5 ∷ []) i 0) 6 (levelWord i f) ≡ true) (c .0) (c .1 .0) (c .1 .1 .0);
+          };
+        },
+        tt,
+      ),
+    ),
+  ),
+)
   where
-    each : SixCodewords f → (i : ℕ) → i < 3 → belongs (getD (1 ∷ 3 ∷ 5 ∷ []) i 0) 6 (levelWord i f) ≡ true
-    each six zero h = six .weight-1
-    each six (suc zero) h = six .weight-2
-    each six (suc (suc zero)) h = six .weight-4
-    each six (suc (suc (suc i))) h = absurd (omega arith)
+    one : (P : ℕ → Type 0) → P 0 → (i : ℕ) → i < 1 → P i
+    one P a zero h = a
+    one P a (suc i) h = absurd (omega arith)
+
+    two : (P : ℕ → Type 0) → P 0 → P 1 → (i : ℕ) → i < 2 → P i
+    two P a b zero h = a
+    two P a b (suc i) h = one (λ j. P (suc j)) b i (omega arith)
+
+    three : (P : ℕ → Type 0) → P 0 → P 1 → P 2 → (i : ℕ) → i < 3 → P i
+    three P a b c zero h = a
+    three P a b c (suc i) h = two (λ j. P (suc j)) b c i (omega arith)
 
 -- each message is sent as its frame, with its energy
 pub exam-frames : map sentAs exams ≡ map examined exams
@@ -154,25 +198,5 @@ reading-tests = record {
   level-0 = refl;
   level-1 = refl;
   unshaped = refl;
-  none = refl;
-}
-
-pub kind-six-tests : KindSixTests
-unfolding openRefusal strictRefusal isSent sameFrame openMessage readBits levelMessages levelMessage blockMessages quotients allDigits digits
-    inRange isWithin broken weightBit isKind isGrade sendRefusal spareSet anySet messageBytes messageBits
-    numberedFrame isOdd half leastFrameBy leastFrame leastBlock best better cent before energy sq leader coordinate stacked blockNumbers numbers
-    degrees kinds levels levelBits sumTo codeword order dimension masks ofWeight table messageBit bytesOf byteOf backwards belongs clearAbove reduced ones
-kind-six-tests = record {
-  kind = refl;
-  bytes = refl;
-  coordinates = refl;
-  none-spare = refl;
-  range = refl;
-  level-0 = refl;
-  level-1 = refl;
-  level-2 = refl;
-  level-2-openly = refl;
-  unshaped = refl;
-  openly = refl;
   none = refl;
 }

@@ -10,7 +10,6 @@ pub mod Limits
 pub mod Distance
 pub mod Refusals
 pub mod Accepted
-pub mod Reached
 pub mod Demands
 pub mod Closure
 pub mod Numbered

@@ -258,6 +258,7 @@ module _ (k c : ℕ) (shape : Shape k) where
     -- THE LEADER of the message read differs from the frame by a lattice point
     pub open-class : SameClass k b f L
     open-class = record {
+      whole = lf;
       long = lL ∙ sym lf;
       blocks = λ j hj. let i : InBlock (2 ^ c) (part j v) (ints (reduced (2 ^ c) (part j v))) = in-class c (blocks k) v lv j hj in
           let l8 : length (i .ws) ≡ 8 = i .long ∙ part-length v (blocks k) j lv hj in

@@ -65,7 +65,7 @@ module _ (k b : ℕ) (kind : isKind k ≡ true) (grade : isGrade b ≡ true) whe
 
   pub read-sent : (number : ℕ) (bytes : List ℕ) → Message k b bytes → openMessage k b (numberedFrame k b number bytes) ≡ bytes
   read-sent number bytes m =
-      open-gives-the-one number f set ∙ sym (exactly-one k b kind grade number f set .only bytes m (differ-refl (half k b) (blocks k) f))
+      open-gives-the-one number f set ∙ sym (exactly-one k b kind grade number f set .only bytes m (differ-refl (half k b) (blocks k) f (set .long ∙ sym (shape k kind .whole))))
     where
       f : List ℤ
       f = numberedFrame k b number bytes

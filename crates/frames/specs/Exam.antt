@@ -1,5 +1,5 @@
 -- What document 01, and request E1 for kind 6, print, to be met by the definitions: the table of kinds, the leader's terms, the
--- coding set of kind 6, the exam frames, the further cases, the order of tests. Assumes nothing.
+-- coding set, the exam frames, the further cases, the order of tests. Cases of longer frames stand in long_frames. Assumes nothing.
 use Prim.Native.Nat.{ℕ, _+_, _-_, _*_, _/_, _%_, _^_}
 use mathlib.Core.Path.{_≡_}
 use mathlib.Core.Bool.{true}
@@ -71,24 +71,28 @@ pub record Leader (b : ℕ) (bytes : List ℕ) (p : ℕ) : Type 0 where
   pub kind-5 : coordinate 5 b bytes p ≡ levelAt 5 1 0 bytes p + 2 * levelAt 5 3 6 bytes p + 4 * blockNumberAt 32 b bytes p
   pub kind-6 : coordinate 6 b bytes p ≡ levelAt 6 1 0 bytes p + 2 * levelAt 6 3 7 bytes p + 4 * levelAt 6 5 49 bytes p + 8 * blockNumberAt 112 b bytes p
 
--- ---- the coding set of kind 6
+-- ---- the coding set
 
 -- the bits of a weight, 1, 2 or 4, of a frame's coordinates, by position: from remainders modulo 2, 4 or 8, which are never negative
 abbrev pub bitsOf : ℕ → List ℤ → ℕ → ℕ
 bitsOf weight f p = modZ (getD f p (pos 0)) (2 * weight) / weight
 
--- "The coding set of a kind is every integer frame of length n whose bits of weight 1 (and, with two levels, of weight 2) form codewords of
--- their levels", and of kind 6 "its bits of weight 4"
-pub record SixCodewords (f : List ℤ) : Type 0 where
-  pub long : length f ≡ 64
-  pub weight-1 : belongs 1 6 (bitsOf 1 f) ≡ true
-  pub weight-2 : belongs 3 6 (bitsOf 2 f) ≡ true
-  pub weight-4 : belongs 5 6 (bitsOf 4 f) ≡ true
+-- the bits of this weight, of twice the weight and so on form codewords of the codes RM(r,m) of the degrees r, one after the other
+abbrev pub Codewords : ℕ → ℕ → List ℕ → List ℤ → Type 0
+Codewords m weight [] f = Unit {0}
+Codewords m weight (r ∷ rs) f = (belongs r m (bitsOf weight f) ≡ true) × Codewords m (2 * weight) rs f
 
--- and these are exactly the frames of the coding set
-pub record CodingSetOfSix (f : List ℤ) : Type 0 where
-  pub codewords : InCodingSet 6 f → SixCodewords f
-  pub inside : SixCodewords f → InCodingSet 6 f
+-- "The coding set of a kind is every integer frame of length n whose bits of weight 1 (and, with two levels, of weight 2) form codewords of
+-- their levels", and of kind 6 "its bits of weight 4": by the length and the codes of the kind's row, exactly such frames
+pub record SetAsPrinted (row : Printed) (f : List ℤ) : Type 0 where
+  pub long : InCodingSet (row .kind) f → length f ≡ row .n
+  pub codewords : InCodingSet (row .kind) f → Codewords (row .kind) 1 (row .codes) f
+  pub inside : length f ≡ row .n → Codewords (row .kind) 1 (row .codes) f → InCodingSet (row .kind) f
+
+-- and so of each row of the table
+abbrev pub AllSets : List Printed → List ℤ → Type 0
+AllSets [] f = Unit {0}
+AllSets (row ∷ rows) f = SetAsPrinted row f × AllSets rows f
 
 -- ---- the exam frames
 
@@ -136,14 +140,9 @@ examined e = (e .frame, e .energy)
 abbrev pub oneAt : ℕ → ℕ → ℕ → List ℤ
 oneAt n p z = replicate p (pos 0) ++ (pos z ∷ replicate (n - p - 1) (pos 0))
 
--- n bytes, 0 but for the one at p, which is x
-abbrev pub oneByte : ℕ → ℕ → ℕ → List ℕ
-oneByte n p x = replicate p 0 ++ (x ∷ replicate (n - p - 1) 0)
-
 -- document 01, "Message to coset leader": where a bit stands, seen by setting it alone; frames by hand.
 -- Kind 3, grade 2: s1 (1 bit), s2 (both bits), s7, s8 (its first two bits). Kind 4, grade 1: level 1's second and last bit, s2 of either block.
--- Kind 5, grade 1: s2 of the last block. Kind 6, grade 1: level 2's first bit (a tie: all 4 or all −4 in a block) and its last,
--- s2 of the last block; grade 4: the last bit of s8 of the first block (a tie: 128 or −128, at any coordinate of the block)
+-- Kinds 5 and 6 stand in long_frames
 abbrev pub layout : List Exam
 layout =
     record { kind = 3; grade = 2; message = 16 ∷ 0 ∷ 0 ∷ []; frame = oneAt 8 0 2; energy = 4 }
@@ -162,11 +161,6 @@ layout =
     ∷ record { kind = 4; grade = 1; message = 0 ∷ 0 ∷ 8 ∷ 0 ∷ 0 ∷ []; frame = replicate 14 (pos 0) ++ replicate 2 (pos 2); energy = 8 }
     ∷ record { kind = 4; grade = 1; message = 0 ∷ 0 ∷ 16 ∷ 0 ∷ 0 ∷ []; frame = oneAt 16 1 4; energy = 16 }
     ∷ record { kind = 4; grade = 1; message = 0 ∷ 0 ∷ 0 ∷ 16 ∷ 0 ∷ []; frame = oneAt 16 9 4; energy = 16 }
-    ∷ record { kind = 5; grade = 1; message = replicate 7 0 ++ (1 ∷ []); frame = oneAt 32 25 4; energy = 16 }
-    ∷ record { kind = 6; grade = 1; message = oneByte 22 6 2; frame = replicate 64 (minus 4); energy = 1024 }
-    ∷ record { kind = 6; grade = 1; message = oneByte 22 13 128; frame = replicate 62 (pos 0) ++ replicate 2 (pos 4); energy = 32 }
-    ∷ record { kind = 6; grade = 1; message = oneByte 22 21 1; frame = oneAt 64 57 8; energy = 64 }
-    ∷ record { kind = 6; grade = 4; message = oneByte 46 17 128; frame = minus 128 ∷ replicate 63 (pos 0); energy = 16384 }
     ∷ []
 
 -- ---- the two tie rules
@@ -181,7 +175,7 @@ pub record Numbered : Type 0 where
 
 -- request E5, by hand, under an even and under an odd number. 00 08: 4 or −4 at any coordinate. 01 00: all 1 or all −1. 02 08: one of four coordinates
 -- is −3, where 1 + 4 would be more, and the frames of the two rules are not each other's negative. 02 00: no tie, the same frame under both.
--- Kind 4, all 2 or all −2 in either block, and so under an odd number all 2 in both; kind 6, grade 4: 128 or −128 at any coordinate of the first block
+-- Kind 4, all 2 or all −2 in either block, and so under an odd number all 2 in both
 abbrev pub numbered : List Numbered
 numbered =
     record { kind = 3; grade = 1; number = 0; message = 0 ∷ 8 ∷ []; frame = minus 4 ∷ replicate 7 (pos 0) }
@@ -207,7 +201,6 @@ numbered =
     ∷ record { kind = 3; grade = 1; number = 12; message = 2 ∷ 0 ∷ []; frame = ints (0 ∷ 1 ∷ 0 ∷ 1 ∷ 0 ∷ 1 ∷ 0 ∷ 1 ∷ []) }
     ∷ record { kind = 3; grade = 1; number = 13; message = 2 ∷ 0 ∷ []; frame = ints (0 ∷ 1 ∷ 0 ∷ 1 ∷ 0 ∷ 1 ∷ 0 ∷ 1 ∷ []) }
     ∷ record { kind = 4; grade = 1; number = 1; message = 32 ∷ replicate 4 0; frame = replicate 16 (pos 2) }
-    ∷ record { kind = 6; grade = 4; number = 999999; message = oneByte 46 17 128; frame = pos 128 ∷ replicate 63 (pos 0) }
     ∷ []
 
 -- the frame that the definitions give
@@ -263,19 +256,3 @@ pub record ReadingTests : Type 0 where
   pub level-1 : strictRefusal 4 1 0 (pos 2 ∷ replicate 15 (pos 0)) 5 ≡ 8
   pub unshaped : strictRefusal 4 1 0 (replicate 16 (pos 2)) 5 ≡ 9
   pub none : strictRefusal 4 1 0 (replicate 16 (minus 2)) 5 ≡ 0
-
--- request E1: "1 now means not 3 to 6"; "13: broken level 2, when the third level isn't a codeword, tested after 8", and so before 9. Each frame
--- but the last three is wrong in that test and in all later ones: 1,048,583 is over range, and its bits of weight 1, 2 and 4 are set
-pub record KindSixTests : Type 0 where
-  pub kind : sendRefusal 7 1 (replicate 22 255) 64 ≡ 1
-  pub bytes : sendRefusal 6 1 (replicate 23 255) 63 ≡ 3
-  pub coordinates : sendRefusal 6 1 (replicate 22 255) 63 ≡ 4
-  pub none-spare : sendRefusal 6 1 (replicate 22 255) 64 ≡ 0
-  pub range : strictRefusal 6 1 0 (pos 1048583 ∷ replicate 63 (pos 0)) 22 ≡ 6
-  pub level-0 : strictRefusal 6 1 0 (pos 7 ∷ replicate 63 (pos 0)) 22 ≡ 7
-  pub level-1 : strictRefusal 6 1 0 (pos 6 ∷ replicate 63 (pos 0)) 22 ≡ 8
-  pub level-2 : strictRefusal 6 1 0 (pos 4 ∷ replicate 63 (pos 0)) 22 ≡ 13
-  pub level-2-openly : openRefusal 6 1 (pos 4 ∷ replicate 63 (pos 0)) 22 ≡ 13
-  pub unshaped : strictRefusal 6 1 0 (replicate 64 (pos 4)) 22 ≡ 9
-  pub openly : openMessage 6 1 (replicate 64 (pos 4)) ≡ oneByte 22 6 2
-  pub none : strictRefusal 6 1 0 (replicate 64 (minus 4)) 22 ≡ 0

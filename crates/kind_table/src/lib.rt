@@ -1,6 +1,5 @@
 // The table of kinds, one row for each, and what follows from a row; the numbers of broken levels; the widths of a block's numbers.
-// A further kind is one row more here and one in the definition `kinds`; and an arm more in `leader::codewords` of sending and `write_levels` of reading,
-// which have the numbers of a row as constants, held to it by their contracts.
+// A further kind is a row more here and in the definition `kinds`, and more elsewhere: docs/CONTRIBUTING.md, "What a further kind needs".
 ghost use mathlib.Core.Path.{_≡_};
 ghost use mathlib.Core.Bool.{true};
 ghost use Prim.Native.Nat.{_<_, _≤_, _^_};

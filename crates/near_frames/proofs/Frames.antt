@@ -165,15 +165,25 @@ frames-one test (x ∷ f) (z ∷ t) l h y only =
 pub near-test : (k : ℕ) (t f : List ℤ) → IsNear k t f → isNear k t f ≡ true
 unfolding isNear
 near-test k t f n =
-    rw (eq-eqb (length f) (2 ^ k) (n .coded .long), eq-eqb (broken k 0 (degrees k) f) 0 (set-passes k f (n .coded)))
+    rw (eq-eqb (length t) (2 ^ k) (n .samples), eq-eqb (length f) (2 ^ k) (n .coded .long), eq-eqb (broken k 0 (degrees k) f) 0 (set-passes k f (n .coded)))
     (lt-ltb (nearness f t) (nearLimit k) (n .close))
 
 pub test-near : (k : ℕ) → nearKind k ≡ true → (t f : List ℤ) → isNear k t f ≡ true → IsNear k t f
 unfolding isNear
-test-near k kind t f e = record { coded = go (levels-answer k f (eqb-true (length f) (2 ^ k) (a .0))); close = ltb-true (nearness f t) (nearLimit k) (b .1) }
+test-near k kind t f e = record {
+  samples = eqb-true (length t) (2 ^ k) (s .0);
+  coded = go (levels-answer k f (eqb-true (length f) (2 ^ k) (a .0)));
+  close = ltb-true (nearness f t) (nearLimit k) (b .1);
+}
   where
-    a : (eqb (length f) (2 ^ k) ≡ true) × ((eqb (broken k 0 (degrees k) f) 0 && ltb (nearness f t) (nearLimit k)) ≡ true)
-    a = and-both (eqb (length f) (2 ^ k)) (eqb (broken k 0 (degrees k) f) 0 && ltb (nearness f t) (nearLimit k)) e
+    close : Bool
+    close = eqb (broken k 0 (degrees k) f) 0 && ltb (nearness f t) (nearLimit k)
+
+    s : (eqb (length t) (2 ^ k) ≡ true) × ((eqb (length f) (2 ^ k) && close) ≡ true)
+    s = and-both (eqb (length t) (2 ^ k)) (eqb (length f) (2 ^ k) && close) e
+
+    a : (eqb (length f) (2 ^ k) ≡ true) × (close ≡ true)
+    a = and-both (eqb (length f) (2 ^ k)) close (s .1)
 
     b : (eqb (broken k 0 (degrees k) f) 0 ≡ true) × (ltb (nearness f t) (nearLimit k) ≡ true)
     b = and-both (eqb (broken k 0 (degrees k) f) 0) (ltb (nearness f t) (nearLimit k)) (a .1)
@@ -191,13 +201,13 @@ test-near k kind t f e = record { coded = go (levels-answer k f (eqb-true (lengt
 pub limit-low : (k : ℕ) → nearKind k ≡ true → nearLimit k ≤ 262144
 limit-low = each-near (λ k. nearLimit k ≤ 262144) (omega arith) (omega arith) (omega arith)
 
-module _ (k : ℕ) (kind : nearKind k ≡ true) (t : List ℤ) (long : length t ≡ 2 ^ k) where
+module _ (k : ℕ) (kind : nearKind k ≡ true) (t : List ℤ) where
   -- where a frame is near, it is the one
   pub near-given : (f : List ℤ) → IsNear k t f → nearFrames k t ≡ f ∷ []
   unfolding nearFrames
   near-given f n =
-      frames-one (isNear k t) f t (n .coded .long ∙ sym long) (omega (arith, n .close, limit-low k kind)) (near-test k t f n)
-      (λ g e. near-only k kind t g f long (test-near k kind t g e) n)
+      frames-one (isNear k t) f t (n .coded .long ∙ sym (n .samples)) (omega (arith, n .close, limit-low k kind)) (near-test k t f n)
+      (λ g e. near-only k kind t g f (test-near k kind t g e) n)
 
   -- where none is near, there is none
   pub far-given : ((f : List ℤ) → IsNear k t f → ⊥) → nearFrames k t ≡ []

@@ -8,7 +8,6 @@ use lib.ListN.{length}
 use lib.IntN.{ℤ, pos, _-ℤ_, _*ℤ_}
 use Rattle.integers.proofs.Zed.{`_, #_, _⊖_, _⊗_, eq! }
 use Rattle.e8.specs.Energy.{sq, distance}
-use Rattle.frames.specs.Kind.{isGrade}
 use Rattle.frames.specs.Frame.{leastDistance}
 use Rattle.frames.specs.Reading.{sameFrame}
 use Rattle.frames.proofs.Refusals.{same-frame, frame-same}
@@ -42,20 +41,16 @@ quarter = each-near (λ k. 4 * nearLimit k ≡ 65536 * leastDistance k) refl ref
 pub half-distance : (k : ℕ) → nearKind k ≡ true → (t f : List ℤ) → 4 * nearness f t < 65536 * leastDistance k → nearness f t < nearLimit k
 half-distance k kind t f h = omega (arith, h, quarter k kind)
 
-first-grade : isGrade 1 ≡ true
-unfolding isGrade
-first-grade = refl
-
 -- THE LAW
-pub near-only : (k : ℕ) → nearKind k ≡ true → (t f g : List ℤ) → length t ≡ 2 ^ k → IsNear k t f → IsNear k t g → f ≡ g
-near-only k kind t f g l nf ng = go (sameFrame f g) refl
+pub near-only : (k : ℕ) → nearKind k ≡ true → (t f g : List ℤ) → IsNear k t f → IsNear k t g → f ≡ g
+near-only k kind t f g nf ng = go (sameFrame f g) refl
   where
     apart : (f ≡ g → ⊥) → 4 * nearLimit k ≤ 2 * nearness f t + 2 * nearness g t
     apart ne = omega (
       arith,
       quarter k kind,
-      set-apart k 1 (near-is-kind k kind) first-grade f g (nf .coded) (ng .coded) ne,
-      between f g t (nf .coded .long ∙ sym l) (ng .coded .long ∙ sym l),
+      set-apart k (near-is-kind k kind) f g (nf .coded) (ng .coded) ne,
+      between f g t (nf .coded .long ∙ sym (nf .samples)) (ng .coded .long ∙ sym (nf .samples)),
     )
 
     go : (s : Bool) → sameFrame f g ≡ s → f ≡ g

@@ -1,6 +1,7 @@
 -- Frames of the coding set that are near to received samples (request E6). Samples are counted in 256ths here: a whole number t is the sample t / 256.
 -- Assumes nothing.
 use Prim.Native.Nat.{ℕ, _-_, _*_, _^_, _<_}
+use mathlib.Core.Path.{_≡_}
 use mathlib.Core.Bool.{Bool, true, false, _&&_, cond}
 use mathlib.Core.List.{List, [], _∷_, _++_, map}
 use lib.Dec.{eqb, leb, ltb}
@@ -29,15 +30,16 @@ nearKind k = leb 3 k && leb k 5
 abbrev pub nearLimit : ℕ → ℕ
 nearLimit k = 65536 * 2 ^ (k - 3)
 
--- f is a frame of the coding set of kind k that is near to the samples
+-- t has as many samples as kind k has coordinates, and f is a frame of its coding set that is near to them
 pub record IsNear (k : ℕ) (t f : List ℤ) : Type 0 where
+  pub samples : length t ≡ 2 ^ k
   pub coded : InCodingSet k f
   pub close : nearness f t < nearLimit k
 
 -- the same as a test
 unfoldable pub isNear : ℕ → List ℤ → List ℤ → Bool
 unfolding broken degrees nearness
-isNear k t f = eqb (length f) (2 ^ k) && (eqb (broken k 0 (degrees k) f) 0 && ltb (nearness f t) (nearLimit k))
+isNear k t f = eqb (length t) (2 ^ k) && (eqb (length f) (2 ^ k) && (eqb (broken k 0 (degrees k) f) 0 && ltb (nearness f t) (nearLimit k)))
 
 -- the whole numbers less than 2 away from the sample t / 256 are among these four
 abbrev pub around : ℤ → List ℤ

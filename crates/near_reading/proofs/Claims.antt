@@ -39,13 +39,13 @@ module _ (k b : ℕ) (xs : List Float) (bytes : List ℕ) (r : Readable k b xs (
   -- the distance that is given where the frame f is near: f's own
   given-distance : (f : List ℤ) → IsNear k t f → nearDistance k b xs (length bytes) ≡ inParts (nearness f t)
   given-distance f near =
-      let n = near-is k (r .kind) t (long k b xs bytes r) f near in
+      let n = near-is k (r .kind) t f near in
       distance-near k b xs (length bytes) (number-0 k b xs bytes r (n .0)) ∙ ap inParts (n .2)
 
   -- "the near reading finds the coding-set frame at squared distance below 1, 2 or 4, and gives its message, and the exact squared distance as f64"
   pub finds : (f : List ℤ) → IsNear k t f → Finds k b xs bytes f
   finds f near =
-      let n = near-is k (r .kind) t (long k b xs bytes r) f near in
+      let n = near-is k (r .kind) t f near in
       let z = number-0 k b xs bytes r (n .0) in
       record {
         number = z;
@@ -57,7 +57,7 @@ module _ (k b : ℕ) (xs : List Float) (bytes : List ℕ) (r : Readable k b xs (
   -- "otherwise it answers too far. It is too far only when no frame of the coding set is that near"
   pub far-exactly : FarExactly k b xs bytes
   far-exactly = record {
-    far = λ none. number-16 k b xs bytes r (far-is k (r .kind) t (long k b xs bytes r) none .0);
+    far = λ none. number-16 k b xs bytes r (far-is k (r .kind) t none .0);
     far-only = λ e f near. omega (arith, e, finds f near .number);
     kept = λ e. message-kept k b xs bytes (λ z. omega (arith, e, z));
   }
@@ -66,6 +66,7 @@ module _ (k b : ℕ) (xs : List Float) (bytes : List ℕ) (r : Readable k b xs (
   module _ (number : ℕ) (message : List ℕ) (close : 4 * nearness (numberedFrame k b number message) t < 65536 * leastDistance k) where
     sent-near : IsNear k t (numberedFrame k b number message)
     sent-near = record {
+      samples = long k b xs bytes r;
       coded = sent-in-set k b (near-is-kind k (r .kind)) (r .grade) number message;
       close = half-distance k (r .kind) t (numberedFrame k b number message) close;
     }
@@ -86,7 +87,7 @@ found-one k b xs n e =
     let near : IsNear k (samplesIn256ths xs) (nearFrame k (samplesIn256ths xs) []) = is-near k (s .0 .kind) (samplesIn256ths xs) (s .1) in
     record {
       near = near;
-      only = λ f other. near-only k (s .0 .kind) (samplesIn256ths xs) f (nearFrame k (samplesIn256ths xs) []) (samples-length xs ∙ s .0 .samples) other near;
+      only = λ f other. near-only k (s .0 .kind) (samplesIn256ths xs) f (nearFrame k (samplesIn256ths xs) []) other near;
     }
 
 -- ---- no noise

@@ -87,6 +87,6 @@ module _ (k b : ℕ) (xs : List Float) (bytes : List ℕ) (r : Readable k b xs (
     unfolding messageAfter
     near-message lent f number same e =
         let i : IsNear k t (nearFrame k t []) = is-near k (r .kind) t near in
-        let is : f ≡ nearFrame k t [] = same ∙ near-is k (r .kind) t long (nearFrame k t []) i .1 lent in
+        let is : f ≡ nearFrame k t [] = same ∙ near-is k (r .kind) t (nearFrame k t []) i .1 lent in
         let z : number ≡ 0 = e ∙ ap (λ (g : List ℤ). openRefusal k b g (length bytes)) is ∙ taken (nearFrame k t []) i in
         rw z (ap (openMessage k b) is ∙ sym (message-near k b xs bytes number-0))

@@ -17,12 +17,12 @@ use Rattle.frames.specs.Kind.{isKind, isGrade, messageBytes}
 use Rattle.frames.specs.Frame.{numberedFrame}
 use Rattle.frames.proofs.Rows.{grade-low}
 use Rattle.frames.proofs.Demands.{least-energy}
-use Rattle.account.specs.declared.Account.{Account}
-use Rattle.account.specs.Power.{begun}
-use Rattle.account.specs.Counted.{numberAt, numberFor, countedRefusal}
-use Rattle.account.specs.History.{Call, answer, after, accountAfter, sentBy, Holds}
-use Rattle.account.proofs.History.{frame-of, first-number, tests, frame-length, after-refused, by-sent, by-refused, next-numbers, calls-after, history}
-use Rattle.account.proofs.Changeover.{changeover-kept}
+use Rattle.power_account.specs.declared.Account.{Account}
+use Rattle.power_account.specs.Power.{begun}
+use Rattle.power_account.specs.Counted.{numberAt, numberFor, countedRefusal}
+use Rattle.power_account.specs.History.{Call, answer, after, accountAfter, sentBy, Holds}
+use Rattle.power_account.proofs.History.{frame-of, first-number, tests, frame-length, after-refused, by-sent, by-refused, next-numbers, calls-after, history}
+use Rattle.power_account.proofs.Changeover.{changeover-kept}
 use Rattle.queue.specs.declared.Queued.{Queued}
 use Rattle.queue.specs.Queue.{queueRefusal, messagesIn, callsFor, callsOf, oneMore, inTurn, framesInTurn, queueOutcome, queueFrames, piece, EachLeast}
 use Rattle.queue.specs.InTurn.{accountAt, answerAt, callsMade, InTurn}

@@ -12,10 +12,10 @@ use lib.Seq.{take-at, drop-at, drop-drop, length-take-le}
 use borrow.Author.Tests.{eq-eqb, ne-eqb}
 use borrow.Rule.Slice.PartMut.{putMid}
 use Rattle.frames.specs.Kind.{messageBytes}
-use Rattle.account.specs.declared.Account.{Account}
-use Rattle.account.specs.Counted.{numberFor}
-use Rattle.account.specs.History.{Call, answer as answer-of, after}
-use Rattle.account.proofs.History.{frame-of, frame-length, after-refused}
+use Rattle.power_account.specs.declared.Account.{Account}
+use Rattle.power_account.specs.Counted.{numberFor}
+use Rattle.power_account.specs.History.{Call, answer as answer-of, after}
+use Rattle.power_account.proofs.History.{frame-of, frame-length, after-refused}
 use Rattle.queue.specs.declared.Queued.{Queued}
 use Rattle.queue.specs.Queue.{messagesIn, callsFor, callsOf, oneMore, inTurn, framesInTurn, piece}
 

@@ -14,8 +14,8 @@ use Rattle.frames.specs.Kind.{kinds, isKind, isGrade, degrees, levels, levelBit
 use Rattle.frames.specs.Message.{numbers, blockNumbers, stacked, coordinate, leader}
 use Rattle.frames.specs.Frame.{half, isOdd, numberedFrame}
 use Rattle.frames.specs.Sending.{anySet, spareSet, sendRefusal, frameAfter}
-use Rattle.account.specs.Power.{powerOf}
-use Rattle.account.specs.Counted.{countedRefusal, countedAccount}
+use Rattle.power_account.specs.Power.{powerOf}
+use Rattle.power_account.specs.Counted.{countedRefusal, countedAccount}
 use Rattle.queue.specs.Queue.{queueRefusal, callsFor, inTurn, framesInTurn, queueOutcome, queueFrames}
 use Rattle.queue.specs.Worked.{AsWorked}
 

@@ -6,9 +6,9 @@ use lib.IntN.{ℤ}
 use lib.ListN.{length, take, drop, getD}
 use Rattle.frames.specs.Kind.{messageBytes}
 use Rattle.frames.specs.Frame.{numberedFrame}
-use Rattle.account.specs.declared.Account.{Account}
-use Rattle.account.specs.Counted.{numberAt, countedRefusal}
-use Rattle.account.specs.History.{Call, accountAfter, sentBy}
+use Rattle.power_account.specs.declared.Account.{Account}
+use Rattle.power_account.specs.Counted.{numberAt, countedRefusal}
+use Rattle.power_account.specs.History.{Call, accountAfter, sentBy}
 use Rattle.queue.specs.declared.Queued.{Queued}
 use Rattle.queue.specs.Queue.{callsFor, piece}
 

@@ -9,9 +9,9 @@ use lib.ListN.{length, take, drop}
 use Rattle.e8.specs.Energy.{energy}
 use Rattle.frames.specs.Kind.{isKind, isGrade, messageBytes}
 use Rattle.frames.specs.Sending.{unless, frameAfter, LeastEnergy}
-use Rattle.account.specs.declared.Account.{Account}
-use Rattle.account.specs.Counted.{numberFor}
-use Rattle.account.specs.History.{Call, answer, after}
+use Rattle.power_account.specs.declared.Account.{Account}
+use Rattle.power_account.specs.Counted.{numberFor}
+use Rattle.power_account.specs.History.{Call, answer, after}
 use Rattle.queue.specs.declared.Queued.{Queued}
 
 -- the tests before anything is sent, for so many message bytes and n coordinates: 1, 2, then 3 where the bytes are not a whole number of

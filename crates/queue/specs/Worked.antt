@@ -5,8 +5,8 @@ use mathlib.Core.Path.{_≡_}
 use mathlib.Core.List.{List, [], _∷_, _++_, map}
 use lib.IntN.{ℤ, pos, negsuc}
 use lib.ListN.{length, replicate}
-use Rattle.account.specs.declared.Account.{Account}
-use Rattle.account.specs.Worked.{heldWith, held}
+use Rattle.power_account.specs.declared.Account.{Account}
+use Rattle.worked_accounts.specs.Worked.{heldWith, held}
 use Rattle.queue.specs.declared.Queued.{Queued}
 use Rattle.queue.specs.Queue.{queueOutcome, queueFrames}
 

@@ -14,7 +14,8 @@ use Rattle.frames.specs.Reading.{inRange, openRefusal, messageAfter, energyRead
 use Rattle.frames.proofs.Refusals.{past}
 use Rattle.frames.proofs.Reading.{strict-as-open}
 use Rattle.reading.specs.Numbers.{refusalOf}
-use Rattle.reading.specs.Words.{wordsAfter, heldMessage}
+use Rattle.reading.specs.Words.{wordsAfter}
+use Rattle.frame_message.specs.Held.{heldMessage}
 use Rattle.reading.proofs.Words.{words-given, held-message}
 
 -- ---- the definition, as far as the tests go

@@ -1,3 +1,2 @@
 pub mod Words
-pub mod Written
 pub mod Numbers

@@ -1,10 +1,7 @@
 // The two readings: a frame's message and its energy, or the number of the first test that is not passed.
-mod level;
-mod message;
 mod refusal;
-mod strict;
 
-use message::write_message;
+use frame_message::write_message;
 use refusal::tests;
 ghost use mathlib.Core.Path.{_≡_};
 ghost use lib.ListN.{length};

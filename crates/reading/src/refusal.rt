@@ -1,11 +1,10 @@
 // The tests of the readings, in document 01's order. A refusal is the number of the first one that is not passed; 0 is success.
-use super::level::level_words;
-use super::strict::is_least;
+use frame_levels::broken_level;
+use frame_levels::level_words;
+use strict_test::is_least;
 ghost use mathlib.Core.Path.{_≡_};
-ghost use mathlib.Core.Bool.{true};
-ghost use Rattle.frames.specs.Kind.{isKind, degrees};
 ghost use Rattle.frames.specs.Reading.{openRefusal};
-ghost use Rattle.reading.specs.Words.{noWords, wordsAfter, brokenIn};
+ghost use Rattle.reading.specs.Words.{noWords, wordsAfter};
 ghost use Rattle.reading.specs.Numbers.{refusalOf};
 
 // What the tests give: the number of the first one that is not passed, and where all are the frame's levels, taken backwards.
@@ -23,28 +22,6 @@ fn refused(number: u8) -> Tested
         number,
         words: [0u64; 3],
     }
-}
-
-// The number of the first level that is not a codeword, 0 where each one is; the words hold the levels, taken backwards.
-// Always three turns, so that the compiler lays them out one by one.
-fn broken_level(kind: u8, words: [u64; 3]) -> u8
-    requires { ⌜ isKind kind ≡ true ⌝ }
-    ensures { λ r. ⌜ r ≡ brokenIn kind 0 (degrees kind) words ⌝ }
-{
-    let m = kind as usize;
-    let count = kind_table::levels(kind);
-    let mut i: usize = 0;
-    while i < 3 {
-        if i < count {
-            let degree = kind_table::degree(kind, i);
-            let bits = words[i];
-            if !reed_muller::clear_above(bits, m, degree) {
-                return kind_table::broken(i);
-            }
-        }
-        i += 1;
-    }
-    0
 }
 
 // The tests of the open reading; n message bytes are lent.

@@ -12,8 +12,8 @@ use Rattle.integers.specs.Integer.{modZ}
 use Rattle.integers.proofs.Zed.{`_, #_, _⊕_, _⊖_, _⊗_, eq!, eq?, abs-ud}
 use Rattle.integers.proofs.Floor.{modZ-lt, div-mod}
 use Rattle.e8.specs.Least.{lowered}
-use Rattle.e8.specs.Rows.{ints, remainders, reduced}
-use Rattle.e8.proofs.Rows.{ints-length, remainders-length}
+use Rattle.e8.specs.Rows.{ints, laterNumbers, reduced}
+use Rattle.e8.proofs.Rows.{ints-length, later-length}
 use Rattle.coordinates.proofs.Size.{abs! }
 use Rattle.coordinates.proofs.Rest.{Scale}
 use Rattle.coordinates.proofs.Filled.{Filled, filled-next, filled-all}
@@ -23,18 +23,18 @@ drop-last xs i h = drop-cons xs i (pos 0) (omega arith) ∙ ap (λ l. getD xs i 
 
 -- what is written in the end
 abbrev pub result : ℕ → List ℤ → List ℤ
-result h y = getD y 0 (pos 0) ∷ ints (remainders h (pos 0) (drop 1 y))
+result h y = getD y 0 (pos 0) ∷ ints (laterNumbers h (pos 0) (drop 1 y))
 
 -- after the places before i: q is 2h·Q, and the places from i on are to be reduced with Q
 pub record Rows (h : ℕ) (y r : List ℤ) (q : ℤ) (i : ℕ) : Type 0 where
   pub Q : ℤ
   pub off : q ≡ pos (2 * h) *ℤ Q
   pub size : natAbs q ≤ i * 2 ^ 27
-  pub left : drop i (result h y) ≡ ints (remainders h Q (drop i y))
+  pub left : drop i (result h y) ≡ ints (laterNumbers h Q (drop i y))
   pub filled : Filled (result h y) r i
 
 pub result-length : (h : ℕ) (y : List ℤ) → length y ≡ 8 → length (result h y) ≡ 8
-result-length h y l = ap suc (ints-length (remainders h (pos 0) (drop 1 y)) ∙ remainders-length h (pos 0) (drop 1 y) ∙ simp length-drop (omega arith))
+result-length h y l = ap suc (ints-length (laterNumbers h (pos 0) (drop 1 y)) ∙ later-length h (pos 0) (drop 1 y) ∙ simp length-drop (omega arith))
 
 pub rows-none : (h : ℕ) (y : List ℤ) → length y ≡ 8 → Rows h y y (pos 0) 1
 rows-none h [] l = absurd (omega arith)
@@ -46,7 +46,7 @@ rows-none h (z ∷ y) l = record {
   filled = record { long = l ∙ sym (result-length h (z ∷ y) l); low = omega arith; same = refl };
 }
 
-more : (h : ℕ) (Q z : ℤ) (ys : List ℤ) → 0 < length ys → remainders h Q (z ∷ ys) ≡ modZ z (2 * h) ∷ remainders h (Q +ℤ shrZ z (2 * h)) ys
+more : (h : ℕ) (Q z : ℤ) (ys : List ℤ) → 0 < length ys → laterNumbers h Q (z ∷ ys) ≡ modZ z (2 * h) ∷ laterNumbers h (Q +ℤ shrZ z (2 * h)) ys
 more h Q z [] l = absurd (omega arith)
 more h Q z (y ∷ ys) l = refl
 
@@ -64,9 +64,9 @@ module _ {h : ℕ} {y r : List ℤ} {q : ℤ} {i : ℕ} (h-scale : Scale h) (eig
       let o = eq? (` q) (# (2 * h) ⊗ ` (s .Q)) (s .off) in
       let w′ : w ≡ q +ℤ (at -ℤ pos n) = ew ∙ ap (λ (z : ℤ). q +ℤ (at -ℤ z)) ev in
       let t : List ℤ = result h y in
-      let f : getD t i (pos 0) ∷ drop (suc i) t ≡ pos n ∷ ints (remainders h (s .Q +ℤ u) (drop (suc i) y)) =
+      let f : getD t i (pos 0) ∷ drop (suc i) t ≡ pos n ∷ ints (laterNumbers h (s .Q +ℤ u) (drop (suc i) y)) =
       sym (drop-cons t i (pos 0) (omega (arith, result-length h y eight))) ∙ s .left
-      ∙ ap (λ l. ints (remainders h (s .Q) l)) (drop-cons y i (pos 0) (omega arith))
+      ∙ ap (λ l. ints (laterNumbers h (s .Q) l)) (drop-cons y i (pos 0) (omega arith))
       ∙ ap ints (more h (s .Q) at (drop (suc i) y) (simp length-drop (omega arith))) in
       let B : ℕ = (i + 1) * 2 ^ 27 in
       let a = abs-ud q in
@@ -85,9 +85,9 @@ module _ {h : ℕ} {y r : List ℤ} {q : ℤ} {i : ℕ} (h-scale : Scale h) (eig
   rows-last v e ev =
       let t : List ℤ = result h y in
       let seven : Filled t r 7 = subst (Filled t r) e (s .filled) in
-      let f : drop 7 t ≡ ints (remainders h (s .Q) (drop 7 y)) = subst (λ (j : ℕ). drop j t ≡ ints (remainders h (s .Q) (drop j y))) e (s .left) in
+      let f : drop 7 t ≡ ints (laterNumbers h (s .Q) (drop 7 y)) = subst (λ (j : ℕ). drop j t ≡ ints (laterNumbers h (s .Q) (drop j y))) e (s .left) in
       let g : getD t 7 (pos 0) ≡ pos (modZ (getD y 7 (pos 0) -ℤ pos (2 * h) *ℤ s .Q) (4 * h)) =
-      ap (λ l. getD l 0 (pos 0)) (sym (drop-last t 7 (result-length h y eight)) ∙ f ∙ ap (λ l. ints (remainders h (s .Q) l)) (drop-last y 7 eight)) in
+      ap (λ l. getD l 0 (pos 0)) (sym (drop-last t 7 (result-length h y eight)) ∙ f ∙ ap (λ l. ints (laterNumbers h (s .Q) l)) (drop-last y 7 eight)) in
       filled-all t (set r 7 v) 8
       (filled-next (pos 0) t r 7 v seven (omega (arith, result-length h y eight)) (ev ∙ ap (λ (z : ℤ). pos (modZ (getD y 7 (pos 0) -ℤ z) (4 * h))) (s .off) ∙ sym g))
       (omega (arith, result-length h y eight))
@@ -101,4 +101,4 @@ first-row h (x ∷ xs) d s p l es ed =
     let c = eq? (` x) (# h ⊗ ` (shrZ x h) ⊕ # (modZ x h)) (div-mod x h p) in
     let d′ : d ≡ pos h *ℤ shrZ x h = ed ∙ ap (λ (z : ℤ). x -ℤ z) es ∙ eq! (` x ⊖ # (modZ x h)) (# h ⊗ ` (shrZ x h)) (omega (arith, c)) in
     let e : x -ℤ d ≡ pos (modZ x h) = ap (λ (z : ℤ). x -ℤ z) d′ ∙ eq! (` x ⊖ # h ⊗ ` (shrZ x h)) (# (modZ x h)) (omega (arith, c)) in
-    ap₂ (λ z a. z ∷ ints (remainders h (pos 0) (lowered a xs))) e d′
+    ap₂ (λ z a. z ∷ ints (laterNumbers h (pos 0) (lowered a xs))) e d′

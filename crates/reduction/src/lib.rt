@@ -6,7 +6,7 @@ ghost use lib.IntN.{pos, natAbs};
 ghost use lib.ListN.{drop, getD};
 ghost use Rattle.e8.specs.Energy.{Within};
 ghost use Rattle.e8.specs.Least.{lowered};
-ghost use Rattle.e8.specs.Rows.{ints, remainders, reduced};
+ghost use Rattle.e8.specs.Rows.{ints, laterNumbers, reduced};
 
 // A block, h less at each coordinate.
 fn lowered(h: i32, x: [i32; 8]) -> [i32; 8]
@@ -26,7 +26,7 @@ fn lowered(h: i32, x: [i32; 8]) -> [i32; 8]
 // The rows of matrix (39) after the first, taken off a block, for h = 2^k: each changes its own place and the last.
 fn later_rows(k: u32, y: [i32; 8]) -> [i32; 8]
     requires { ⌜ (k ≤ 6) × Within (2 ^ 26) y ⌝ }
-    ensures { λ r. ⌜ r ≡ getD y 0 (pos 0) ∷ ints (remainders (2 ^ k) (pos 0) (drop 1 y)) ⌝ }
+    ensures { λ r. ⌜ r ≡ getD y 0 (pos 0) ∷ ints (laterNumbers (2 ^ k) (pos 0) (drop 1 y)) ⌝ }
 {
     let mut r = y;
     let mut q: i32 = 0;

@@ -6,9 +6,4 @@ pub mod Order
 pub mod Codeword
 pub mod Belongs
 pub mod Product
-pub mod MaskTables
-pub mod Stages
-pub mod Held
-pub mod Laid
-pub mod Gathered
 pub mod Examples

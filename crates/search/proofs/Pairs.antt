@@ -8,7 +8,7 @@ use lib.Count.{ones}
 use lib.ListN.{length, getD}
 use lib.IntN.{ℤ, pos, _+ℤ_, _-ℤ_, _*ℤ_}
 use lib.Signed.{shrZ}
-use Rattle.bits.specs.Number.{sumTo, number}
+use Rattle.bits.specs.Number.{sumTo, number, bitOf}
 use Rattle.bits.proofs.Sum.{sum-ext, sum-term}
 use Rattle.bits.proofs.Message.{number-lt, number-bit}
 use Rattle.reed_muller.specs.Level.{belongs, clearAbove, dimension, codeword}
@@ -22,7 +22,7 @@ use Rattle.frames.proofs.Frame.{at}
 use Rattle.near_frames.specs.Near.{nearKind, nearness}
 use Rattle.near_frames.proofs.NearKinds.{each-near}
 use Rattle.near_frames.proofs.Sum.{nearness-sum}
-use Rattle.costs.specs.Costs.{nearest, gap, bitOf, residue, cost, candidate}
+use Rattle.costs.specs.Costs.{nearest, gap, residue, cost, candidate}
 use Rattle.costs.proofs.Residue.{bit-0, bit-1, bit-small, by-bits, candidate-cost, near-cost}
 
 -- ---- the levels of a kind

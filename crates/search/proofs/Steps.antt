@@ -15,7 +15,7 @@ use Rattle.bits.proofs.Table.{table-at, table-ext}
 use Rattle.bits.proofs.Message.{number-lt, number-of, digit-of}
 use Rattle.bits.proofs.Digits.{digit, digit-none, digit-from, xor-digit}
 use Rattle.reed_muller.specs.Level.{liesIn, ofWeight, masks, dimension, codeword}
-use Rattle.reed_muller.proofs.MaskTables.{Right, right-8, right-16, right-32, right-64, masksOf}
+use Rattle.level_tables.proofs.MaskTables.{Right, right-8, right-16, right-32, right-64, masksOf}
 use Rattle.reed_muller.proofs.Codeword.{codeword-small, codeword-cong, codeword-add}
 use Rattle.near_frames.specs.Near.{nearKind}
 use Rattle.near_frames.proofs.NearKinds.{each-near}

@@ -8,16 +8,17 @@ use native.Mathlib.Omega.{arith}
 use lib.ListN.{length, getD}
 use lib.IntN.{ℤ, pos, _-ℤ_}
 use lib.Pow.{pow-pos}
-use Rattle.bits.specs.Number.{sumTo}
+use Rattle.bits.specs.Number.{sumTo, bitOf}
 use Rattle.bits.proofs.Sum.{sum-ext, sum-add, sum-split}
 use Rattle.reed_muller.specs.Level.{belongs, dimension, codeword}
 use Rattle.reed_muller.proofs.Belongs.{belongs-cong, codeword-belongs}
 use Rattle.near_frames.specs.Near.{nearKind, nearLimit, IsNear, someNear, nearFrame, nearCost}
 use Rattle.near_frames.proofs.NearKinds.{size}
 use Rattle.near_frames.proofs.Frames.{limit-low, near-is, far-is}
-use Rattle.costs.specs.Costs.{gap, bitOf, cost, candidate, parityCost}
+use Rattle.costs.specs.Costs.{gap, cost, candidate, parityCost}
 use Rattle.costs.proofs.Residue.{parity-nearer}
-use Rattle.search.specs.Search.{firstWord, Searched, FoundPair}
+use Rattle.level_1_search.specs.Changes.{Searched}
+use Rattle.search.specs.Search.{firstWord, FoundPair}
 use Rattle.search.proofs.Pairs.{pair-of, frame-of, numbered}
 use Rattle.search.proofs.Steps.{word-lt, word-digit}
 
@@ -103,8 +104,8 @@ module _ (k : ℕ) (t : List ℤ) (kind : nearKind k ≡ true) (long : length t 
       → (someNear k t ≡ true) × ((lent : List ℤ) → nearFrame k t lent ≡ f) × (nearCost k t ≡ c)
   found-near y f l e =
       let g = frame-of k kind t long a b (pair .word-a y) (pair .word-b y) f l (λ p h. e p (omega (arith, h, long))) in
-      let n = near-is k kind t long f (record { coded = g .0; close = omega (arith, g .1, pair .costs y, pair .within y) }) in
+      let n = near-is k kind t f (record { samples = long; coded = g .0; close = omega (arith, g .1, pair .costs y, pair .within y) }) in
       (n .0, n .1, n .2 ∙ g .1 ∙ sym (pair .costs y))
 
   pub found-none : found ≡ false → (someNear k t ≡ false) × ((lent : List ℤ) → nearFrame k t lent ≡ lent) × (nearCost k t ≡ 0)
-  found-none n = far-is k kind t long (pair .none n)
+  found-none n = far-is k kind t (pair .none n)

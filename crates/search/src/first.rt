@@ -1,6 +1,6 @@
 // The search over the codewords of level 0, each left as soon as the samples are too far from its parities.
-use super::second::second_level;
-use costs::bit;
+use bits::word::bit;
+use level_1_search::second_level;
 ghost use mathlib.Core.Path.{_≡_};
 ghost use mathlib.Core.Bool.{true};
 ghost use Prim.Native.Nat.{_+_, _-_, _^_, _≤_};
@@ -53,7 +53,7 @@ fn first_level(kind: u8, samples: &[i32], limit: u32, costs: &[u32]) -> Pair
     ensures { λ r. ⌜ FoundPair kind (now (samples .entry)) (r .found) (r .a) (r .b) (r .cost) ⌝ }
 {
     let n = samples.len();
-    let count = 1u64 << reed_muller::dimension_of(kind as usize, 1);
+    let count = 1u64 << level_tables::dimension_of(kind as usize, 1);
     let steps = &STEPS;
     let mut word: u64 = 0;
     let mut i: u64 = 0;

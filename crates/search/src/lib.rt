@@ -1,7 +1,6 @@
 // The search for the near frame: over the words of both levels, with the distance in hand, by what `costs` says that samples cost.
 // Samples are counted in 256ths, squared distances in parts of 1 / 65,536.
 mod first;
-mod second;
 
 use first::find;
 ghost use mathlib.Core.Path.{_≡_};

@@ -17,7 +17,7 @@ use Rattle.frames.specs.Frame.{half, isOdd, numberedFrame}
 use Rattle.frames.proofs.One.{leader-length}
 use Rattle.frames.proofs.Demands.{half-pos}
 use Rattle.frames.proofs.Limits.{few-levels, few-positions, some-block, whole-blocks}
-use Rattle.sending.proofs.Laid.{leader-within}
+use Rattle.leader.proofs.Laid.{leader-within}
 
 module _ (k b : ℕ) (kind : isKind k ≡ true) (low : 1 ≤ b) (high : b ≤ 4) (f : List ℤ) (long : length f ≡ 2 ^ k) where
   -- by half the scale

@@ -7,12 +7,8 @@ ghost use Rattle.e8.specs.Energy.{energy as energyOf, Within};
 ghost use Rattle.e8.specs.Largest.{largestBlock};
 ghost use Rattle.e8.specs.Ties.{leastFrameBy};
 ghost use Rattle.frames.specs.Kind.{isKind, blocks, messageBytes};
-ghost use Rattle.frames.specs.Message.{leader};
 ghost use Rattle.frames.specs.Frame.{half, isOdd, numberedFrame};
 ghost use Rattle.frames.specs.Sending.{sendRefusal, frameAfter, energySent, LeastEnergy};
-
-mod leader;
-mod refusal;
 
 // What sending answers: the refusal number, 0 for success, and the energy of the frame sent.
 pub struct Outcome {
@@ -24,27 +20,6 @@ pub struct Outcome {
 pub struct Energies {
     pub energy: u64,
     pub largest: u64,
-}
-
-// Writes the coset leader of a message over the lent frame, block by block.
-fn write_leader(kind: u8, grade: usize, message: &[u8], frame: &mut [i32])
-    requires { ⌜ (isKind kind ≡ true) × (1 ≤ grade) × (grade ≤ 4)
-        × (length (now message) ≡ messageBytes kind grade) × (length (now frame) ≡ 2 ^ kind) ⌝ }
-    ensures { λ _. ⌜ now (frame .exit) ≡ leader kind grade (now (message .entry)) ⌝ }
-{
-    let words = leader::codewords(kind, message);
-    let base = kind_table::level_bits(kind);
-    let levels = kind_table::levels(kind);
-    let blocks = frame.len() / 8;
-    let mut j: usize = 0;
-    while j < blocks {
-        let s = 8 * j;
-        let e = s + 8;
-        let from = base + 8 * grade * j;
-        let x = leader::block(message, from, grade, levels, words, s);
-        coordinates::store(x, &mut frame[s..e]);
-        j += 1;
-    }
 }
 
 // The energy of a shaped frame, and the largest of its blocks', block by block.
@@ -95,7 +70,7 @@ pub fn write_sent(
     ensures energy { λ r. ⌜ r .energy ≡ energyOf (numberedFrame kind grade number (now (message .entry))) ⌝ }
     ensures largest { λ r. ⌜ r .largest ≡ largestBlock (numberedFrame kind grade number (now (message .entry))) ⌝ }
 {
-    write_leader(kind, grade, message, frame);
+    leader::write_leader(kind, grade, message, frame);
     shape_leader(kind, grade, number, frame)
 }
 
@@ -103,7 +78,7 @@ pub fn write_sent(
 pub fn test(kind: u8, grade: u8, message: &[u8], n: usize) -> u8
     ensures { λ r. ⌜ r ≡ sendRefusal kind grade (now (message .entry)) n ⌝ }
 {
-    refusal::refusal(kind, grade, message, n)
+    accepting::refusal(kind, grade, message, n)
 }
 
 // Sends a message under a number: tests 1, 2, 3, 4, 5, and then writes the frame of the number and gives its energy. A refusal writes nothing.
@@ -114,7 +89,7 @@ pub fn send(kind: u8, grade: u8, number: u32, message: &[u8], frame: &mut [i32])
     ensures least { λ r. ⌜ (r .number ≡ 0 → LeastEnergy kind grade (now (frame .exit)) (r .energy)) ⌝ }
 {
     let n = frame.len();
-    let refusal = refusal::refusal(kind, grade, message, n);
+    let refusal = accepting::refusal(kind, grade, message, n);
     if refusal != 0 {
         return Outcome {
             number: refusal,

@@ -10,7 +10,7 @@ use lib.IntN.{ℤ}
 use Rattle.e8.specs.Lattice.{part}
 use Rattle.e8.specs.Ties.{leastBlockBy, leastFrameBy}
 use Rattle.e8.proofs.Ties.{blockBy-size, leastFrameBy-none, leastFrameBy-snoc}
-use Rattle.shaping.proofs.Blocks.{Made, part-eight}
+use Rattle.e8.proofs.Blockwise.{Made, part-eight}
 
 -- by either tie rule; half the scale is 2^k
 module _ (last : Bool) (k : ℕ) (x : List ℤ) where

@@ -1,10 +1,18 @@
 // A call of the library, by the number of its function.
-use super::tally;
+use super::READ_OPEN;
+use super::READ_STRICT;
+use super::SEND;
+use super::SEND_COUNTED;
 use account::Account;
 use account::Counted;
+ghost use mathlib.Core.Path.{_≡_};
+ghost use Rattle.power_account.specs.Opening.{openedWith};
+ghost use Rattle.test_calls.specs.Outcome.{answered, outcomeOf};
 
 // What a reading or sending answers, with the account as it came.
-pub fn answer(number: u8, energy: u64, account: Account) -> Counted {
+pub fn answer(number: u8, energy: u64, account: Account) -> Counted
+    ensures { λ r. ⌜ r ≡ answered number energy account ⌝ }
+{
     Counted {
         number,
         energy,
@@ -13,7 +21,9 @@ pub fn answer(number: u8, energy: u64, account: Account) -> Counted {
 }
 
 // Opens an account, whatever stands in the one that is lent.
-fn open(changeover: u32) -> Counted {
+fn open(changeover: u32) -> Counted
+    ensures { λ r. ⌜ r ≡ answered (openedWith changeover .number) 0 (openedWith changeover .account) ⌝ }
+{
     let r = account::open(changeover);
     answer(r.number, 0, r.account)
 }
@@ -27,20 +37,24 @@ pub fn call(
     message: &mut [u8],
     frame: &mut [i32],
     account: Account,
-) -> Counted {
-    if function == tally::SEND {
+) -> Counted
+    ensures answer { λ r. ⌜ r ≡ outcomeOf function kind grade number (now (message .entry)) (now (frame .entry)) account .answer ⌝ }
+    ensures message { λ _. ⌜ now (message .exit) ≡ outcomeOf function kind grade number (now (message .entry)) (now (frame .entry)) account .message ⌝ }
+    ensures frame { λ _. ⌜ now (frame .exit) ≡ outcomeOf function kind grade number (now (message .entry)) (now (frame .entry)) account .frame ⌝ }
+{
+    if function == SEND {
         let r = sending::send(kind, grade, number, message, frame);
         return answer(r.number, r.energy, account);
     }
-    if function == tally::READ_OPEN {
+    if function == READ_OPEN {
         let r = reading::read_open(kind, grade, frame, message);
         return answer(r.number, r.energy, account);
     }
-    if function == tally::READ_STRICT {
+    if function == READ_STRICT {
         let r = reading::read_strict(kind, grade, number, frame, message);
         return answer(r.number, r.energy, account);
     }
-    if function == tally::SEND_COUNTED {
+    if function == SEND_COUNTED {
         return account::send_counted(kind, grade, message, frame, account);
     }
     open(number)

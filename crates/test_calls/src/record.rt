@@ -1,8 +1,9 @@
 // A record of the data: the call, what it is lent, and what it has to answer and to leave (tools/second-coder/README.md).
+use super::EXPORTED;
 use super::exported;
+use super::file_differs;
+use super::judge;
 use super::library;
-use super::tally;
-use super::tally::judge;
 use account::Account;
 use account::Counted;
 use test_data::account_in;
@@ -10,6 +11,12 @@ use test_data::count;
 use test_data::fill;
 use test_data::number;
 use test_data::size;
+ghost use mathlib.Core.Path.{_≡_};
+ghost use mathlib.Core.Bool.{_&&_};
+ghost use Rattle.frames.specs.Reading.{sameFrame};
+ghost use Rattle.test_data.specs.Alike.{sameBytes};
+ghost use Rattle.test_tally.specs.Tally.{GrownBy};
+ghost use Rattle.test_calls.specs.Outcome.{madeOutcome, sameAnswer, isHeld};
 
 // A call: the number of its function; the frame's number, or the changeover that an account is opened with; and how many bytes and
 // coordinates of what is there are lent.
@@ -22,7 +29,9 @@ struct Call {
     coordinates: usize,
 }
 
-fn same_answer(a: Counted, b: Counted) -> bool {
+fn same_answer(a: Counted, b: Counted) -> bool
+    ensures { λ r. ⌜ r ≡ sameAnswer a b ⌝ }
+{
     if a.number != b.number {
         return false;
     }
@@ -33,13 +42,11 @@ fn same_answer(a: Counted, b: Counted) -> bool {
 }
 
 // Makes the call, of the library or of an exported function.
-fn make(
-    outside: bool,
-    c: Call,
-    message: &mut [u8],
-    frame: &mut [i32],
-    account: Account,
-) -> Counted {
+fn make(outside: bool, c: Call, message: &mut [u8], frame: &mut [i32], account: Account) -> Counted
+    ensures answer { λ r. ⌜ r ≡ madeOutcome c (now (message .entry)) (now (frame .entry)) account .answer ⌝ }
+    ensures message { λ _. ⌜ now (message .exit) ≡ madeOutcome c (now (message .entry)) (now (frame .entry)) account .message ⌝ }
+    ensures frame { λ _. ⌜ now (frame .exit) ≡ madeOutcome c (now (message .entry)) (now (frame .entry)) account .frame ⌝ }
+{
     let m = c.bytes;
     let n = c.coordinates;
     if message.len() < m {
@@ -78,7 +85,9 @@ struct Lent {
 }
 
 // Whether the message and the frame are as they have to be.
-fn same_lent(message: [u8; 48], frame: [i32; 68], left: Lent) -> bool {
+fn same_lent(message: [u8; 48], frame: [i32; 68], left: Lent) -> bool
+    ensures { λ r. ⌜ r ≡ (sameBytes message (left .message) && sameFrame frame (left .frame)) ⌝ }
+{
     let m = left.message;
     let f = left.frame;
     if !test_data::same_bytes(&message, &m) {
@@ -88,14 +97,9 @@ fn same_lent(message: [u8; 48], frame: [i32; 68], left: Lent) -> bool {
 }
 
 // Whether the call gives the answer, and leaves what it has to.
-fn holds(
-    outside: bool,
-    c: Call,
-    lent: Lent,
-    account: Account,
-    answer: Counted,
-    left: Lent,
-) -> bool {
+fn holds(outside: bool, c: Call, lent: Lent, account: Account, answer: Counted, left: Lent) -> bool
+    ensures { λ r. ⌜ r ≡ isHeld c lent account answer left ⌝ }
+{
     let mut message = lent.message;
     let mut frame = lent.frame;
     let r = make(outside, c, &mut message, &mut frame, account);
@@ -121,7 +125,9 @@ fn take_lent(fd: i32) -> Lent {
 }
 
 // Takes the energy and the account that have to be answered.
-fn take_answer(fd: i32, refusal: u8) -> Counted {
+fn take_answer(fd: i32, refusal: u8) -> Counted
+    ensures { λ r. ⌜ r .number ≡ refusal ⌝ }
+{
     let mut numbers = [0u8; 32];
     fill(fd, 32, &mut numbers);
     Counted {
@@ -132,19 +138,14 @@ fn take_answer(fd: i32, refusal: u8) -> Counted {
 }
 
 // Takes record v from its message on, and makes its call.
-fn take_rest(
-    fd: i32,
-    v: u64,
-    c: Call,
-    account: Account,
-    refusal: u8,
-    tally: &mut [u64; 7],
-) -> bool {
+fn take_rest(fd: i32, v: u64, c: Call, account: Account, refusal: u8, tally: &mut [u64; 16]) -> bool
+    ensures { λ _. ⌜ GrownBy (now (tally .entry)) (now (tally .exit)) ⌝ }
+{
     let lent = take_lent(fd);
     let answer = take_answer(fd, refusal);
     let left = take_lent(fd);
     if !left.whole {
-        tally::file_differs(tally);
+        file_differs(tally);
         return false;
     }
     judge(
@@ -156,21 +157,23 @@ fn take_rest(
     judge(
         tally,
         v,
-        tally::EXPORTED,
+        EXPORTED,
         holds(true, c, lent, account, answer, left),
     );
     true
 }
 
 // Takes record v, and answers whether there was one. One that is cut short is a difference, and the last one taken.
-pub fn take(fd: i32, v: u64, tally: &mut [u64; 7]) -> bool {
+pub fn take(fd: i32, v: u64, tally: &mut [u64; 16]) -> bool
+    ensures { λ _. ⌜ GrownBy (now (tally .entry)) (now (tally .exit)) ⌝ }
+{
     let mut head = [0u8; 36];
     let got = io::read_full(fd, &mut head);
     if got == 0 {
         return false;
     }
     if got < 36 {
-        tally::file_differs(tally);
+        file_differs(tally);
         return false;
     }
     let c = Call {

@@ -3,10 +3,10 @@ use super::tally;
 use super::tally::judge;
 use super::ways;
 use account::Account;
+use queue::Queued;
 use test_data::account_in;
 use test_data::fill;
 use test_data::size;
-use queue::Queued;
 ghost use Prim.Native.Nat.{_≤_};
 ghost use lib.ListN.{length};
 

@@ -14,7 +14,7 @@ pub fn zeros() -> [u64; 4] {
     [0; 4]
 }
 
-fn write_name(way: usize) {
+fn write_name(way: usize) -> bool {
     match way {
         LIBRARY => write(b"in one call"),
         EXPORTED => write(b"exported"),

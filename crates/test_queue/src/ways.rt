@@ -1,9 +1,9 @@
 // The three ways of sending a queue, held to the answer that it has to give.
 use super::tally;
 use account::Account;
+use queue::Queued;
 use test_data::same_account;
 use test_data::size;
-use queue::Queued;
 ghost use Prim.Native.Nat.{_≤_};
 
 fn same(a: Queued, b: Queued) -> bool {

@@ -30,7 +30,7 @@ pub fn zeros() -> [u64; 12] {
     [0; 12]
 }
 
-fn write_name(check: usize) {
+fn write_name(check: usize) -> bool {
     match check {
         RECORD => write(b"vectors"),
         SENT => write(b"sent"),

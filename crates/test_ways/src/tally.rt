@@ -10,7 +10,7 @@ pub fn zeros() -> [u64; 6] {
     [0; 6]
 }
 
-fn write_name(sort: usize) {
+fn write_name(sort: usize) -> bool {
     match sort {
         0 => write(b"a bit alone, or none"),
         1 => write(b"sparse"),

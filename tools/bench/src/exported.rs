@@ -1,5 +1,6 @@
 //! The exported functions of the archives themselves, as they are measured: a call is inlined here, and nothing is
-//! done but to pass a slice as a pointer and a length. Also what is measured beside the library (`crates/block`, `crates/plain`).
+//! done but to pass a slice as a pointer and a length. Also what is measured beside the library (`crates/bench_block`,
+//! `crates/bench_plain`).
 
 /// The archives' functions, as `frame_coder.h`, `block.h` and `plain.h` have them.
 mod archive {

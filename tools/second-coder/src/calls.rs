@@ -3,6 +3,7 @@
 use crate::account::{largest_block, open, send_counted, Account, FULL};
 use crate::frame::{read_open_into, read_strict_into, send, send_into, Format, GRADES, KINDS};
 use crate::random::Random;
+use crate::test_file::{one_bit, places, TestFile};
 use crate::vectors::{dense, edge, halves, moved_by_point, tied, tied_edge, tied_throughout, with_bits};
 
 /// The functions, by the byte that stands for them in the file.
@@ -31,6 +32,7 @@ struct Lent {
     account: Account,
 }
 
+#[derive(Clone)]
 struct Call {
     function: u8,
     kind: u8,
@@ -40,9 +42,11 @@ struct Call {
     lent: Lent,
 }
 
+/// The refusal number and the energy, and what is left.
+type Answer = (u8, u64, Lent);
+
 impl Call {
-    /// The refusal number and the energy, and what is left.
-    fn answer(&self) -> (u8, u64, Lent) {
+    fn answer(&self) -> Answer {
         let Call { function, kind, grade, number, ref lent } = *self;
         let (message, frame) = (&lent.message, &lent.frame);
         let mut left = lent.clone();
@@ -82,18 +86,49 @@ impl Call {
         }
     }
 
-    /// The record of README.md.
-    fn record(&self) -> Vec<u8> {
-        let (number, energy, left) = self.answer();
+    /// The record of README.md, with this answer.
+    fn record(&self, (number, energy, left): &Answer) -> Vec<u8> {
         let sizes = [self.lent.message.len() as u8, self.lent.frame.len() as u8];
-        let mut record = vec![self.function, self.kind, self.grade, sizes[0], sizes[1], number, 0, 0];
+        let mut record = vec![self.function, self.kind, self.grade, sizes[0], sizes[1], *number, 0, 0];
         record.extend(self.number.to_le_bytes());
         self.lent.write(&mut record);
         record.extend(energy.to_le_bytes());
         left.write(&mut record);
         record
     }
+
+    /// Answers that are right but for one thing: the number, the energy, a figure of the account, a byte or a coordinate.
+    fn wrong_answers(&self) -> Vec<Answer> {
+        let mut right = self.answer();
+        right.2 = right.2.whole();
+        let mut wrong = Vec::new();
+        let mut change = |change: &dyn Fn(&mut Answer)| {
+            let mut answer = right.clone();
+            change(&mut answer);
+            wrong.push(answer);
+        };
+        change(&|answer| answer.0 ^= 1);
+        change(&|answer| answer.1 += 1);
+        for figure in ONE_FIGURE {
+            change(&|answer| figure(&mut answer.2.account));
+        }
+        for place in places(self.lent.message.len(), BYTES) {
+            change(&|answer| answer.2.message[place] ^= 1);
+        }
+        for place in places(self.lent.frame.len(), COORDINATES) {
+            change(&|answer| answer.2.frame[place] += 1);
+        }
+        wrong
+    }
 }
+
+/// Changes of one figure of an account: the count, the sum by one bit, the largest block, and the changeover.
+pub const ONE_FIGURE: [fn(&mut Account); 4] = [
+    |account| account.count += 1,
+    |account| account.sum = one_bit(account.sum),
+    |account| account.largest += 1,
+    |account| account.changeover += 1,
+];
 
 /// The figures of an account, in 24 bytes.
 pub fn write_account(account: Account, record: &mut Vec<u8>) {
@@ -105,13 +140,18 @@ pub fn write_account(account: Account, record: &mut Vec<u8>) {
 }
 
 impl Lent {
+    /// With the marks past what is lent.
+    fn whole(&self) -> Lent {
+        let mut whole = self.clone();
+        whole.message.resize(BYTES, MARK_BYTE);
+        whole.frame.resize(COORDINATES, MARK_COORDINATE);
+        whole
+    }
+
     fn write(&self, record: &mut Vec<u8>) {
-        write_account(self.account, record);
-        let mut message = self.message.clone();
-        message.resize(BYTES, MARK_BYTE);
+        let Lent { message, frame, account } = self.whole();
+        write_account(account, record);
         record.extend(message);
-        let mut frame = self.frame.clone();
-        frame.resize(COORDINATES, MARK_COORDINATE);
         record.extend(frame.iter().flat_map(|x| (*x as i32).to_le_bytes()));
     }
 }
@@ -541,24 +581,63 @@ fn sorts() -> [(&'static str, Vec<Call>); 15] {
     ]
 }
 
-/// What stands in the file of calls: how many there are of each sort and of each function, and how many are answered by each number.
+/// A call of each function that is accepted, and one that is refused: with these wrong answers are planted.
+fn planted() -> Vec<Call> {
+    once(|calls| {
+        calls.send(4, 1, 1, &[0x20, 0, 0, 0, 0], 16);
+        calls.send(3, 1, 0, &[0x00, 0x10], 8);
+        let [five, six] = [5, 6].map(|kind| tied_throughout(&Format::new(kind, 1).unwrap()));
+        let frame = send(5, 1, 0, &five).unwrap().frame;
+        calls.read_open(5, 1, &frame, five.len());
+        calls.read_open(5, 1, &frame[1..], five.len());
+        let frame = send(6, 1, 1, &six).unwrap().frame;
+        calls.read_strict(6, 1, 1, &frame, six.len());
+        calls.read_strict(6, 1, 2, &frame, six.len());
+        calls.count(5, 1, &five, 32, NONE);
+        calls.count(5, 1, &five, 32, Account { count: FULL, sum: -0.0, ..NONE });
+        for changeover in [FULL, FULL + 1] {
+            calls.put(OPEN, 0, 0, changeover, Lent { message: Vec::new(), frame: Vec::new(), account: NONE });
+        }
+    })
+}
+
+/// What the program counts: the calls of each function, and once more each of an exported function.
+const CHECKS: [&str; 6] =
+    ["sending", "open reading", "strict reading", "sending with an account", "opening of an account", "exported"];
+const EXPORTED: usize = 5;
+
+/// What stands in the file of calls: how many there are of each sort and of each function, how many are answered by each number, and how
+/// many have a wrong answer.
 pub struct Counts {
     pub sorts: Vec<(&'static str, usize)>,
     pub functions: [usize; 5],
     pub numbers: [usize; 15],
+    pub wrong: usize,
 }
 
-/// All calls in the format of README.md, and their counts.
-pub fn call_file() -> (Vec<u8>, Counts) {
+/// All calls in the format of README.md, those with wrong answers and one that is cut short last; and their counts.
+pub fn call_file() -> (TestFile, Counts) {
     let sorts = sorts();
     let of_sort = sorts.iter().map(|(name, calls)| (*name, calls.len())).collect();
-    let mut counts = Counts { sorts: of_sort, functions: [0; 5], numbers: [0; 15] };
-    let mut file = Vec::new();
+    let mut counts = Counts { sorts: of_sort, functions: [0; 5], numbers: [0; 15], wrong: 0 };
+    let mut file = TestFile::new(&CHECKS, "call");
+    let mut put = |call: &Call, answer: &Answer, right: bool| {
+        file.put(&call.record(answer), &[call.function as usize, EXPORTED].map(|check| (check, right)));
+    };
     for call in sorts.iter().flat_map(|(_, calls)| calls) {
+        let answer = call.answer();
         counts.functions[call.function as usize] += 1;
-        counts.numbers[call.answer().0 as usize] += 1;
-        file.extend(call.record());
+        counts.numbers[answer.0 as usize] += 1;
+        put(call, &answer, true);
     }
+    for call in planted() {
+        for answer in call.wrong_answers() {
+            counts.wrong += 1;
+            put(&call, &answer, false);
+        }
+    }
+    let first = &sorts[0].1[0];
+    file.cut_short(&first.record(&first.answer()));
     (file, counts)
 }
 
@@ -568,6 +647,7 @@ mod tests {
     use crate::account::tests::WRONG_RULES;
     use crate::class::energy;
     use crate::frame::send_by;
+    use crate::test_file::fields_apart;
 
     /// The calls of every sort.
     fn calls() -> Vec<Call> {
@@ -576,10 +656,30 @@ mod tests {
 
     #[test]
     fn records_have_one_size_and_every_number_comes() {
-        let (file, Counts { functions, numbers, .. }) = call_file();
-        assert_eq!(file.len(), functions.iter().sum::<usize>() * 708);
+        let (file, Counts { functions, numbers, wrong, .. }) = call_file();
+        assert_eq!(file.bytes.len(), (functions.iter().sum::<usize>() + wrong + 1) * 708 - 1);
         // 10 and 12 are refusals of a sheet.
         assert!((0..15).all(|number| (numbers[number] > 0) != [10, 12].contains(&number)));
+    }
+
+    /// A planted record differs from the right one in one thing alone that is answered or left, and no two are the same.
+    #[test]
+    fn one_thing_is_wrong() {
+        let sizes = || {
+            let account = [4, 8, 8, 4];
+            let lent = || account.into_iter().chain([1; BYTES]).chain([4; COORDINATES]);
+            [1, 1, 1, 1, 1, 1, 2, 4].into_iter().chain(lent()).chain([8]).chain(lent())
+        };
+        for call in planted() {
+            let right = call.record(&call.answer());
+            let wrong: Vec<Vec<u8>> = call.wrong_answers().iter().map(|answer| call.record(answer)).collect();
+            for (i, record) in wrong.iter().enumerate() {
+                assert_eq!(fields_apart(&right, record, sizes()), 1);
+                // What is lent is the same.
+                assert_eq!((&right[..5], &right[6..356]), (&record[..5], &record[6..356]));
+                assert!(!wrong[..i].contains(record));
+            }
+        }
     }
 
     /// For five calls each: number, energy of the frame and largest block of the account, energies by q.

@@ -15,6 +15,7 @@ pub mod noisy;
 pub mod queues;
 pub mod random;
 pub mod sheet;
+pub mod test_file;
 pub mod vectors;
 
 /// The numbers of document 01 by which input is refused.

@@ -4,18 +4,24 @@ use std::io::{Read, Write};
 use std::path::{Path, PathBuf};
 use std::process::{Command, ExitCode, Stdio};
 
-use second_coder::{calls, noisy, queues, random::Random, sheet, vectors};
+use second_coder::{calls, noisy, queues, random::Random, sheet, test_file::TestFile, vectors};
 
 /// Where a file for a crate stands: beside the program that holds the library to it.
 fn crates(name: &str) -> PathBuf {
     Path::new(env!("CARGO_MANIFEST_DIR")).join("../../crates").join(name)
 }
 
+/// Writes the data file of a test program, and what the program has to print.
+fn write_test(program: &str, name: &str, file: &TestFile) -> std::io::Result<()> {
+    std::fs::write(crates(program).join("data").join(name), &file.bytes)?;
+    std::fs::write(crates(program).join("stdout"), file.printed())
+}
+
 /// Writes the files for the crates, and prints what is in them.
 fn write_files() -> std::io::Result<()> {
     let all = vectors::all_messages();
-    let (file, counts) = vectors::vectors(&all);
-    std::fs::write(crates("vectors/data/vectors.bin"), &file)?;
+    let (file, counts, wrong) = vectors::vectors(&all);
+    write_test("test_vectors", "vectors.bin", &file)?;
     println!("| kind | grade | messages | with ties | most frames of least energy |");
     println!("|---|---|---|---|---|");
     for count in &counts {
@@ -24,31 +30,12 @@ fn write_files() -> std::io::Result<()> {
     // Each message stands there under an even and an odd number.
     let vectors: usize = counts.iter().map(|count| 2 * count.messages).sum();
     let tied: usize = counts.iter().map(|count| 2 * count.tied).sum();
-    println!("\nvectors.bin: {vectors} vectors, {tied} with ties, {} bytes", file.len());
-    // A frame moved by two is a question at kinds with a second level alone, and by four at those with a third.
-    let from = |kind| counts.iter().filter(|count| count.kind >= kind).map(|count| 2 * count.messages).sum::<usize>();
-    let checks = [
-        ("vectors", vectors),
-        ("sent", vectors),
-        ("read openly", vectors),
-        ("read strictly", vectors),
-        ("passed by the other parity", vectors - tied),
-        ("refused by the other parity", tied),
-        ("moved by a whole point", vectors),
-        ("moved by a half point", vectors),
-        ("moved by one", vectors),
-        ("moved by two", from(4)),
-        ("moved by four", from(6)),
-        ("different", 0),
-    ];
-    let printed: String = checks.iter().map(|(check, count)| format!("{check} {count}\n")).collect();
-    std::fs::write(crates("vectors/stdout"), printed)?;
-    let (ways, sorts) = vectors::ways(&all);
-    std::fs::write(crates("ways/data/ways.bin"), &ways)?;
-    println!("ways.bin: {sorts:?} messages of each sort, the refused last, {} bytes", ways.len());
-    let names = ["a bit alone, or none", "sparse", "dense", "with ties", "refused"];
-    let printed: String = names.iter().zip(sorts).map(|(name, count)| format!("{name} {count}\n")).collect();
-    std::fs::write(crates("ways/stdout"), format!("{printed}different 0\n"))?;
+    let bytes = file.bytes.len();
+    println!("\nvectors.bin: {vectors} vectors, {tied} with ties, and {wrong} wrong ones, {bytes} bytes");
+    let (file, sorts) = vectors::ways(&all);
+    write_test("test_ways", "ways.bin", &file)?;
+    let bytes = file.bytes.len();
+    println!("ways.bin: {sorts:?} messages of each sort, the refused and those of a wrong sort last, {bytes} bytes");
     let sheets = vectors::sheet_file();
     std::fs::write(crates("test_sheet/data/sheets.bin"), &sheets)?;
     println!("sheets.bin: {} sheets, {} bytes", vectors::sheets().len(), sheets.len());
@@ -59,29 +46,20 @@ fn write_files() -> std::io::Result<()> {
     let printed = vectors::sheet_listings();
     std::fs::write(crates("test_sheet/stdout"), &printed)?;
     println!("test_sheet/stdout: {} bytes", printed.len());
-    let (calls, calls::Counts { sorts, functions, numbers }) = calls::call_file();
-    std::fs::write(crates("calls/data/calls.bin"), &calls)?;
+    let (file, calls::Counts { sorts, functions, numbers, wrong }) = calls::call_file();
+    write_test("test_calls", "calls.bin", &file)?;
     println!(
-        "calls.bin: {sorts:?}, {functions:?} calls of each function, {numbers:?} answered by each number, {} bytes",
-        calls.len()
+        "calls.bin: {sorts:?}, {functions:?} calls of each function, {numbers:?} answered by each number, {wrong} with a wrong answer, {} bytes",
+        file.bytes.len()
     );
-    let names = ["sending", "open reading", "strict reading", "sending with an account", "opening of an account"];
-    let mut printed: String = names.iter().zip(functions).map(|(name, count)| format!("{name} {count}\n")).collect();
-    // Every call is made of an exported function too.
-    printed += &format!("exported {}\ndifferent 0\n", functions.iter().sum::<usize>());
-    std::fs::write(crates("calls/stdout"), printed)?;
-    let (queues, sorts, numbers) = queues::queue_file();
-    std::fs::write(crates("queues/data/queues.bin"), &queues)?;
-    println!("queues.bin: {sorts:?}, {numbers:?} answered by each number, {} bytes", queues.len());
-    // A queue is sent one by one where nothing is refused before it.
-    let (count, one_by_one) = (numbers.iter().sum::<usize>(), numbers[0] + numbers[5] + numbers[11]);
-    let printed = format!("in one call {count}\nexported {count}\none by one {one_by_one}\ndifferent 0\n");
-    std::fs::write(crates("queues/stdout"), printed)?;
-    let (noisy, noisy::Counts { sorts, numbers }) = noisy::noisy_file();
-    std::fs::write(crates("noisy/data/noisy.bin"), &noisy)?;
-    println!("noisy.bin: {sorts:?}, {numbers:?} answered by each number, {} bytes", noisy.len());
-    let count: usize = numbers.iter().sum();
-    std::fs::write(crates("noisy/stdout"), format!("library {count}\nexported {count}\ndifferent 0\n"))?;
+    let (file, queues::Counts { sorts, numbers, wrong }) = queues::queue_file();
+    write_test("test_queue", "queues.bin", &file)?;
+    let bytes = file.bytes.len();
+    println!("queues.bin: {sorts:?}, {numbers:?} answered by each number, {wrong} with a wrong answer, {bytes} bytes");
+    let (file, noisy::Counts { sorts, numbers, wrong }) = noisy::noisy_file();
+    write_test("test_near", "noisy.bin", &file)?;
+    let bytes = file.bytes.len();
+    println!("noisy.bin: {sorts:?}, {numbers:?} answered by each number, {wrong} with a wrong answer, {bytes} bytes");
     let sheet = vectors::program_sheet();
     let listing = sheet::listing(&sheet);
     std::fs::write(crates("sheet/stdin"), &sheet)?;

@@ -4,6 +4,7 @@ use crate::calls::NAN;
 use crate::frame::{leader, send, Format, GRADES};
 use crate::near::{limit, read_near, Near, KINDS};
 use crate::random::Random;
+use crate::test_file::{one_bit, places as places_of, TestFile};
 use crate::vectors::{dense, edge, with_bits};
 
 /// The places that the program has for message bytes and for samples.
@@ -80,6 +81,20 @@ impl Reading {
         record.extend(self.lent());
         record.extend(&answer.bytes);
         record
+    }
+
+    /// Answers that are right but for one thing: the number, the distance, or a byte.
+    fn wrong_answers(&self) -> Vec<Answer> {
+        let right = self.answer(&self.near());
+        let mut wrong = vec![
+            Answer { number: right.number ^ 16, ..right.clone() },
+            Answer { distance: one_bit(right.distance), ..right.clone() },
+        ];
+        for place in places_of(self.bytes, self.bytes + PAST) {
+            wrong.push(right.clone());
+            wrong.last_mut().unwrap().bytes[place] ^= 1;
+        }
+        wrong
     }
 }
 
@@ -532,23 +547,55 @@ fn sorts() -> [(&'static str, Vec<Reading>); 16] {
     ]
 }
 
-/// What stands in the file: how many readings of each sort, and how many are answered by each number.
+/// Readings that are near, with noise and without, too far, and refused: with these wrong answers are planted.
+fn planted() -> Vec<Reading> {
+    let frame = send(4, 1, 1, &[0x20, 0, 0, 0, 0]).unwrap().frame;
+    let samples = |noise: f32| frame.iter().map(|&x| x as f32 + noise).collect();
+    let reading = |samples, distance| Reading { kind: 4, grade: 1, samples, bytes: 5, distance };
+    vec![
+        reading(samples(0.25), -1.0),
+        reading(samples(0.0), NAN),
+        reading(samples(0.5), -0.0),
+        reading(samples(f32::INFINITY), f64::INFINITY),
+        Reading { bytes: 4, ..reading(samples(0.0), -1.0) },
+    ]
+}
+
+/// What the program counts: readings of the library and of the exported function.
+const CHECKS: [&str; 2] = ["library", "exported"];
+
+/// What stands in the file: how many readings of each sort, how many are answered by each number, and how many have a wrong answer.
 pub struct Counts {
     pub sorts: Vec<(&'static str, usize)>,
     pub numbers: [usize; 17],
+    pub wrong: usize,
 }
 
-/// All readings in the format of README.md, and their counts.
-pub fn noisy_file() -> (Vec<u8>, Counts) {
+/// All readings in the format of README.md, those with wrong answers and one that is cut short last; and their counts.
+pub fn noisy_file() -> (TestFile, Counts) {
     let sorts = sorts();
     let of_sort = sorts.iter().map(|(name, readings)| (*name, readings.len())).collect();
-    let mut counts = Counts { sorts: of_sort, numbers: [0; 17] };
-    let mut file = Vec::new();
+    let mut counts = Counts { sorts: of_sort, numbers: [0; 17], wrong: 0 };
+    let mut file = TestFile::new(&CHECKS, "reading");
+    let mut put = |reading: &Reading, answer: &Answer, passed: [bool; 2]| {
+        file.put(&reading.record(answer), &[(0, passed[0]), (1, passed[1])]);
+    };
     for reading in sorts.iter().flat_map(|(_, readings)| readings) {
         let answer = reading.answer(&reading.near());
         counts.numbers[answer.number as usize] += 1;
-        file.extend(reading.record(&answer));
+        put(reading, &answer, [true; 2]);
     }
+    for reading in planted() {
+        let right = reading.answer(&reading.near());
+        for answer in reading.wrong_answers() {
+            counts.wrong += 1;
+            // The library gives a distance with the number 0 alone; to the exported function one is lent.
+            let of_the_distance = answer.distance.to_bits() != right.distance.to_bits();
+            put(&reading, &answer, [of_the_distance && right.number != 0, false]);
+        }
+    }
+    let first = &sorts[0].1[0];
+    file.cut_short(&first.record(&first.answer(&first.near())));
     (file, counts)
 }
 
@@ -557,6 +604,7 @@ mod tests {
     use super::*;
     use crate::frame::read_open;
     use crate::near::{frames_within, gap, in_256ths};
+    use crate::test_file::fields_apart;
 
     /// A reading with its right answer, and the near frame where there is one.
     struct Read {
@@ -781,11 +829,30 @@ mod tests {
         }
     }
 
+    /// A planted record differs from the right one in one thing alone that is answered or left, and no two are the same.
+    #[test]
+    fn one_thing_is_wrong() {
+        for reading in planted() {
+            let (n, bytes) = (4 * reading.samples.len(), reading.bytes + PAST);
+            let sizes: Vec<usize> = [1, 1, 1, 1, 1, 3, 8, 8, n, bytes].into_iter().chain(vec![1; bytes]).collect();
+            let right = reading.record(&reading.answer(&reading.near()));
+            let wrong: Vec<Vec<u8>> = reading.wrong_answers().iter().map(|answer| reading.record(answer)).collect();
+            for (i, record) in wrong.iter().enumerate() {
+                assert_eq!(fields_apart(&right, record, sizes.clone()), 1);
+                // What is lent is the same.
+                let lent = 24..24 + n + bytes;
+                assert_eq!((&right[..4], &right[5..16]), (&record[..4], &record[5..16]));
+                assert_eq!(right[lent.clone()], record[lent]);
+                assert!(!wrong[..i].contains(record));
+            }
+        }
+    }
+
     #[test]
     fn every_number_of_a_reading_comes() {
-        let (file, Counts { sorts, numbers }) = noisy_file();
+        let (file, Counts { sorts, numbers, .. }) = noisy_file();
         assert!((0..17).all(|number| (numbers[number] > 0) == [0, 1, 2, 3, 4, 15, 16].contains(&number)));
         assert_eq!(sorts.iter().map(|(_, count)| count).sum::<usize>(), numbers.iter().sum());
-        assert!(file == noisy_file().0);
+        assert!(file.bytes == noisy_file().0.bytes);
     }
 }

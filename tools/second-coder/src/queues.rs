@@ -1,9 +1,10 @@
 //! Queues of messages for the library to send, with what they must answer and leave, the same on every run.
 
 use crate::account::{largest_block, send_queue, Account, Queued, FULL};
-use crate::calls::{changes, figures, write_account, NAN, NEW, NONE, OLD};
+use crate::calls::{changes, figures, write_account, NAN, NEW, NONE, OLD, ONE_FIGURE};
 use crate::frame::{send, Format, GRADES, KINDS};
 use crate::random::Random;
+use crate::test_file::{places, TestFile};
 use crate::vectors::{dense, edge, halves, tied_edge, tied_throughout, with_bits};
 
 /// The places that the program has for message bytes and for coordinates.
@@ -26,21 +27,23 @@ struct Queue {
     account: Account,
 }
 
+/// What sending it gives, and the coordinates that it leaves.
+type Answer = (Queued, Vec<i64>);
+
 impl Queue {
     /// The coordinates that are lent, and more.
     fn frames(&self) -> Vec<i64> {
         (0..self.coordinates + PAST).map(before).collect()
     }
 
-    /// What sending it gives, and the coordinates that it leaves.
-    fn answer(&self) -> (Queued, Vec<i64>) {
+    fn answer(&self) -> Answer {
         let mut frames = self.frames();
         let lent = &mut frames[..self.coordinates];
         (send_queue(self.kind, self.grade, &self.messages, lent, self.account), frames)
     }
 
     /// The record of README.md, with this answer.
-    fn record(&self, (queued, frames): &(Queued, Vec<i64>)) -> Vec<u8> {
+    fn record(&self, (queued, frames): &Answer) -> Vec<u8> {
         assert!(self.messages.len() <= BYTES && frames.len() <= COORDINATES);
         let mut record = vec![self.kind, self.grade];
         record.extend((self.messages.len() as u16).to_le_bytes());
@@ -51,6 +54,33 @@ impl Queue {
         record.extend(&self.messages);
         record.extend(frames.iter().flat_map(|x| (*x as i32).to_le_bytes()));
         record
+    }
+
+    /// Answers that are right but for one thing: the number, the number sent, a figure of the account, or a coordinate.
+    fn wrong_answers(&self) -> Vec<Answer> {
+        let right = self.answer();
+        let mut wrong = Vec::new();
+        let mut change = |change: &dyn Fn(&mut Answer)| {
+            let mut answer = right.clone();
+            change(&mut answer);
+            wrong.push(answer);
+        };
+        change(&|answer| {
+            answer.0.number = match answer.0.number {
+                0 => 5,
+                5 => 11,
+                11 => 0,
+                number => number ^ 1,
+            }
+        });
+        change(&|answer| answer.0.sent += 1);
+        for figure in ONE_FIGURE {
+            change(&|answer| figure(&mut answer.0.account));
+        }
+        for place in places(self.coordinates, self.coordinates + PAST) {
+            change(&|answer| answer.1[place] += 1);
+        }
+        wrong
     }
 }
 
@@ -302,17 +332,55 @@ fn sorts() -> [(&'static str, Vec<Queue>); 11] {
     ]
 }
 
-/// All queues in the format of README.md, how many there are of each sort, and how many are answered by each number.
-pub fn queue_file() -> (Vec<u8>, Vec<(&'static str, usize)>, [usize; 14]) {
+/// A queue that is sent, and queues that are refused at a message, by a full account and before the first message: with these wrong
+/// answers are planted.
+fn planted() -> Vec<Queue> {
+    once(|queues| {
+        let tied = |kind, count| vec![tied_throughout(&Format::new(kind, 1).unwrap()); count];
+        queues.put(3, 1, &tied(3, 3), NEW);
+        let mut messages = tied(4, 4);
+        messages[2][4] |= 0x80;
+        queues.put(4, 1, &messages, NONE);
+        queues.put(5, 1, &tied(5, 3), room(2));
+        queues.lend(3, 1, &[0; 5], 24, Account { sum: -0.0, ..NONE });
+    })
+}
+
+/// What the program counts: queues by the way they are sent.
+const CHECKS: [&str; 3] = ["in one call", "exported", "one by one"];
+
+/// What stands in the file: how many queues of each sort, how many are answered by each number, and how many have a wrong answer.
+pub struct Counts {
+    pub sorts: Vec<(&'static str, usize)>,
+    pub numbers: [usize; 14],
+    pub wrong: usize,
+}
+
+/// All queues in the format of README.md, those with wrong answers and one that is cut short last; and their counts.
+pub fn queue_file() -> (TestFile, Counts) {
     let sorts = sorts();
-    let counts = sorts.iter().map(|(name, queues)| (*name, queues.len())).collect();
-    let (mut file, mut numbers) = (Vec::new(), [0; 14]);
+    let of_sort = sorts.iter().map(|(name, queues)| (*name, queues.len())).collect();
+    let mut counts = Counts { sorts: of_sort, numbers: [0; 14], wrong: 0 };
+    let mut file = TestFile::new(&CHECKS, "queue");
+    let mut put = |queue: &Queue, answer: &Answer, right: bool| {
+        // One by one where, by the answer, nothing is refused before the first message.
+        let ways = if [0, 5, 11].contains(&answer.0.number) { 3 } else { 2 };
+        file.put(&queue.record(answer), &[0, 1, 2].map(|way| (way, right))[..ways]);
+    };
     for queue in sorts.iter().flat_map(|(_, queues)| queues) {
         let answer = queue.answer();
-        numbers[answer.0.number as usize] += 1;
-        file.extend(queue.record(&answer));
+        counts.numbers[answer.0.number as usize] += 1;
+        put(queue, &answer, true);
     }
-    (file, counts, numbers)
+    for queue in planted() {
+        for answer in queue.wrong_answers() {
+            counts.wrong += 1;
+            put(&queue, &answer, false);
+        }
+    }
+    let first = &sorts[0].1[0];
+    file.cut_short(&first.record(&first.answer()));
+    (file, counts)
 }
 
 #[cfg(test)]
@@ -321,8 +389,7 @@ mod tests {
     use crate::account::send_counted;
     use crate::account::tests::WRONG_RULES;
     use crate::frame::{send_by, Tie};
-
-    type Answer = (Queued, Vec<i64>);
+    use crate::test_file::fields_apart;
 
     /// What someone could answer who does it wrong, from the queue and the right answer.
     type Wrong = fn(&Queue, Answer) -> Answer;
@@ -574,11 +641,32 @@ mod tests {
         }
     }
 
+    /// A planted record differs from the right one in one thing alone that is answered or left, and no two are the same.
+    #[test]
+    fn one_thing_is_wrong() {
+        for queue in planted() {
+            let coordinates = queue.coordinates + PAST;
+            let account = [4, 8, 8, 4];
+            let head = [1, 1, 2, 2, 1, 1].into_iter().chain(account).chain(account);
+            let sizes: Vec<usize> = head.chain([queue.messages.len()]).chain(vec![4; coordinates]).collect();
+            let right = queue.record(&queue.answer());
+            let wrong: Vec<Vec<u8>> = queue.wrong_answers().iter().map(|answer| queue.record(answer)).collect();
+            for (i, record) in wrong.iter().enumerate() {
+                assert_eq!(fields_apart(&right, record, sizes.clone()), 1);
+                // What is lent is the same.
+                let messages = 56..56 + queue.messages.len();
+                assert_eq!((&right[..6], &right[8..32]), (&record[..6], &record[8..32]));
+                assert_eq!(right[messages.clone()], record[messages]);
+                assert!(!wrong[..i].contains(record));
+            }
+        }
+    }
+
     #[test]
     fn every_number_of_a_queue_comes() {
-        let (file, sorts, numbers) = queue_file();
+        let (file, Counts { sorts, numbers, .. }) = queue_file();
         assert!((0..14).all(|number| (numbers[number] > 0) == [0, 1, 2, 3, 4, 5, 11].contains(&number)));
         assert_eq!(sorts.iter().map(|(_, count)| count).sum::<usize>(), numbers.iter().sum());
-        assert!(file == queue_file().0);
+        assert!(file.bytes == queue_file().0.bytes);
     }
 }

@@ -8,6 +8,7 @@ use crate::frame::{leader, read_open, read_strict, send, send_into, shaped, Form
 use crate::random::Random;
 use crate::refusal;
 use crate::sheet::{listing, LONGEST, MARK};
+use crate::test_file::TestFile;
 
 /// How many messages of each sort a kind and grade gets, besides each single bit and all zeros.
 const PAIRS: usize = 50;
@@ -117,16 +118,6 @@ pub fn moved_by_point(format: &Format, frame: &[i64], random: &mut Random) -> Ve
     moved
 }
 
-/// The energy that the open reading gives of the frame of a number with a point of the lattice added: so much at these places.
-fn energy_moved(vector: &Sorted, number: u32, frame: &[i64], places: Range<usize>, by: i64) -> u64 {
-    let mut moved = frame.to_vec();
-    moved[places].iter_mut().for_each(|x| *x += by);
-    let (read, energy) = read_open(vector.kind, vector.grade, &moved).unwrap();
-    assert_eq!(read, vector.message);
-    assert_eq!(read_strict(vector.kind, vector.grade, number, &moved), Err(refusal::UNSHAPED));
-    energy
-}
-
 /// The sorts of messages: a bit alone (or none), sparse, dense, and with several frames of least energy.
 pub const SORTS: usize = 4;
 
@@ -188,18 +179,38 @@ pub fn numbers(place: usize, random: &mut Random) -> [u32; 2] {
     [even, if place % 4 == 3 { random.draw() as u32 | 1 } else { even + 1 }]
 }
 
-/// For sending both ways: these messages, and calls that are refused; and how many there are of each sort, the refused ones last. A record
-/// is the sort, kind, grade, message bytes and coordinates lent, one byte each, the frame's number in four, and the message.
-pub fn ways(all: &[Sorted]) -> (Vec<u8>, [usize; SORTS + 1]) {
+/// What the program of the two ways counts: messages by their sort, and calls that are refused.
+const WAYS: [&str; SORTS + 1] = ["a bit alone, or none", "sparse", "dense", "with ties", "refused"];
+const REFUSED: usize = SORTS;
+
+/// A call for sending both ways: a message with its sort, or one that is refused.
+struct Way {
+    sort: usize,
+    kind: u8,
+    grade: u8,
+    number: u32,
+    message: Vec<u8>,
+    coordinates: usize,
+}
+
+impl Way {
+    /// The record of README.md, with this sort.
+    fn record(&self, sort: usize) -> Vec<u8> {
+        let mut record = vec![sort as u8, self.kind, self.grade, self.message.len() as u8, self.coordinates as u8];
+        record.extend(self.number.to_le_bytes());
+        record.extend(&self.message);
+        record
+    }
+}
+
+/// These messages for sending both ways, and calls that are refused.
+fn all_ways(all: &[Sorted]) -> Vec<Way> {
     let mut random = Random::new(9);
-    let (mut file, mut counts) = (Vec::new(), [0; SORTS + 1]);
-    let mut put = |sort: usize, kind: u8, grade: u8, message: &[u8], n: usize| {
-        let place = counts.iter().sum::<usize>();
+    let mut ways = Vec::new();
+    let mut put = |sort: usize, kind: u8, grade: u8, message: &[u8], coordinates: usize| {
+        let place = ways.len();
         let number = numbers(place, &mut random)[place / 4 % 2];
-        file.extend([sort as u8, kind, grade, message.len() as u8, n as u8]);
-        file.extend(number.to_le_bytes());
-        file.extend(message);
-        counts[sort] += 1;
+        ways.push(Way { sort, kind, grade, number, message: message.to_vec(), coordinates });
     };
     for Sorted { kind, grade, sort, message } in all {
         put(*sort as usize, *kind, *grade, message, Format::new(*kind, *grade).unwrap().length());
@@ -210,7 +221,7 @@ pub fn ways(all: &[Sorted]) -> (Vec<u8>, [usize; SORTS + 1]) {
             let (n, good) = (format.length(), with_bits(&format, &[0]));
             let mut refused = |kind, grade, message: &[u8], n| {
                 assert!(send_into(kind, grade, 0, message, n).is_err());
-                put(SORTS, kind, grade, message, n);
+                put(REFUSED, kind, grade, message, n);
             };
             for k in format.message_bits()..8 * good.len() {
                 refused(kind, grade, &with_bits(&format, &[k]), n);
@@ -225,8 +236,31 @@ pub fn ways(all: &[Sorted]) -> (Vec<u8>, [usize; SORTS + 1]) {
     for kind in [0, 2, 7, 255] {
         let (good, n) = ([0; 46], 64);
         assert!(send_into(kind, 4, 0, &good, n).is_err());
-        put(SORTS, kind, 4, &good, n);
+        put(REFUSED, kind, 4, &good, n);
     }
+    ways
+}
+
+/// Calls with a wrong sort: the first message of each sort as refused, and a refused call as of each sort.
+fn wrong_ways(ways: &[Way]) -> Vec<(&Way, usize)> {
+    let first = |sort| ways.iter().find(|way| way.sort == sort).unwrap();
+    (0..SORTS).flat_map(|sort| [(first(sort), REFUSED), (first(REFUSED), sort)]).collect()
+}
+
+/// For sending both ways: the calls in the format of README.md, those with a wrong sort and one that is cut short last; and how many there
+/// are of each sort, those that are refused and those with a wrong sort last.
+pub fn ways(all: &[Sorted]) -> (TestFile, [usize; SORTS + 2]) {
+    let ways = all_ways(all);
+    let (mut file, mut counts) = (TestFile::new(&WAYS, "number"), [0; SORTS + 2]);
+    for way in &ways {
+        counts[way.sort] += 1;
+        file.put(&way.record(way.sort), &[(way.sort, true)]);
+    }
+    for (way, sort) in wrong_ways(&ways) {
+        counts[SORTS + 1] += 1;
+        file.put(&way.record(sort), &[(sort, false)]);
+    }
+    file.cut_short(&ways[0].record(ways[0].sort));
     (file, counts)
 }
 
@@ -240,37 +274,170 @@ pub struct Count {
     pub most: u64,
 }
 
-/// The record of README.md for a message under a number. Gives how many frames of least energy there are.
-fn put_vector(vector: &Sorted, number: u32, file: &mut Vec<u8>) -> u64 {
-    let Sorted { kind, grade, ref message, .. } = *vector;
-    let sent = send(kind, grade, number, message).unwrap();
-    // What the strict reading answers under the number beside it, which has the other parity.
-    let other = read_strict(kind, grade, number ^ 1, &sent.frame).err().unwrap_or(0);
-    assert_eq!(other, if sent.least > 1 { refusal::UNSHAPED } else { 0 });
-    file.extend([kind, grade, message.len() as u8]);
-    file.extend(number.to_le_bytes());
-    file.push(other);
-    file.extend(message);
-    file.push(sent.frame.len() as u8);
-    for x in &sent.frame {
-        file.extend((*x as i32).to_le_bytes());
-    }
-    file.extend(sent.energy.to_le_bytes());
-    // M at two places of the first block; M/2 at each place of the last.
-    let (n, scale) = (sent.frame.len(), Format::new(kind, grade).unwrap().scale());
-    for (places, by) in [(0..2, scale), (n - 8..n, scale / 2)] {
-        file.extend(energy_moved(vector, number, &sent.frame, places, by).to_le_bytes());
-    }
-    sent.least
+/// What the program of the vectors counts.
+const CHECKS: [&str; 11] = [
+    "vectors",
+    "sent",
+    "read openly",
+    "read strictly",
+    "passed by the other parity",
+    "refused by the other parity",
+    "moved by a whole point",
+    "moved by a half point",
+    "moved by one",
+    "moved by two",
+    "moved by four",
+];
+
+/// A vector of README.md.
+#[derive(Clone)]
+struct Vector {
+    kind: u8,
+    grade: u8,
+    number: u32,
+    /// What the strict reading answers under the number beside it.
+    other: u8,
+    message: Vec<u8>,
+    frame: Vec<i64>,
+    /// Of the frame, and of the frame with each of the two points added.
+    energies: [u64; 3],
 }
 
-/// All vectors, in the format of README.md.
-pub fn vectors(all: &[Sorted]) -> (Vec<u8>, Vec<Count>) {
-    let (mut file, mut counts) = (Vec::new(), Vec::<Count>::new());
+/// A frame with so much added at these places.
+fn moved(frame: &[i64], places: Range<usize>, by: i64) -> Vec<i64> {
+    let mut moved = frame.to_vec();
+    moved[places].iter_mut().for_each(|x| *x += by);
+    moved
+}
+
+impl Vector {
+    /// For a message under a number; and how many frames of least energy there are.
+    fn new(kind: u8, grade: u8, number: u32, message: &[u8]) -> (Vector, u64) {
+        let sent = send(kind, grade, number, message).unwrap();
+        let other = read_strict(kind, grade, number ^ 1, &sent.frame).err().unwrap_or(0);
+        assert_eq!(other, if sent.least > 1 { refusal::UNSHAPED } else { 0 });
+        let message = message.to_vec();
+        let mut vector = Vector { kind, grade, number, other, message, frame: sent.frame, energies: [sent.energy; 3] };
+        for (energy, frame) in vector.energies[1..].iter_mut().zip(with_points(kind, grade, &vector.frame)) {
+            *energy = read_open(kind, grade, &frame).unwrap().1;
+        }
+        (vector, sent.least)
+    }
+
+    /// The record of README.md.
+    fn record(&self) -> Vec<u8> {
+        let mut record = vec![self.kind, self.grade, self.message.len() as u8];
+        record.extend(self.number.to_le_bytes());
+        record.push(self.other);
+        record.extend(&self.message);
+        record.push(self.frame.len() as u8);
+        record.extend(self.frame.iter().flat_map(|x| (*x as i32).to_le_bytes()));
+        record.extend(self.energies.iter().flat_map(|energy| energy.to_le_bytes()));
+        record
+    }
+
+    /// The checks that the program makes, in its order, and whether the vector passes each.
+    fn checks(&self) -> Vec<(usize, bool)> {
+        let Vector { kind, grade, number, other, ref message, ref frame, energies } = *self;
+        let open = |frame: &[i64]| read_open(kind, grade, frame);
+        let strict = |number: u32, frame: &[i64]| read_strict(kind, grade, number, frame);
+        let read = |energy: u64| Ok((message.clone(), energy));
+        let sent = send(kind, grade, number, message).map(|sent| (sent.frame, sent.energy));
+        let beside = strict(number ^ 1, frame);
+        let mut checks = vec![
+            (1, sent == Ok((frame.clone(), energies[0]))),
+            (2, open(frame) == read(energies[0])),
+            (3, strict(number, frame) == read(energies[0])),
+            if other == 0 { (4, beside == read(energies[0])) } else { (5, beside == Err(other)) },
+        ];
+        for (i, frame) in with_points(kind, grade, frame).iter().enumerate() {
+            let equivalent = open(frame) == read(energies[i + 1]) && strict(number, frame) == Err(refusal::UNSHAPED);
+            checks.push((6 + i, equivalent));
+        }
+        let levels = Format::new(kind, grade).unwrap().levels.len();
+        let numbers = [refusal::BROKEN_LEVEL_0, refusal::BROKEN_LEVEL_1, refusal::BROKEN_LEVEL_2];
+        for (level, broken) in numbers.into_iter().take(levels).enumerate() {
+            let frame = moved(frame, 0..1, 1 << level);
+            checks.push((8 + level, open(&frame) == Err(broken) && strict(number, &frame) == Err(broken)));
+        }
+        // The record is whole.
+        checks.push((0, true));
+        checks
+    }
+
+    /// Vectors that are right but for one thing: a byte of the message, a coordinate, an energy, or what the strict reading answers under
+    /// the number beside it.
+    fn wrong(&self) -> Vec<Vector> {
+        let mut wrong = Vec::new();
+        let mut change = |change: &dyn Fn(&mut Vector)| {
+            let mut vector = self.clone();
+            change(&mut vector);
+            wrong.push(vector);
+        };
+        let last = self.message.len() - 1;
+        // The last bit of all is a spare bit at kinds 3 and 4.
+        for (place, bit) in [(0, 0), (last, 0), (last, 7)] {
+            change(&|vector| vector.message[place] ^= 1 << bit);
+        }
+        for place in [0, self.frame.len() / 2, self.frame.len() - 1] {
+            change(&|vector| vector.frame[place] += 1);
+        }
+        for i in 0..3 {
+            change(&|vector| vector.energies[i] += 1);
+        }
+        change(&|vector| vector.other ^= refusal::UNSHAPED);
+        change(&|vector| vector.other ^= 1);
+        wrong
+    }
+}
+
+/// The frame with each of two points of the lattice added: M at two places of the first block; M/2 at each place of the last.
+fn with_points(kind: u8, grade: u8, frame: &[i64]) -> [Vec<i64>; 2] {
+    let (n, scale) = (frame.len(), Format::new(kind, grade).unwrap().scale());
+    [moved(frame, 0..2, scale), moved(frame, n - 8..n, scale / 2)]
+}
+
+/// A vector of each kind, two of which have ties: with these wrong ones are planted.
+fn planted() -> Vec<Vector> {
+    let vector = |kind, grade, number, tied: bool| {
+        let format = Format::new(kind, grade).unwrap();
+        let message = if tied { tied_throughout(&format) } else { with_bits(&format, &[]) };
+        Vector::new(kind, grade, number, &message).0
+    };
+    vec![vector(3, 1, 0, false), vector(4, 2, 1, true), vector(5, 3, u32::MAX, false), vector(6, 4, 1 << 31, true)]
+}
+
+/// The wrong vectors, and one that is cut short, at the end of the file.
+fn put_wrong(file: &mut TestFile) -> usize {
+    let wrong: Vec<Vector> = planted().iter().flat_map(Vector::wrong).collect();
+    for vector in &wrong {
+        file.put(&vector.record(), &vector.checks());
+    }
+    let record = wrong[0].record();
+    file.put(&record[..record.len() - 1], &[(0, false)]);
+    wrong.len()
+}
+
+/// How many bytes stand at the end of the file that are wrong vectors.
+pub fn wrong_bytes() -> usize {
+    let mut file = TestFile::new(&CHECKS, "number");
+    put_wrong(&mut file);
+    file.bytes.len()
+}
+
+/// All vectors in the format of README.md, wrong ones last; how many there are of each kind and grade; and how many are wrong.
+pub fn vectors(all: &[Sorted]) -> (TestFile, Vec<Count>, usize) {
+    let (mut file, mut counts) = (TestFile::new(&CHECKS, "number"), Vec::<Count>::new());
     let mut random = Random::new(10);
-    for (place, vector) in all.iter().enumerate() {
-        let Sorted { kind, grade, .. } = *vector;
-        let least = numbers(place, &mut random).map(|number| put_vector(vector, number, &mut file))[0];
+    for (place, Sorted { kind, grade, message, .. }) in all.iter().enumerate() {
+        let (kind, grade) = (*kind, *grade);
+        let least = numbers(place, &mut random).map(|number| {
+            let (vector, least) = Vector::new(kind, grade, number, message);
+            let checks = vector.checks();
+            assert!(checks.iter().all(|(_, passed)| *passed));
+            file.put(&vector.record(), &checks);
+            least
+        })[0];
         if counts.last().is_none_or(|count| (count.kind, count.grade) != (kind, grade)) {
             counts.push(Count { kind, grade, messages: 0, tied: 0, most: 1 });
         }
@@ -279,7 +446,8 @@ pub fn vectors(all: &[Sorted]) -> (Vec<u8>, Vec<Count>) {
         count.tied += (least > 1) as usize;
         count.most = count.most.max(least);
     }
-    (file, counts)
+    let wrong = put_wrong(&mut file);
+    (file, counts, wrong)
 }
 
 /// A good record of a kind and grade, its message dense, sparse or on the edge.
@@ -527,6 +695,7 @@ pub fn random_sheet(random: &mut Random) -> Vec<u8> {
 mod tests {
     use super::*;
     use crate::sheet::listing_by;
+    use crate::test_file::fields_apart;
 
     #[test]
     fn full_sheets_are_full_and_good() {
@@ -550,10 +719,48 @@ mod tests {
         }
     }
 
+    /// A planted vector differs from the right one in one thing alone, and fails a check; no two are the same.
+    #[test]
+    fn one_thing_is_wrong() {
+        for vector in planted() {
+            let (m, n) = (vector.message.len(), vector.frame.len());
+            let sizes: Vec<usize> =
+                [1, 1, 1, 4, 1].into_iter().chain(vec![1; m]).chain([1]).chain(vec![4; n]).chain([8; 3]).collect();
+            assert!(vector.checks().iter().all(|(_, passed)| *passed));
+            let wrong = vector.wrong();
+            let records: Vec<Vec<u8>> = wrong.iter().map(Vector::record).collect();
+            for (i, record) in records.iter().enumerate() {
+                assert_eq!(fields_apart(&vector.record(), record, sizes.clone()), 1);
+                assert_eq!(vector.record()[..7], record[..7]);
+                assert!(wrong[i].checks().iter().any(|(_, passed)| !passed));
+                assert!(!records[..i].contains(record));
+            }
+        }
+        // Each check is failed by one of them, but the one for a record that is whole.
+        let failed: HashSet<usize> = (planted().iter().flat_map(Vector::wrong))
+            .flat_map(|vector| vector.checks())
+            .filter_map(|(check, passed)| (!passed).then_some(check))
+            .collect();
+        assert_eq!(failed, (1..CHECKS.len()).collect());
+    }
+
+    /// A planted call for both ways differs from the right one in its sort alone, and each sort comes.
+    #[test]
+    fn the_sort_is_wrong() {
+        let ways = all_ways(&all_messages());
+        let wrong = wrong_ways(&ways);
+        for (way, sort) in &wrong {
+            let fields = [1, 1, 1, 1, 1, 4, way.message.len()];
+            assert_eq!(fields_apart(&way.record(way.sort), &way.record(*sort), fields), 1);
+            assert!(way.sort != *sort && (way.sort == REFUSED || *sort == REFUSED));
+        }
+        assert!((0..WAYS.len()).all(|sort| wrong.iter().any(|(_, other)| *other == sort)));
+    }
+
     #[test]
     fn files_are_the_same_each_time() {
         let all = all_messages();
-        assert!(vectors(&all).0 == vectors(&all_messages()).0);
+        assert!(vectors(&all).0.bytes == vectors(&all_messages()).0.bytes);
         assert!(sheet_file() == sheet_file());
     }
 }

@@ -1,7 +1,7 @@
 -- `refusal` meets its contract: at each return the answer by the tests that led there. Assumes nothing.
 use mathlib.Core.Path.{_≡_, sym, _∙_}
 use Rattle.frames.specs.Sending.{sendRefusal}
-use Rattle.account.proofs.Answers.{by-sending, no-room, accepts}
+use Rattle.power_account.proofs.Answers.{by-sending, no-room, accepts}
 use borrow.Author.Needs.{needs}
 use Rattle.account.proofs.refusal.Statement.{statement}
 use Rattle.account.proofs.refusal.Tie as tie

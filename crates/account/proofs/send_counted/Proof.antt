@@ -5,8 +5,8 @@ use lib.ListN.{length}
 use Rattle.frames.proofs.Accepted.{all-passed, sent-leaves, refused-leaves}
 use Rattle.frames.proofs.Rows.{grade-low}
 use Rattle.frames.proofs.Demands.{least-energy}
-use Rattle.account.specs.Counted.{numberFor, countedRefusal}
-use Rattle.account.proofs.Answers.{passed, account-refused, account-sent}
+use Rattle.power_account.specs.Counted.{numberFor, countedRefusal}
+use Rattle.power_account.proofs.Answers.{passed, account-refused, account-sent}
 use borrow.Author.Needs.{needs}
 use Rattle.account.proofs.send_counted.Statement.{statement}
 use Rattle.account.proofs.send_counted.Tie as tie

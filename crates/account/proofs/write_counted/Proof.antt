@@ -9,9 +9,9 @@ use Rattle.frames.specs.Sending.{sendRefusal}
 use Rattle.frames.proofs.Accepted.{Passed, all-passed}
 use Rattle.frames.proofs.Rows.{grade-low, grade-high}
 use Rattle.frames.proofs.Demands.{sent-length}
-use Rattle.account.specs.Power.{grown}
-use Rattle.account.specs.Counted.{numberFor}
-use Rattle.account.proofs.Answers.{passed, room, measured}
+use Rattle.power_account.specs.Power.{grown}
+use Rattle.power_account.specs.Counted.{numberFor}
+use Rattle.power_account.proofs.Answers.{passed, room, measured}
 use borrow.Author.Needs.{needs}
 use Rattle.account.proofs.write_counted.Statement.{statement}
 use Rattle.account.proofs.write_counted.Tie as tie

@@ -19,7 +19,7 @@ use Rattle.frames.specs.Message.{stacked}
 use Rattle.frames.proofs.Lengths.{level-end}
 use Rattle.frames.proofs.Limits.{tabled, few-levels, few-level-bits, degree-fits, level-piece}
 use Rattle.kind_table.proofs.Entry.{entry-levels, entry-bits, entry-degree}
-use Rattle.sending.proofs.Stack.{stacked-below}
+use Rattle.leader.proofs.Stack.{stacked-below}
 use Rattle.bench_plain.proofs.coordinate.Statement.{statement}
 use Rattle.bench_plain.proofs.coordinate.Tie as tie
 

@@ -7,7 +7,7 @@ use lib.ListN.{take}
 use Rattle.bits.specs.Message.{messageBit}
 use Rattle.frames.specs.Message.{widths}
 use Rattle.frames.proofs.Numbers.{total, total-widths}
-use Rattle.sending.proofs.Block.{width-small, total-suc, total-le}
+use Rattle.leader.proofs.BlockNumbers.{width-small, total-suc, total-le}
 use borrow.Author.Needs.{needs}
 use Rattle.bench_plain.proofs.Place.{begins, number-is}
 use Rattle.bench_plain.proofs.number_at.Statement.{statement}

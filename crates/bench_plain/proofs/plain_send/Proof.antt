@@ -9,7 +9,7 @@ use mir.Facts.{toZ-ofZ}
 use Rattle.frames.specs.Sending.{sendRefusal, frameAfter, energySent}
 use Rattle.frames.proofs.Accepted.{sent-leaves, refused-leaves}
 use Rattle.frames.proofs.Rows.{grade-low, grade-high}
-use Rattle.sending.proofs.Answers.{Fits, fits}
+use Rattle.accepting.proofs.Answers.{Fits, fits}
 use Rattle.frame_coder.specs.Answer.{answerOf, sendAnswer, sendFrame}
 use Rattle.frame_coder.proofs.Bounds.{sent-fits, send-answer}
 use borrow.Author.Needs.{needs}

@@ -13,7 +13,7 @@ use Rattle.frames.specs.Kind.{degrees, levelBits, messageBits}
 use Rattle.frames.specs.Message.{widths, numbers, blockNumbers, stacked, coordinate, leader}
 use Rattle.frames.proofs.One.{leader-length, leader-at}
 use Rattle.frames.proofs.Limits.{few-positions, few-message-bits, whole-blocks, bytes-hold, levels-hold, Piece, block-piece}
-use Rattle.sending.proofs.Block.{numbers-below}
+use Rattle.leader.proofs.BlockNumbers.{numbers-below}
 use Rattle.bench_plain.proofs.write_leader.Statement.{statement}
 use Rattle.bench_plain.proofs.write_leader.Tie as tie
 

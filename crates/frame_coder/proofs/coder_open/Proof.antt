@@ -2,8 +2,8 @@
 use mathlib.Core.Path.{ap, _∙_}
 use mir.Facts.{toZ-ofZ}
 use borrow.Author.Needs.{needs}
-use Rattle.account.specs.declared.Opened.{Opened}
-use Rattle.account.specs.Opening.{openedWith}
+use Rattle.power_account.specs.declared.Opened.{Opened}
+use Rattle.power_account.specs.Opening.{openedWith}
 use Rattle.frame_coder.specs.Answer.{answerOf, openingAnswer}
 use Rattle.frame_coder.proofs.coder_open.Statement.{statement}
 use Rattle.frame_coder.proofs.coder_open.Tie as tie

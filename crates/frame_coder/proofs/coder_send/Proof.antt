@@ -7,7 +7,7 @@ use mir.Facts.{toZ-ofZ}
 use borrow.Author.Needs.{needs}
 use Rattle.frames.specs.Sending.{frameAfter}
 use Rattle.frame_coder.specs.Answer.{answerOf}
-use Rattle.frame_coder.proofs.Bounds.{sent-fits, send-answer}
+use Rattle.frame_coder.proofs.Bounds.{sent-fits, send-answer, least-answer}
 use Rattle.frame_coder.proofs.coder_send.Statement.{statement}
 use Rattle.frame_coder.proofs.coder_send.Tie as tie
 
@@ -28,9 +28,13 @@ returns c =
     let s = c .before .before .before .before .before .args in
     let r = c .before .before .send .result .number in
     let e = c .before .before .send .ensures in
+    let a = toZ-ofZ (record { sfits = c .answer .ok }) ∙ c .answer .ensures in
     let l = send-answer r (s .kind) (s .grade) (s .number) (s .message .now) (length (s .frame .now)) (e .0) in (
-      toZ-ofZ (record { sfits = c .answer .ok }) ∙ c .answer .ensures ∙ ap (answerOf r) (e .1 .1 .0) ∙ l,
-      e .1 .0 ∙ ap (λ (n : ℕ). frameAfter n (s .kind) (s .grade) (s .number) (s .message .now) (s .frame .now)) (e .0),
+      a ∙ ap (answerOf r) (e .1 .1 .0) ∙ l,
+      (
+        e .1 .0 ∙ ap (λ (n : ℕ). frameAfter n (s .kind) (s .grade) (s .number) (s .message .now) (s .frame .now)) (e .0),
+        least-answer (s .kind) (s .grade) _ r _ (e .1 .1 .1) _ a,
+      ),
     )
 
 pub coder-send-spec : {M : Type 1} → statement M

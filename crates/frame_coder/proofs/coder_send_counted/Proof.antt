@@ -5,15 +5,15 @@ use native.Mathlib.Omega.{arith}
 use lib.ListN.{length}
 use mir.Facts.{toZ-ofZ}
 use borrow.Author.Needs.{needs}
-use Rattle.account.specs.declared.Account.{Account}
+use Rattle.power_account.specs.declared.Account.{Account}
 use Rattle.frames.specs.Sending.{frameAfter}
 use Rattle.frames.proofs.Accepted.{refused-leaves}
-use Rattle.account.specs.Counted.{numberFor, countedAccount}
-use Rattle.account.specs.History.{Call}
-use Rattle.account.proofs.Answers.{account-refused}
-use Rattle.account.proofs.History.{after-changeover}
+use Rattle.power_account.specs.Counted.{numberFor, countedAccount}
+use Rattle.power_account.specs.History.{Call}
+use Rattle.power_account.proofs.Answers.{account-refused}
+use Rattle.power_account.proofs.History.{after-changeover}
 use Rattle.frame_coder.specs.Answer.{answerOf, accountOf, countedFrame, countedHeld}
-use Rattle.frame_coder.proofs.Bounds.{counted-fits, counted-answer, account-of}
+use Rattle.frame_coder.proofs.Bounds.{counted-fits, counted-answer, account-of, least-answer}
 use Rattle.frame_coder.proofs.coder_send_counted.Statement.{statement}
 use Rattle.frame_coder.proofs.coder_send_counted.Tie as tie
 
@@ -61,9 +61,16 @@ returns c =
     let e = w .send-counted .ensures in
     let r = w .send-counted .result .number in
     let l = counted-answer (s .kind) (s .grade) (s .message .now) (length (s .frame .now)) (held w) r (e .0) in
-    let z = refused-leaves r (s .kind) (s .grade) (numberFor (held w)) (s .message .now) (s .frame .now) (t .if1 .taken) in (
-      toZ-ofZ (record { sfits = c .answer .ok }) ∙ c .answer .ensures ∙ ap (answerOf r) (sym (z .1)) ∙ l,
-      (frame-is w, sym (account-refused r (s .kind) (s .grade) (s .message .now) (held w) (t .if1 .taken)) ∙ account-is w),
+    let z = refused-leaves r (s .kind) (s .grade) (numberFor (held w)) (s .message .now) (s .frame .now) (t .if1 .taken) in
+    let a = toZ-ofZ (record { sfits = c .answer .ok }) ∙ c .answer .ensures in (
+      a ∙ ap (answerOf r) (sym (z .1)) ∙ l,
+      (
+        frame-is w,
+        (
+          sym (account-refused r (s .kind) (s .grade) (s .message .now) (held w) (t .if1 .taken)) ∙ account-is w,
+          least-answer (s .kind) (s .grade) _ r _ (λ zero. absurd (t .if1 .taken zero)) _ a,
+        ),
+      ),
     )
 
 answer-requires-2 : tie.Need-answer-requires-2
@@ -82,9 +89,16 @@ returns-2 c =
     let w = t .before .before .before in
     let s = start w .args in
     let e = w .send-counted .ensures in
-    let l = counted-answer (s .kind) (s .grade) (s .message .now) (length (s .frame .now)) (held w) (w .send-counted .result .number) (e .0) in (
-      toZ-ofZ (record { sfits = c .answer2 .ok }) ∙ c .answer2 .ensures ∙ ap₂ answerOf (sym (t .if1 .left)) (e .1 .1 .0) ∙ l,
-      (frame-is w, account-of (w .send-counted .result .account) (s .changeover) (changeover-is w) ∙ e .1 .1 .1 .0 ∙ account-is w),
+    let l = counted-answer (s .kind) (s .grade) (s .message .now) (length (s .frame .now)) (held w) (w .send-counted .result .number) (e .0) in
+    let a = toZ-ofZ (record { sfits = c .answer2 .ok }) ∙ c .answer2 .ensures in (
+      a ∙ ap₂ answerOf (sym (t .if1 .left)) (e .1 .1 .0) ∙ l,
+      (
+        frame-is w,
+        (
+          account-of (w .send-counted .result .account) (s .changeover) (changeover-is w) ∙ e .1 .1 .1 .0 ∙ account-is w,
+          least-answer (s .kind) (s .grade) _ 0 _ (λ _. e .1 .1 .1 .1 (t .if1 .left)) _ a,
+        ),
+      ),
     )
 
 pub coder-send-counted-spec : {M : Type 1} → statement M

@@ -2,7 +2,7 @@
 use mathlib.Core.Path.{ap, _∙_}
 use mir.Facts.{toZ-ofZ}
 use borrow.Author.Needs.{needs}
-use Rattle.account.specs.declared.Account.{Account}
+use Rattle.power_account.specs.declared.Account.{Account}
 use Rattle.queue.specs.declared.Queued.{Queued}
 use Rattle.queue.proofs.InOrder.{queue-changeover}
 use Rattle.frame_coder.specs.Answer.{answerOf, accountOf, queueAnswer}
@@ -28,7 +28,7 @@ returns c =
     let a = ap (λ (q : Queued). q .account) (e .0) in
     let stays = queue-changeover (s .kind) (s .grade) (s .messages .now) (s .frames .now) (accountOf (s .count .now) (s .sum .now) (s .largest .now) (s .changeover)) in (
       toZ-ofZ (record { sfits = c .answer .ok }) ∙ c .answer .ensures ∙ ap (λ (q : Queued). answerOf (q .number) 0) (e .0),
-      (e .1 .0, (account-of (w .send-queue .result .account) (s .changeover) (ap (λ (x : Account). x .changeover) a ∙ stays) ∙ a, ap (λ (q : Queued). q .sent) (e .0))),
+      (e .1 .0, (account-of (w .send-queue .result .account) (s .changeover) (ap (λ (x : Account). x .changeover) a ∙ stays) ∙ a, (ap (λ (q : Queued). q .sent) (e .0), e .1 .1))),
     )
 
 pub coder-send-queue-spec : {M : Type 1} → statement M

@@ -10,10 +10,10 @@ use borrow.Author.Needs.{needs}
 use Rattle.frames.specs.Kind.{messageBytes}
 use Rattle.frames.specs.Frame.{numberedFrame}
 use Rattle.frames.proofs.Rows.{grade-high}
-use Rattle.account.specs.Power.{grown}
-use Rattle.account.specs.Counted.{numberFor, countedRefusal}
-use Rattle.account.specs.History.{Call, answer}
-use Rattle.account.proofs.History.{after-sent}
+use Rattle.power_account.specs.Power.{grown}
+use Rattle.power_account.specs.Counted.{numberFor, countedRefusal}
+use Rattle.power_account.specs.History.{Call, answer}
+use Rattle.power_account.proofs.History.{after-sent}
 use Rattle.queue.specs.Queue.{messagesIn, piece}
 use Rattle.queue.proofs.Tests.{Fits, fits, some-bytes}
 use Rattle.queue.proofs.Turns.{SoFar, call-at, none-yet, all-answer, all-frames, stop-answer, stop-frames, one-further}

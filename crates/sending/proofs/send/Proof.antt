@@ -5,7 +5,7 @@ use lib.ListN.{length}
 use Rattle.frames.proofs.Accepted.{sent-leaves, refused-leaves}
 use Rattle.frames.proofs.Rows.{grade-low, grade-high}
 use Rattle.frames.proofs.Demands.{least-energy}
-use Rattle.sending.proofs.Answers.{Fits, fits}
+use Rattle.accepting.proofs.Answers.{Fits, fits}
 use borrow.Author.Needs.{needs}
 use Rattle.sending.proofs.send.Statement.{statement}
 use Rattle.sending.proofs.send.Tie as tie

@@ -12,7 +12,7 @@ use Rattle.e8.proofs.Frame.{part-is}
 use Rattle.e8.proofs.Largest.{largest-more}
 use Rattle.e8.proofs.Order.{energy-append}
 use Rattle.e8.proofs.Within.{energy-within, within-part}
-use Rattle.shaping.proofs.Blocks.{taken-made}
+use Rattle.e8.proofs.Blockwise.{taken-made}
 use Rattle.sending.proofs.shaped_energies.Statement.{statement}
 use Rattle.sending.proofs.shaped_energies.Tie as tie
 

@@ -22,10 +22,10 @@ use Rattle.e8.proofs.Within.{within-at}
 use Rattle.coordinates.proofs.Size.{fits, abs! }
 use Rattle.coordinates.proofs.Rest.{quadruple, Scale, scale}
 use Rattle.coordinates.proofs.Reading.{read, plain, plain-size, power-read, power-size}
-use Rattle.shaping.specs.Rounded.{wholeFirst, members, sizes, highest, lowest, Rounded}
-use Rattle.shaping.specs.declared.RoundedBlock.{RoundedBlock}
-use Rattle.shaping.proofs.Halving.{left, wholeCost, halfCost, wholePart, halfPart, Two, two}
-use Rattle.shaping.proofs.Figures.{members-within, off-size, floors-size, sizes-low, rounded-within}
+use Rattle.mending.specs.Rounded.{wholeFirst, members, sizes, highest, lowest, Rounded}
+use Rattle.rounding.specs.declared.RoundedBlock.{RoundedBlock}
+use Rattle.mending.proofs.Halving.{left, wholeCost, halfCost, wholePart, halfPart, Two, two}
+use Rattle.mending.proofs.Figures.{members-within, off-size, floors-size, sizes-low, rounded-within}
 use Rattle.shaping.proofs.least.Statement.{statement}
 use Rattle.shaping.proofs.least.Tie as tie
 

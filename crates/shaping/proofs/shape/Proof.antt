@@ -9,7 +9,7 @@ use Rattle.e8.specs.Energy.{Within}
 use Rattle.e8.proofs.Within.{within-part}
 use Rattle.e8.specs.Lattice.{part}
 use Rattle.e8.specs.Ties.{leastBlockBy}
-use Rattle.shaping.proofs.Blocks.{Made, Over, over-start, over-same, over-end, over-next, over-step}
+use Rattle.e8.proofs.Blockwise.{Made, Over, over-start, over-same, over-end, over-next, over-step}
 use Rattle.shaping.proofs.Shaped.{least-at, least-to, least-made}
 use Rattle.shaping.proofs.shape.Statement.{statement}
 use Rattle.shaping.proofs.shape.Tie as tie

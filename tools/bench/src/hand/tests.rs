@@ -324,12 +324,12 @@ fn queues() {
     check((7, 5), 0, 0, (0, 0), (0, refusal::KIND));
 }
 
-/// The vectors that the second coder wrote, by the format of its README.
+/// The vectors that the second coder wrote, by the format of its README, without the wrong ones at the end.
 #[test]
 fn written_vectors() {
-    let path = concat!(env!("CARGO_MANIFEST_DIR"), "/../../crates/vectors/data/vectors.bin");
+    let path = concat!(env!("CARGO_MANIFEST_DIR"), "/../../crates/test_vectors/data/vectors.bin");
     let file = std::fs::read(path).expect("the second coder's vectors are there");
-    let (mut rest, mut count) = (&file[..], 0);
+    let (mut rest, mut count) = (&file[..file.len() - vectors::wrong_bytes()], 0);
     while let [kind, grade, bytes, n0, n1, n2, n3, other, after @ ..] = rest {
         let number = u32::from_le_bytes([*n0, *n1, *n2, *n3]);
         let (message, after) = after.split_at(*bytes as usize);

@@ -11,7 +11,8 @@ use mir.Syntax.{w32}
 use mir.Val.{toZ, ofZ}
 use Rattle.integers.proofs.Zed.{tz}
 use Rattle.e8.proofs.Within.{within-at}
-use Rattle.costs.specs.Costs.{bitOf, gap, costAt}
+use Rattle.bits.specs.Number.{bitOf}
+use Rattle.costs.specs.Costs.{gap, costAt}
 use Rattle.costs.proofs.Chosen.{Chosen, chosen-first, chosen-one, chosen-zero, chosen-word, chosen-costs}
 use Rattle.costs.proofs.tables.nearest_word.Statement.{statement}
 use Rattle.costs.proofs.tables.nearest_word.Tie as tie

@@ -14,9 +14,11 @@ use Rattle.frames.specs.Kind.{isKind, isGrade, degrees, messageBytes}
 use Rattle.frames.specs.Reading.{inRange, openRefusal}
 use Rattle.frames.proofs.Rows.{grade-high}
 use Rattle.frames.proofs.Refusals.{good-row, wrong-row, within-range, levels-decide}
-use Rattle.reading.specs.Words.{noWords, wordsAfter, brokenIn}
+use Rattle.reading.specs.Words.{noWords, wordsAfter}
+use Rattle.frame_levels.specs.Words.{brokenIn}
 use Rattle.reading.proofs.Answers.{by-4, by-3, by-6}
-use Rattle.reading.proofs.Words.{broken-words, words-none, words-given}
+use Rattle.frame_levels.proofs.Words.{broken-words}
+use Rattle.reading.proofs.Words.{words-none, words-given}
 use Rattle.reading.proofs.refusal.open_tests.Statement.{statement}
 use Rattle.reading.proofs.refusal.open_tests.Tie as tie
 

@@ -10,7 +10,7 @@ use borrow.Author.Needs.{needs}
 use Rattle.near_frames.proofs.NearKinds.{size}
 use Rattle.costs.specs.Costs.{parityCosts}
 use Rattle.costs.proofs.Costs.{parity-costs-length}
-use Rattle.search.proofs.Front.{front-length, front-inside}
+use Rattle.level_1_search.proofs.Front.{front-length, front-inside}
 use Rattle.search.proofs.first.find.Statement.{statement}
 use Rattle.search.proofs.first.find.Tie as tie
 

@@ -10,13 +10,13 @@ use native.Mathlib.Omega.{arith}
 use lib.IntN.{ℤ, pos, _-ℤ_}
 use lib.ListN.{length, getD}
 use borrow.Author.Needs.{needs}
-use Rattle.bits.specs.Number.{sumTo}
+use Rattle.bits.specs.Number.{sumTo, bitOf}
 use Rattle.bits.proofs.Digits.{one-shifted}
 use Rattle.reed_muller.specs.Level.{dimension}
 use Rattle.near_frames.specs.Near.{nearKind, nearLimit}
 use Rattle.near_frames.proofs.NearKinds.{each-near, size}
 use Rattle.near_frames.proofs.Frames.{limit-low}
-use Rattle.costs.specs.Costs.{bitOf, parityCost}
+use Rattle.costs.specs.Costs.{parityCost}
 use Rattle.costs.proofs.Nearest.{gap-small}
 use Rattle.costs.proofs.Costs.{parity-costs-length, parity-costs-at}
 use Rattle.search.specs.Search.{firstWord}

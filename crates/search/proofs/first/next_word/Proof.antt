@@ -12,7 +12,7 @@ use Rattle.bits.proofs.Digits.{one-shifted}
 use Rattle.near_frames.specs.Near.{nearKind}
 use Rattle.near_frames.proofs.NearKinds.{size}
 use Rattle.search.specs.Search.{firstWord, stepWords}
-use Rattle.search.proofs.Carry.{first-of, first-within}
+use Rattle.level_1_search.proofs.Carry.{first-of, first-within}
 use Rattle.search.proofs.Steps.{steps-are, step-is, next-is}
 use Rattle.search.proofs.first.next_word.Statement.{statement}
 use Rattle.search.proofs.first.next_word.Tie as tie

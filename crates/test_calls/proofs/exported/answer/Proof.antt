@@ -1,4 +1,4 @@
--- `answer` is safe: from −255 to −1 an answer is minus a byte, and from 0 on it is a number. Assumes nothing.
+-- `answer`: from −255 to −1 an answer is minus a byte, and from 0 on it is a number. Assumes nothing.
 use Prim.Native.Nat.{_<_}
 use mathlib.Core.Path.{_≡_}
 use mathlib.Core.Bool.{true, false}
@@ -8,9 +8,9 @@ use lib.Signed.{ltZ}
 use mir.Syntax.{w64}
 use mir.Val.{SFits, Fits}
 use mir.Facts.{toZ-ofZ}
-use borrow.Author.Needs.{needs}
 use borrow.Author.Tests.{ltb-false, ltb-true}
 use Rattle.integers.proofs.Zed.{`_, #_, _⊖_, sfits!, neg-sign, pos-sign}
+use Rattle.test_calls.proofs.Decoding.{below-bytes, minus-byte, from-zero}
 use Rattle.test_calls.proofs.exported.answer.Statement.{statement}
 use Rattle.test_calls.proofs.exported.answer.Tie as tie
 
@@ -34,7 +34,9 @@ minus c =
     small (s .args .r) (simp (toZ-ofZ f) at (c .before .if1 .left)) (simp (toZ-ofZ f) at (c .if2 .taken))
 
 returns : tie.Need-returns
-returns c = search needs
+returns c =
+    let s = c .before in
+    below-bytes (s .args .account) (s .args .r) (simp (toZ-ofZ (s .fits .r)) at (c .if1 .taken))
 
 sub-t4 : tie.Need-sub-t4
 sub-t4 c = let s = c .before .before in simp (toZ-ofZ (s .fits .r)) (minus-fits (s .args .r) (minus c))
@@ -48,7 +50,11 @@ cast-t5 c =
     simp (toZ-ofZ f, toZ-ofZ (minus-fits z (minus c))) (n .0, rw (n .1) (omega (arith, minus c)))
 
 returns-2 : tie.Need-returns-2
-returns-2 c = search needs
+returns-2 c =
+    let s = c .before .before in
+    let z = s .args .r in
+    let f = s .fits .r in
+    simp (toZ-ofZ f, toZ-ofZ (minus-fits z (minus c))) (minus-byte (s .args .account) z (minus c) (simp (toZ-ofZ f) at (c .if2 .taken)))
 
 cast-t6 : tie.Need-cast-t6
 cast-t6 c =
@@ -57,7 +63,10 @@ cast-t6 c =
     simp (toZ-ofZ f) (pos-sign (s .args .r) (simp (toZ-ofZ f) at (c .if2 .left)), wide (s .args .r) f)
 
 returns-3 : tie.Need-returns-3
-returns-3 c = search needs
+returns-3 c =
+    let s = c .before .before in
+    let f = s .fits .r in
+    simp (toZ-ofZ f) (from-zero (s .args .account) (s .args .r) (simp (toZ-ofZ f) at (c .if2 .left)))
 
 pub answer-spec : {M : Type 1} → statement M
 answer-spec = tie.close (tie.spec returns sub-t4 cast-t5 returns-2 cast-t6 returns-3)

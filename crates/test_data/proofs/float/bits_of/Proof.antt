@@ -1,20 +1,16 @@
--- `bits_of` is safe: what is not other than itself is no NaN. Assumes nothing.
-use mathlib.Core.Path.{_≡_}
-use mathlib.Core.Bool.{false, not, true≢false}
+-- `bits_of`: what is other than itself is the NaN. Assumes nothing.
+use mathlib.Core.Path.{sym, ap, subst}
 use lib.Dec.{T}
-use lib.Ieee.{Float, nan, inf, fin, eq, ne, isNan}
+use lib.Ieee.{binary64, toBits}
+use lib.Ieee.Compare.{differs-from-itself}
 use borrow.Author.Needs.{needs}
+use Rattle.test_data.proofs.Patterns.{no-nan}
 use Rattle.test_data.proofs.float.bits_of.Statement.{statement}
 use Rattle.test_data.proofs.float.bits_of.Tie as tie
 
-no-nan : (x : Float) → ne x x ≡ false → T (not (isNan x))
-unfolding ne eq isNan
-no-nan nan e = absurd (true≢false e)
-no-nan (inf s) e = tt
-no-nan (fin s m k) e = tt
-
 returns : tie.Need-returns
-returns c = search needs
+unfolding toBits
+returns c = sym (ap (toBits binary64) (differs-from-itself (c .before .args .x) (subst T (sym (c .if1 .taken)) tt)))
 
 float-to-bits-result : tie.Need-float-to-bits-result
 float-to-bits-result c = no-nan (c .before .args .x) (c .if1 .left)

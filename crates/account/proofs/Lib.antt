@@ -1,8 +1,0 @@
-pub mod Exact
-pub mod Answers
-pub mod Grown
-pub mod Largest
-pub mod History
-pub mod Changeover
-pub mod Opening
-pub mod Worked

@@ -1,5 +1,0 @@
-pub mod Power
-pub mod Opening
-pub mod Counted
-pub mod History
-pub mod Worked

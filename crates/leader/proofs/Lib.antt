@@ -1,0 +1,4 @@
+pub mod Masked
+pub mod Stack
+pub mod BlockNumbers
+pub mod Laid

@@ -1,0 +1,4 @@
+pub mod Carry
+pub mod Counted
+pub mod Words
+pub mod Front

@@ -1,0 +1,44 @@
+-- `placed_16`: the bits at the places, eight more at a time. Assumes nothing.
+use mathlib.Core.Path.{refl}
+use native.Mathlib.Omega.{arith}
+use borrow.Author.Needs.{needs}
+use Rattle.level_tables.proofs.MaskTables.{right-16, placesOf, below-64}
+use Rattle.level_tables.proofs.Gathered.{Gathered, gathered-first, gathered-next, gathered-sizes, gathered-all}
+use Rattle.level_codeword.proofs.placed_16.Statement.{statement}
+use Rattle.level_codeword.proofs.placed_16.Tie as tie
+
+slice-aggregate-gather-eight : tie.Need-slice-aggregate-gather-eight
+slice-aggregate-gather-eight c = search needs
+
+gather-eight-requires : tie.Need-gather-eight-requires
+gather-eight-requires c κs = (omega arith, below-64 refl)
+
+-- the number once the bits at the first eight places, the first sixteen, and so on are gathered
+abbrev to-8 : tie.After-gather-eight → Gathered (placesOf right-16) 8
+to-8 c = gathered-first (placesOf right-16) (c .before .before .args .bits) (c .gather-eight .ensures)
+
+slice-aggregate-gather-eight-2 : tie.Need-slice-aggregate-gather-eight-2
+slice-aggregate-gather-eight-2 c = search needs
+
+gather-eight-requires-2 : tie.Need-gather-eight-requires-2
+gather-eight-requires-2 c κs = (omega arith, below-64 refl)
+
+abbrev to-16 : tie.After-gather-eight2 → Gathered (placesOf right-16) 16
+to-16 c = gathered-next (to-8 (c .before .before)) (omega arith) (c .gather-eight2 .ensures)
+
+add-result : tie.Need-add-result
+add-result c = omega (arith, gathered-sizes (to-8 (c .before .before)) (c .gather-eight2 .ensures))
+
+returns : tie.Need-returns
+returns c = gathered-all right-16 (to-16 c)
+
+pub placed-16-spec : {M : Type 1} → statement M
+placed-16-spec =
+    tie.close
+    (tie.spec
+    slice-aggregate-gather-eight
+    gather-eight-requires
+    slice-aggregate-gather-eight-2
+    gather-eight-requires-2
+    add-result
+    returns)

@@ -1,0 +1,2 @@
+pub mod MaskTables
+pub mod Gathered

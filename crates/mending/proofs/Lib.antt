@@ -1,0 +1,3 @@
+pub mod Mending
+pub mod Halving
+pub mod Figures

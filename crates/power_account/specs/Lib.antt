@@ -1,0 +1,4 @@
+pub mod Power
+pub mod Opening
+pub mod Counted
+pub mod History

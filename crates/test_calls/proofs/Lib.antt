@@ -1,0 +1,3 @@
+pub mod Outcomes
+pub mod Decoding
+pub mod Making

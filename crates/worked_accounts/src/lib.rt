@@ -1,0 +1,1 @@
+// Accounts worked by hand, which the definitions meet by computing. Definitions and laws only.
