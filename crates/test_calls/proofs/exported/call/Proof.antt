@@ -27,7 +27,7 @@ returns c =
     let s = u .before .before .args in
     let e = t .coder-send .ensures in
     let d = decoded-sending (s .kind) (s .grade) (s .number) (s .message .now) (length (s .frame .now)) (c .answer .ensures) (toZ-ofZ (record { sfits = t .coder-send .ok }) ∙ e .0) in
-    sent (s .function) (s .kind) (s .grade) (s .number) (s .message .now) (s .frame .now) (s .account) _ _ (u .if1 .taken) d refl (e .1) refl
+    sent (s .function) (s .kind) (s .grade) (s .number) (s .message .now) (s .frame .now) (s .account) _ _ (u .if1 .taken) d refl (e .1 .0) refl
 
 coder-read-open-requires : tie.Need-coder-read-open-requires
 coder-read-open-requires c κs = search needs

@@ -22,7 +22,7 @@ returns c =
     let s = t .before .before .before .before .before .before .args in
     let e = t .coder-send-counted .ensures in (
       decoded-counted (s .kind) (s .grade) (s .message .now) (length (s .frame .now)) (s .account) (c .answer .ensures)
-          (toZ-ofZ (record { sfits = t .coder-send-counted .ok }) ∙ e .0) (e .1 .1),
+          (toZ-ofZ (record { sfits = t .coder-send-counted .ok }) ∙ e .0) (e .1 .1 .0),
       e .1 .0,
     )
 

@@ -63,9 +63,9 @@ returns-2 c =
     let a = t .before .before .before .before in
     let q = coder a in
     let s = q .before .before .before .args in (
-      frames-differ (s .sort) (s .kind) (s .grade) (s .number) (s .message .now) (s .words .now) (s .masks .now) (s .before .now) (q .coder-send .ensures .1)
+      frames-differ (s .sort) (s .kind) (s .grade) (s .number) (s .message .now) (s .words .now) (s .masks .now) (s .before .now) (q .coder-send .ensures .1 .0)
           (a .before .plain-send .ensures .1) (q .coder-send .ensures .0) (sym (t .same-coordinates .ensures) ∙ not-true (t .same-coordinates .result) (c .if2 .taken)),
-      (q .coder-send .ensures .1, a .before .plain-send .ensures .1),
+      (q .coder-send .ensures .1 .0, a .before .plain-send .ensures .1),
     )
 
 same-length-5 : tie.Need-same-length-5
@@ -81,9 +81,9 @@ returns-3 c =
     let a = t .before .before .before .before in
     let q = coder a in
     let s = q .before .before .before .args in (
-      was-to-be-sent (s .sort) (s .kind) (s .grade) (s .number) (s .message .now) (s .words .now) (s .masks .now) (s .before .now) (q .coder-send .ensures .1)
+      was-to-be-sent (s .sort) (s .kind) (s .grade) (s .number) (s .message .now) (s .words .now) (s .masks .now) (s .before .now) (q .coder-send .ensures .1 .0)
           (a .before .plain-send .ensures .1) (q .coder-send .ensures .0) (same e₂) (simp (answer q) at (c .before .if3 .taken)) (c .if4 .taken),
-      (q .coder-send .ensures .1, a .before .plain-send .ensures .1),
+      (q .coder-send .ensures .1 .0, a .before .plain-send .ensures .1),
     )
 
 same-coordinates-requires-2 : tie.Need-same-coordinates-requires-2
@@ -103,9 +103,9 @@ returns-4 c =
     let a = t .before .before .before .before in
     let q = coder a in
     let s = q .before .before .before .args in (
-      left-as-lent (s .sort) (s .kind) (s .grade) (s .number) (s .message .now) (s .words .now) (s .masks .now) (s .before .now) (q .coder-send .ensures .1)
+      left-as-lent (s .sort) (s .kind) (s .grade) (s .number) (s .message .now) (s .words .now) (s .masks .now) (s .before .now) (q .coder-send .ensures .1 .0)
           (a .before .plain-send .ensures .1) (q .coder-send .ensures .0) (same e₂) (simp (answer q) at (e₄ .before .if3 .taken)) (e₄ .if4 .left) (c .same-coordinates2 .ensures),
-      (q .coder-send .ensures .1, a .before .plain-send .ensures .1),
+      (q .coder-send .ensures .1 .0, a .before .plain-send .ensures .1),
     )
 
 same-length-9 : tie.Need-same-length-9
@@ -121,9 +121,9 @@ returns-5 c =
     let a = t .before .before .before .before in
     let q = coder a in
     let s = q .before .before .before .args in (
-      was-to-be-refused (s .sort) (s .kind) (s .grade) (s .number) (s .message .now) (s .words .now) (s .masks .now) (s .before .now) (q .coder-send .ensures .1)
+      was-to-be-refused (s .sort) (s .kind) (s .grade) (s .number) (s .message .now) (s .words .now) (s .masks .now) (s .before .now) (q .coder-send .ensures .1 .0)
           (a .before .plain-send .ensures .1) (q .coder-send .ensures .0) (same e₂) (simp (answer q) at (c .before .if3 .left)) (c .if5 .taken),
-      (q .coder-send .ensures .1, a .before .plain-send .ensures .1),
+      (q .coder-send .ensures .1 .0, a .before .plain-send .ensures .1),
     )
 
 same-length-11 : tie.Need-same-length-11
@@ -139,9 +139,9 @@ returns-6 c =
     let a = t .before .before .before .before in
     let q = coder a in
     let s = q .before .before .before .args in (
-      as-it-has-to (s .sort) (s .kind) (s .grade) (s .number) (s .message .now) (s .words .now) (s .masks .now) (s .before .now) (q .coder-send .ensures .1)
+      as-it-has-to (s .sort) (s .kind) (s .grade) (s .number) (s .message .now) (s .words .now) (s .masks .now) (s .before .now) (q .coder-send .ensures .1 .0)
           (a .before .plain-send .ensures .1) (q .coder-send .ensures .0) (same e₂) (simp (answer q) at (c .before .if3 .left)) (c .if5 .left),
-      (q .coder-send .ensures .1, a .before .plain-send .ensures .1),
+      (q .coder-send .ensures .1 .0, a .before .plain-send .ensures .1),
     )
 
 pub equal-spec : {M : Type 1} → statement M
