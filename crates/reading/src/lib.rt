@@ -1,6 +1,7 @@
 // The two readings: a frame's message and its energy, or the number of the first test that is not passed.
 mod refusal;
 
+use frame_energy::energy_by_blocks;
 use frame_message::write_message;
 use refusal::tests;
 ghost use mathlib.Core.Path.{_≡_};
@@ -28,7 +29,7 @@ fn read(which: u8, kind: u8, grade: u8, frame: &[i32], message: &mut [u8]) -> Re
             energy: 0,
         };
     }
-    let energy = coordinates::energy(frame);
+    let energy = energy_by_blocks(frame);
     let words = t.words;
     write_message(kind, grade, frame, words, message);
     Reading {

@@ -6,7 +6,7 @@ use lib.ListN.{length}
 use borrow.Author.Needs.{needs}
 use Rattle.e8.proofs.Within.{within-to}
 use Rattle.frames.proofs.Refusals.{range-within}
-use Rattle.frames.proofs.Limits.{few-positions}
+use Rattle.frames.proofs.Limits.{few-positions, whole-blocks}
 use Rattle.reading.proofs.Answers.{Fits, fits, bytes-kept, no-energy, message-given, energy-given}
 use Rattle.reading.proofs.read.Statement.{statement}
 use Rattle.reading.proofs.read.Tie as tie
@@ -38,10 +38,11 @@ module _ (c : tie.Else1) where
       fits (a .kind) (a .grade) (a .frame .now) (length (a .message .now)) (a .which)
       (λ e. omega (arith, e, r)) (λ e. omega (arith, e, r)) (λ e. omega (arith, e, r)) (λ e. omega (arith, e, r)) (λ e. omega (arith, e, r))
 
-energy-requires : tie.Need-energy-requires
-energy-requires c κs =
+energy-by-blocks-requires : tie.Need-energy-by-blocks-requires
+energy-by-blocks-requires c κs =
     let a = start c .args in
     let p = passed c in (
+      omega (arith, p .coordinates, whole-blocks (a .kind) (p .kind)),
       omega (arith, p .coordinates, few-positions (a .kind) (p .kind)),
       within-to 1048576 (2 ^ 24) (a .frame .now) (omega arith) (range-within (a .frame .now) (p .range)),
     )
@@ -64,7 +65,7 @@ returns-2 c =
     let r = t .result in
     let message = message-given (r .number) (a .kind) (a .grade) (a .frame .now) (a .message .now) (r .words) (passed d .kind) (t .ensures .1) in
     let energy = energy-given (r .number) (a .frame .now) in
-    (t .ensures .0, (w .write-message .ensures ∙ message (omega (arith, d .if1 .left)), n .energy .ensures ∙ energy (omega (arith, d .if1 .left))))
+    (t .ensures .0, (w .write-message .ensures ∙ message (omega (arith, d .if1 .left)), n .energy-by-blocks .ensures ∙ energy (omega (arith, d .if1 .left))))
 
 pub read-spec : {M : Type 1} → statement M
 read-spec =
@@ -72,7 +73,7 @@ read-spec =
     (tie.spec
     tests-requires
     returns
-    energy-requires
+    energy-by-blocks-requires
     write-message-requires
     same-length
     returns-2)
