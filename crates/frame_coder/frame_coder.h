@@ -88,9 +88,9 @@
  *     Measured on the archive of this version, A=target/staticlib/libframe_coder.a:
  *
  *       nm -u $A        no undefined symbols: it prints the name of the member and nothing more
- *       size $A         text 20197 (code and constants), data 0, bss 0
- *       size -A $A      a section for each function, so that -Wl,--gc-sections leaves out what is not called: of 19353 bytes of
- *                       code coder_send alone needs 9165, the open and the strict reading 10044, coder_read_near alone 12457
+ *       size $A         text 20639 (code and constants), data 0, bss 0
+ *       size -A $A      a section for each function, so that -Wl,--gc-sections leaves out what is not called: of 19795 bytes of
+ *                       code coder_send alone needs 9165, the open and the strict reading 10486, coder_read_near alone 12899
  *       cc -I crates/frame_coder tools/c/stack.c $A -o target/stack && target/stack
  *                       the most stack that a call used, in bytes, with its return address and the arguments on the stack:
  *                       coder_open 8, coder_send 816, coder_send_counted 864, coder_send_queue 960, coder_read_open 576,
@@ -111,7 +111,7 @@
 #include <stddef.h>
 #include <stdint.h>
 
-#define FRAME_CODER_VERSION "0.8.0"
+#define FRAME_CODER_VERSION "0.8.1"
 
 #ifdef __cplusplus
 extern "C" {
