@@ -1,9 +1,9 @@
 -- The energy of what is left of a frame from a block on. Assumes nothing.
 use Prim.Native.Nat.{ℕ, _+_, _*_}
 use mathlib.Core.Path.{_≡_, sym, ap, _∙_}
-use mathlib.Core.List.{List, _++_}
+use mathlib.Core.List.{List}
 use native.Mathlib.Omega.{arith}
-use lib.ListN.{take, drop, take-append-drop}
+use lib.ListN.{drop, take-append-drop}
 use lib.Seq.{drop-drop}
 use lib.IntN.{ℤ}
 use Rattle.e8.specs.Energy.{energy}

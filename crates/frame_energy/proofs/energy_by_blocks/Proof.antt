@@ -1,6 +1,6 @@
 -- `energy_by_blocks`: the sum so far and the energy of the blocks left make the energy. Assumes nothing.
 use Prim.Native.Nat.{ℕ, _+_, _-_, _*_, _/_, _^_, _<_, _≤_}
-use mathlib.Core.Path.{_≡_, refl, sym, ap, _∙_, subst}
+use mathlib.Core.Path.{_≡_, sym, ap, _∙_, subst}
 use native.Mathlib.Omega.{arith}
 use lib.ListN.{length, drop, length-take, length-drop, drop-of-length-le}
 use borrow.Author.Needs.{needs}
@@ -39,31 +39,31 @@ mul-s c = omega arith
 add-e : tie.Need-add-e Inv-loop μ-loop
 add-e c = omega arith
 
-mul-energy : tie.Need-mul-energy Inv-loop μ-loop
-mul-energy c = omega arith
+mul-block-energy : tie.Need-mul-block-energy Inv-loop μ-loop
+mul-block-energy c = omega arith
 
-sub-energy : tie.Need-sub-energy Inv-loop μ-loop
-sub-energy c = omega arith
+sub-block-energy : tie.Need-sub-block-energy Inv-loop μ-loop
+sub-block-energy c = omega arith
 
-part-energy-start : tie.Need-part-energy-start Inv-loop μ-loop
-part-energy-start c = search needs
+part-block-energy-start : tie.Need-part-block-energy-start Inv-loop μ-loop
+part-block-energy-start c = search needs
 
-part-energy-end : tie.Need-part-energy-end Inv-loop μ-loop
-part-energy-end c = omega arith
+part-block-energy-end : tie.Need-part-block-energy-end Inv-loop μ-loop
+part-block-energy-end c = omega arith
 
 -- the energy of block j
-energy-is : (c : tie.After-energy Inv-loop μ-loop) → let a = c .before .before .before in
-    c .energy .result ≡ energy-of (part (a .loop .j) (a .before .args .frame .now))
+energy-is : (c : tie.After-block-energy Inv-loop μ-loop) → let a = c .before .before .before in
+    c .block-energy .result ≡ energy-of (part (a .loop .j) (a .before .args .frame .now))
 energy-is c =
     let a = c .before .before .before in
-    c .energy .ensures ∙ ap energy-of (part-is (a .loop .j) (a .before .args .frame .now))
+    c .block-energy .ensures ∙ ap energy-of (part-is (a .loop .j) (a .before .args .frame .now))
 
-energy-requires : tie.Need-energy-requires Inv-loop μ-loop
-energy-requires c κs =
+block-energy-requires : tie.Need-block-energy-requires Inv-loop μ-loop
+block-energy-requires c κs =
     let a = c .before .before in
     let t = c .before .loop-test .taken in
     let e = part-is (a .loop .j) (a .before .args .frame .now) in
-    (omega (arith, ap length e, eight a t), subst (Within (2 ^ 24)) (sym e) (near a t))
+    (ap length e ∙ eight a t, subst (Within (2 ^ 24)) (sym e) (near a t))
 
 add-sum : tie.Need-add-sum Inv-loop μ-loop
 add-sum c = omega (arith, energy-is c, block-low (c .before .before .before) (c .before .before .loop-test .taken))
@@ -102,11 +102,11 @@ energy-by-blocks-spec =
     loop-holds
     mul-s
     add-e
-    mul-energy
-    sub-energy
-    part-energy-start
-    part-energy-end
-    energy-requires
+    mul-block-energy
+    sub-block-energy
+    part-block-energy-start
+    part-block-energy-end
+    block-energy-requires
     add-sum
     add-j
     loop-less
