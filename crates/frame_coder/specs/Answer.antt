@@ -13,7 +13,7 @@ use Rattle.frames.specs.Reading.{openRefusal, strictRefusal, messageAfter}
 use Rattle.power_account.specs.declared.Account.{Account}
 use Rattle.power_account.specs.Opening.{openingRefusal}
 use Rattle.power_account.specs.Counted.{numberFor, countedRefusal, countedAccount}
-use Rattle.queue.specs.Queue.{queueOutcome}
+use Rattle.queue_turns.specs.Queue.{queueOutcome}
 use Rattle.near_reading.specs.Answer.{nearNumber, nearDistance}
 
 -- the energy, or minus the refusal number

@@ -8,7 +8,7 @@ ghost use Rattle.frame_coder.specs.Answer.{answerOf, sendAnswer, sendFra
 ghost use Rattle.frame_coder.specs.Answer.{accountOf, openingAnswer, countedAnswer, countedFrame, countedHeld, queueAnswer};
 ghost use Rattle.power_account.specs.Opening.{openedWith};
 ghost use Rattle.frame_coder.specs.Answer.{nearCode, nearHeld};
-ghost use Rattle.queue.specs.Queue.{queueOutcome, queueFrames, EachLeast};
+ghost use Rattle.queue_turns.specs.Queue.{queueOutcome, queueFrames, EachLeast};
 ghost use Rattle.near_reading.specs.Answer.{nearMessage};
 
 // The energy, or minus the refusal number.

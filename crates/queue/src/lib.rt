@@ -1,15 +1,9 @@
-// A queue: messages of one kind and grade, end to end, sent in turn with an account (request E4).
+// Sending a queue: messages of one kind and grade, end to end, sent in turn with an account (request E4).
 ghost use mathlib.Core.Path.{_≡_};
 ghost use lib.ListN.{length};
-ghost use Rattle.queue.specs.Queue.{queueRefusal, callsOf, inTurn, framesInTurn, queueOutcome, queueFrames, EachLeast};
+ghost use Rattle.queue_turns.specs.Queue.{queueRefusal, callsOf, inTurn, framesInTurn, queueOutcome, queueFrames, EachLeast};
 use account::Account;
-
-// What sending a queue answers: the refusal number, 0 where every message is sent, the number of messages sent, and the account.
-pub struct Queued {
-    pub number: u8,
-    pub sent: usize,
-    pub account: Account,
-}
+pub use queue_turns::Queued;
 
 // The tests before anything is sent: 1, 2, then 3 and 4 for so many message bytes and coordinates.
 fn refusal(kind: u8, grade: u8, bytes: usize, coordinates: usize) -> u8

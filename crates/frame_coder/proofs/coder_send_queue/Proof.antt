@@ -3,8 +3,8 @@ use mathlib.Core.Path.{ap, _∙_}
 use mir.Facts.{toZ-ofZ}
 use borrow.Author.Needs.{needs}
 use Rattle.power_account.specs.declared.Account.{Account}
-use Rattle.queue.specs.declared.Queued.{Queued}
-use Rattle.queue.proofs.InOrder.{queue-changeover}
+use Rattle.queue_turns.specs.declared.Queued.{Queued}
+use Rattle.queue_turns.proofs.InOrder.{queue-changeover}
 use Rattle.frame_coder.specs.Answer.{answerOf, accountOf, queueAnswer}
 use Rattle.frame_coder.proofs.Bounds.{account-of}
 use Rattle.frame_coder.proofs.coder_send_queue.Statement.{statement}

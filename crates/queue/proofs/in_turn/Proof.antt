@@ -14,9 +14,9 @@ use Rattle.power_account.specs.Power.{grown}
 use Rattle.power_account.specs.Counted.{numberFor, countedRefusal}
 use Rattle.power_account.specs.History.{Call, answer}
 use Rattle.power_account.proofs.History.{after-sent}
-use Rattle.queue.specs.Queue.{messagesIn, piece}
-use Rattle.queue.proofs.Tests.{Fits, fits, some-bytes}
-use Rattle.queue.proofs.Turns.{SoFar, call-at, none-yet, all-answer, all-frames, stop-answer, stop-frames, one-further}
+use Rattle.queue_turns.specs.Queue.{messagesIn, piece}
+use Rattle.queue_turns.proofs.Tests.{Fits, fits, some-bytes}
+use Rattle.queue_turns.proofs.Turns.{SoFar, call-at, none-yet, all-answer, all-frames, stop-answer, stop-frames, one-further}
 use Rattle.queue.proofs.in_turn.Statement.{statement}
 use Rattle.queue.proofs.in_turn.Tie as tie
 

@@ -8,8 +8,8 @@ use borrow.Author.Needs.{needs}
 use Rattle.frames.specs.Kind.{isKind, isGrade, messageBytes}
 use Rattle.frames.proofs.Rows.{grade-high}
 use Rattle.frames.proofs.Refusals.{good-row, wrong-row}
-use Rattle.queue.specs.Queue.{queueRefusal}
-use Rattle.queue.proofs.Tests.{some-bytes, cut-message, cut-frame, other-number, all-fit}
+use Rattle.queue_turns.specs.Queue.{queueRefusal}
+use Rattle.queue_turns.proofs.Tests.{some-bytes, cut-message, cut-frame, other-number, all-fit}
 use Rattle.queue.proofs.refusal.Statement.{statement}
 use Rattle.queue.proofs.refusal.Tie as tie
 

@@ -4,8 +4,8 @@ use mathlib.Core.Path.{_≡_, sym, ap, _∙_}
 use native.Mathlib.Omega.{arith}
 use lib.ListN.{length}
 use borrow.Author.Needs.{needs}
-use Rattle.queue.specs.Queue.{queueRefusal}
-use Rattle.queue.proofs.InOrder.{refused-queue, sent-queue, queue-least}
+use Rattle.queue_turns.specs.Queue.{queueRefusal}
+use Rattle.queue_turns.proofs.InOrder.{refused-queue, sent-queue, queue-least}
 use Rattle.queue.proofs.send_queue.Statement.{statement}
 use Rattle.queue.proofs.send_queue.Tie as tie
 

@@ -16,8 +16,8 @@ use Rattle.frames.specs.Frame.{half, isOdd, numberedFrame}
 use Rattle.frames.specs.Sending.{anySet, spareSet, sendRefusal, frameAfter}
 use Rattle.power_account.specs.Power.{powerOf}
 use Rattle.power_account.specs.Counted.{countedRefusal, countedAccount}
-use Rattle.queue.specs.Queue.{queueRefusal, callsFor, inTurn, framesInTurn, queueOutcome, queueFrames}
-use Rattle.queue.specs.Worked.{AsWorked}
+use Rattle.queue_turns.specs.Queue.{queueRefusal, callsFor, inTurn, framesInTurn, queueOutcome, queueFrames}
+use Rattle.worked_queues.specs.Worked.{AsWorked}
 
 pub as-worked : AsWorked
 unfolding queueOutcome queueFrames queueRefusal callsFor inTurn framesInTurn frameAfter countedRefusal countedAccount sendRefusal isGrade

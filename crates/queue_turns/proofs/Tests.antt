@@ -10,7 +10,7 @@ use borrow.Author.Tests.{eq-eqb, ne-eqb, eqb-true}
 use Rattle.frames.specs.Kind.{isKind, isGrade, messageBytes}
 use Rattle.frames.proofs.Limits.{some-bits, bytes-hold}
 use Rattle.frames.proofs.Refusals.{passed}
-use Rattle.queue.specs.Queue.{queueRefusal}
+use Rattle.queue_turns.specs.Queue.{queueRefusal}
 
 -- a message has a byte
 pub some-bytes : (k b : ℕ) → isKind k ≡ true → isGrade b ≡ true → 1 ≤ messageBytes k b

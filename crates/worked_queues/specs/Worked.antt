@@ -7,8 +7,8 @@ use lib.IntN.{ℤ, pos, negsuc}
 use lib.ListN.{length, replicate}
 use Rattle.power_account.specs.declared.Account.{Account}
 use Rattle.worked_accounts.specs.Worked.{heldWith, held}
-use Rattle.queue.specs.declared.Queued.{Queued}
-use Rattle.queue.specs.Queue.{queueOutcome, queueFrames}
+use Rattle.queue_turns.specs.declared.Queued.{Queued}
+use Rattle.queue_turns.specs.Queue.{queueOutcome, queueFrames}
 
 -- the values from x on, another at each place
 abbrev pub from : ℕ → ℕ → List ℤ

@@ -16,8 +16,8 @@ use Rattle.power_account.specs.declared.Account.{Account}
 use Rattle.power_account.specs.Counted.{numberFor}
 use Rattle.power_account.specs.History.{Call, answer as answer-of, after}
 use Rattle.power_account.proofs.History.{frame-of, frame-length, after-refused}
-use Rattle.queue.specs.declared.Queued.{Queued}
-use Rattle.queue.specs.Queue.{messagesIn, callsFor, callsOf, oneMore, inTurn, framesInTurn, piece}
+use Rattle.queue_turns.specs.declared.Queued.{Queued}
+use Rattle.queue_turns.specs.Queue.{messagesIn, callsFor, callsOf, oneMore, inTurn, framesInTurn, piece}
 
 -- ---- the first call, accepted or refused
 

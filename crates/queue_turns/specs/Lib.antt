@@ -1,3 +1,2 @@
 pub mod Queue
 pub mod InTurn
-pub mod Worked

@@ -9,8 +9,8 @@ use Rattle.frames.specs.Frame.{numberedFrame}
 use Rattle.power_account.specs.declared.Account.{Account}
 use Rattle.power_account.specs.Counted.{numberAt, countedRefusal}
 use Rattle.power_account.specs.History.{Call, accountAfter, sentBy}
-use Rattle.queue.specs.declared.Queued.{Queued}
-use Rattle.queue.specs.Queue.{callsFor, piece}
+use Rattle.queue_turns.specs.declared.Queued.{Queued}
+use Rattle.queue_turns.specs.Queue.{callsFor, piece}
 
 -- the account after the first i of m messages in the bytes, sent one by one
 abbrev pub accountAt : ℕ → ℕ → ℕ → List ℕ → Account → ℕ → Account

@@ -12,7 +12,7 @@ use Rattle.frames.specs.Sending.{unless, frameAfter, LeastEnergy}
 use Rattle.power_account.specs.declared.Account.{Account}
 use Rattle.power_account.specs.Counted.{numberFor}
 use Rattle.power_account.specs.History.{Call, answer, after}
-use Rattle.queue.specs.declared.Queued.{Queued}
+use Rattle.queue_turns.specs.declared.Queued.{Queued}
 
 -- the tests before anything is sent, for so many message bytes and n coordinates: 1, 2, then 3 where the bytes are not a whole number of
 -- messages, and 4 where n is not a frame's length times their number. 0 where all are passed

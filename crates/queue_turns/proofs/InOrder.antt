@@ -23,11 +23,11 @@ use Rattle.power_account.specs.Counted.{numberAt, numberFor, countedRefusal}
 use Rattle.power_account.specs.History.{Call, answer, after, accountAfter, sentBy, Holds}
 use Rattle.power_account.proofs.History.{frame-of, first-number, tests, frame-length, after-refused, by-sent, by-refused, next-numbers, calls-after, history}
 use Rattle.power_account.proofs.Changeover.{changeover-kept}
-use Rattle.queue.specs.declared.Queued.{Queued}
-use Rattle.queue.specs.Queue.{queueRefusal, messagesIn, callsFor, callsOf, oneMore, inTurn, framesInTurn, queueOutcome, queueFrames, piece, EachLeast}
-use Rattle.queue.specs.InTurn.{accountAt, answerAt, callsMade, InTurn}
-use Rattle.queue.proofs.Tests.{fits, all-fit}
-use Rattle.queue.proofs.Turns.{sent-answer, sent-frames, refused-answer, refused-frames}
+use Rattle.queue_turns.specs.declared.Queued.{Queued}
+use Rattle.queue_turns.specs.Queue.{queueRefusal, messagesIn, callsFor, callsOf, oneMore, inTurn, framesInTurn, queueOutcome, queueFrames, piece, EachLeast}
+use Rattle.queue_turns.specs.InTurn.{accountAt, answerAt, callsMade, InTurn}
+use Rattle.queue_turns.proofs.Tests.{fits, all-fit}
+use Rattle.queue_turns.proofs.Turns.{sent-answer, sent-frames, refused-answer, refused-frames}
 
 -- ---- pieces, from the first
 

@@ -1,0 +1,1 @@
+// Queues worked by hand, which the definitions meet by computing. Definitions and laws only.
