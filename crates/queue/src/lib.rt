@@ -12,7 +12,7 @@ pub struct Queued {
 }
 
 // The tests before anything is sent: 1, 2, then 3 and 4 for so many message bytes and coordinates.
-fn refusal(kind: u8, grade: u8, bytes: usize, coordinates: usize) -> u8
+pub fn refusal(kind: u8, grade: u8, bytes: usize, coordinates: usize) -> u8
     ensures { λ r. ⌜ r ≡ queueRefusal kind grade bytes coordinates ⌝ }
 {
     let first = kind_table::refusal(kind, grade);
