@@ -6,7 +6,7 @@ use account::Account;
 pub use queue_turns::Queued;
 
 // The tests before anything is sent: 1, 2, then 3 and 4 for so many message bytes and coordinates.
-fn refusal(kind: u8, grade: u8, bytes: usize, coordinates: usize) -> u8
+pub fn refusal(kind: u8, grade: u8, bytes: usize, coordinates: usize) -> u8
     ensures { λ r. ⌜ r ≡ queueRefusal kind grade bytes coordinates ⌝ }
 {
     let first = kind_table::refusal(kind, grade);

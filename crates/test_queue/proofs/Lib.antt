@@ -1,0 +1,3 @@
+pub mod Laid
+pub mod Turn
+pub mod Passing
