@@ -56,7 +56,7 @@ returns-2 c =
     let d = c .before .before in
     let a = d .before in
     let e = called a .coder-send-queue .ensures in
-    (rw (sym (number-is a) ∙ not-false _ (d .if1 .left), ne-eqb _ _ (λ x. c .if2 .taken (e .1 .1 .1 ∙ x))) refl, e .1 .0)
+    (rw (sym (number-is a) ∙ not-false _ (d .if1 .left), ne-eqb _ _ (λ x. c .if2 .taken (e .1 .1 .1 .0 ∙ x))) refl, e .1 .0)
 
 same-account-requires : tie.Need-same-account-requires
 same-account-requires c κs = search needs
@@ -70,7 +70,7 @@ returns-3 c =
     let d = c .before .before .before in
     let a = d .before in
     let e = called a .coder-send-queue .ensures in (
-      rw (sym (number-is a) ∙ not-false _ (d .if1 .left), eq-eqb _ _ (sym (e .1 .1 .1) ∙ c .before .if2 .left))
+      rw (sym (number-is a) ∙ not-false _ (d .if1 .left), eq-eqb _ _ (sym (e .1 .1 .1 .0) ∙ c .before .if2 .left))
           (c .same-account .ensures ∙ ap (λ (x : Account). sameAccount x (s a .args .q .answer .account)) (e .1 .1 .0)),
       e .1 .0,
     )
