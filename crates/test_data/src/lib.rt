@@ -124,7 +124,3 @@ pub fn write(text: &[u8]) -> bool
     }
     io::write_all(STDOUT_FILENO, text)
 }
-
-pub fn write_number(n: u64) {
-    io::print_decimal(STDOUT_FILENO, n);
-}

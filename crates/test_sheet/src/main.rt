@@ -5,7 +5,6 @@ use libc::STDOUT_FILENO;
 use test_data::fill;
 use test_data::number;
 use test_data::write;
-use test_data::write_number;
 ghost use Prim.Native.Nat.{_≤_};
 
 // A proved loop has to end, and nothing says that a file does: a file of more sheets is not read to its end.
@@ -30,7 +29,7 @@ fn list(fd: i32, v: u64) -> bool {
         return false;
     }
     write(b"sheet ");
-    write_number(v);
+    io::print_decimal(STDOUT_FILENO, v);
     write(b"\n");
     let printed = printing::write_listing(&sheet[0..n], STDOUT_FILENO);
     printed.whole
@@ -74,6 +73,6 @@ fn main() {
     let count = list_all(fd);
     libc::close(fd);
     write(b"sheets ");
-    write_number(count);
+    io::print_decimal(STDOUT_FILENO, count);
     write(b"\n");
 }
