@@ -11,7 +11,7 @@ ghost use Rattle.e8.specs.Energy.{energy as energyOf};
 ghost use Rattle.frames.specs.Kind.{isKind, degrees, levelBits, messageBytes};
 ghost use Rattle.frames.specs.Message.{widths, numbers, stacked, leader};
 ghost use Rattle.frames.specs.Frame.{numberedFrame};
-ghost use Rattle.frame_coder.specs.Answer.{sendAnswer, sendFrame};
+ghost use Rattle.answers.specs.Answer.{sendAnswer, sendFrame};
 
 // Number o of the block whose message bits begin at `from`.
 fn number_at(message: &[u8], from: usize, grade: usize, o: usize) -> u64
@@ -86,8 +86,8 @@ pub extern "C" fn plain_send(
 {
     let refusal = sending::test(kind, grade, message, frame.len());
     if refusal != 0 {
-        return frame_coder::answer(refusal, 0);
+        return answers::answer(refusal, 0);
     }
     let energy = write_sent(kind, grade as usize, number, message, frame);
-    frame_coder::answer(refusal, energy)
+    answers::answer(refusal, energy)
 }

@@ -1,26 +1,15 @@
 // The library as other languages call it: a slice passes as a pointer and a length. `frame_coder.h` says what a caller has to see to.
 ghost use mathlib.Core.Path.{_≡_};
-ghost use Prim.Native.Nat.{ℕ, _≤_, _^_};
+ghost use Prim.Native.Nat.{ℕ};
 ghost use lib.IntN.{pos};
 ghost use lib.ListN.{length};
 ghost use Rattle.frames.specs.Sending.{LeastEnergy};
-ghost use Rattle.frame_coder.specs.Answer.{answerOf, sendAnswer, sendFrame, openAnswer, openBytes, strictAnswer, strictBytes};
-ghost use Rattle.frame_coder.specs.Answer.{accountOf, openingAnswer, countedAnswer, countedFrame, countedHeld, queueAnswer};
+ghost use Rattle.answers.specs.Answer.{sendAnswer, sendFrame, openAnswer, openBytes, strictAnswer, strictBytes};
+ghost use Rattle.answers.specs.Answer.{accountOf, openingAnswer, countedAnswer, countedFrame, countedHeld, queueAnswer};
 ghost use Rattle.power_account.specs.Opening.{openedWith};
-ghost use Rattle.frame_coder.specs.Answer.{nearCode, nearHeld};
+ghost use Rattle.answers.specs.Answer.{nearCode, nearHeld};
 ghost use Rattle.queue_turns.specs.Queue.{queueOutcome, queueFrames, EachLeast};
 ghost use Rattle.near_reading.specs.Answer.{nearMessage};
-
-// The energy, or minus the refusal number.
-pub fn answer(number: u8, energy: u64) -> i64
-    requires { ⌜ energy ≤ 2 ^ 46 ⌝ }
-    ensures { λ r. ⌜ r ≡ answerOf number energy ⌝ }
-{
-    if number != 0 {
-        return 0 - number as i64;
-    }
-    energy as i64
-}
 
 // Sending under a number: the energy, or minus the refusal number.
 #[no_mangle]
@@ -36,7 +25,7 @@ pub extern "C" fn coder_send(
     ensures least { λ r. ⌜ ((e : ℕ) → r ≡ pos e → LeastEnergy kind grade (now (frame .exit)) e) ⌝ }
 {
     let r = sending::send(kind, grade, number, message, frame);
-    answer(r.number, r.energy)
+    answers::answer(r.number, r.energy)
 }
 
 // The open reading: the energy, or minus the refusal number.
@@ -46,7 +35,7 @@ pub extern "C" fn coder_read_open(kind: u8, grade: u8, frame: &[i32], message: &
     ensures message { λ r. ⌜ now (message .exit) ≡ openBytes kind grade (now (frame .entry)) (now (message .entry)) ⌝ }
 {
     let r = reading::read_open(kind, grade, frame, message);
-    answer(r.number, r.energy)
+    answers::answer(r.number, r.energy)
 }
 
 // The strict reading under a number: the energy, or minus the refusal number.
@@ -62,7 +51,7 @@ pub extern "C" fn coder_read_strict(
     ensures message { λ r. ⌜ now (message .exit) ≡ strictBytes kind grade number (now (frame .entry)) (now (message .entry)) ⌝ }
 {
     let r = reading::read_strict(kind, grade, number, frame, message);
-    answer(r.number, r.energy)
+    answers::answer(r.number, r.energy)
 }
 
 // Opening an account: 0, or minus the refusal number. The account goes to the four lent numbers, its changeover to `kept`; where it is refused, each is 0.
@@ -84,7 +73,7 @@ pub extern "C" fn coder_open(
     *sum = begun.sum;
     *largest = begun.largest;
     *kept = begun.changeover;
-    answer(r.number, 0)
+    answers::answer(r.number, 0)
 }
 
 // Sending with an account that is held in three lent numbers, stored to on success only, and of a changeover, which stays: the energy, or minus the
@@ -117,13 +106,13 @@ pub extern "C" fn coder_send_counted(
     };
     let r = account::send_counted(kind, grade, message, frame, before);
     if r.number != 0 {
-        return answer(r.number, 0);
+        return answers::answer(r.number, 0);
     }
     let after = r.account;
     *count = after.count;
     *sum = after.sum;
     *largest = after.largest;
-    answer(0, r.energy)
+    answers::answer(0, r.energy)
 }
 
 // Sending a queue with an account that is held in three lent numbers, and of a changeover, which stays: 0, or minus the refusal number. The number of
@@ -163,7 +152,7 @@ pub extern "C" fn coder_send_queue(
     *sum = grown.sum;
     *largest = grown.largest;
     *sent = r.sent;
-    answer(r.number, 0)
+    answers::answer(r.number, 0)
 }
 
 // The near reading of samples: 0, or minus the number. The squared distance goes to `distance`, stored to on success only.
@@ -183,9 +172,9 @@ pub extern "C" fn coder_read_near(
     match r {
         near_reading::NearReading::Near(d) => {
             *distance = d;
-            answer(0, 0)
+            answers::answer(0, 0)
         }
-        near_reading::NearReading::Far => answer(16, 0),
-        near_reading::NearReading::Refused(number) => answer(number, 0),
+        near_reading::NearReading::Far => answers::answer(16, 0),
+        near_reading::NearReading::Refused(number) => answers::answer(number, 0),
     }
 }

@@ -20,7 +20,7 @@ use Rattle.account.specs.declared.Counted.{Counted}
 use Rattle.power_account.specs.Power.{full}
 use Rattle.power_account.specs.Opening.{openingRefusal, openedWith}
 use Rattle.power_account.specs.Counted.{numberFor, countedRefusal}
-use Rattle.frame_coder.specs.Answer.{answerOf, sendAnswer, openAnswer, strictAnswer, countedAnswer, countedHeld, openingAnswer}
+use Rattle.answers.specs.Answer.{answerOf, sendAnswer, openAnswer, strictAnswer, countedAnswer, countedHeld, openingAnswer}
 use Rattle.test_calls.specs.Outcome.{answered, decoded}
 
 decoded-answer : (n e : ℕ) (a : Account) → n ≤ 255 → decoded (answerOf n e) a ≡ answered n (cond (eqb n 0) e 0) a

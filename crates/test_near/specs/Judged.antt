@@ -9,7 +9,7 @@ use Rattle.frames.specs.Reading.{sameNumber}
 use Rattle.near_reading.specs.declared.NearReading.{NearReading}
 use Rattle.near_reading.specs.declared.NearReading.the-variants.{Near, Far, Refused}
 use Rattle.near_reading.specs.Answer.{nearMessage, nearAnswer}
-use Rattle.frame_coder.specs.Answer.{answerOf, nearCode, nearHeld}
+use Rattle.answers.specs.Answer.{answerOf, nearCode, nearHeld}
 use Rattle.test_data.specs.Alike.{sameBytes, sameFloat}
 use Rattle.test_near.specs.declared.judging.Reading.{Reading}
 

@@ -64,7 +64,7 @@ fn exported(q: Reading, samples: &[f32], message: &mut [u8]) -> bool
 {
     let mut distance = q.before;
     let r = frame_coder::coder_read_near(q.kind, q.grade, samples, message, &mut distance);
-    if !same_answer(r, frame_coder::answer(q.number, 0)) {
+    if !same_answer(r, answers::answer(q.number, 0)) {
         return false;
     }
     same_float(distance, q.distance)

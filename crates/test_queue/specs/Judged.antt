@@ -8,7 +8,7 @@ use lib.ListN.{length, take, drop}
 use Rattle.frames.specs.Reading.{sameNumber, sameFrame}
 use Rattle.queue_turns.specs.declared.Queued.{Queued}
 use Rattle.queue_turns.specs.Queue.{queueOutcome, queueFrames}
-use Rattle.frame_coder.specs.Answer.{answerOf, queueAnswer}
+use Rattle.answers.specs.Answer.{answerOf, queueAnswer}
 use Rattle.test_data.specs.Alike.{sameAccount}
 use Rattle.test_tally.specs.Tally.{judged}
 use Rattle.test_queue.specs.declared.judging.Queue.{Queue}

@@ -57,7 +57,7 @@ fn exported(q: Queue, messages: &[u8], frames: &mut [i32]) -> bool
         lent.changeover,
         &mut sent,
     );
-    if !same_answer(r, frame_coder::answer(answer.number, 0)) {
+    if !same_answer(r, answers::answer(answer.number, 0)) {
         return false;
     }
     if sent != answer.sent {

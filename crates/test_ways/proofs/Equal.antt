@@ -10,7 +10,7 @@ use lib.ListN.{length, take}
 use lib.Signed.{ltZ}
 use borrow.Author.Tests.{le-leb, lt-leb, eq-eqb, ne-eqb}
 use Rattle.frames.specs.Reading.{sameFrame}
-use Rattle.frame_coder.specs.Answer.{sendAnswer, sendFrame}
+use Rattle.answers.specs.Answer.{sendAnswer, sendFrame}
 use Rattle.test_ways.specs.Both.{isEqual, nines, isEqualIn}
 
 module _ (sort k b number : ℕ) (m : List ℕ) where

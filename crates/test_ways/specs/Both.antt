@@ -8,7 +8,7 @@ use lib.IntN.{ℤ, pos}
 use lib.ListN.{length, take, replicate}
 use lib.Signed.{ltZ}
 use Rattle.frames.specs.Reading.{sameFrame}
-use Rattle.frame_coder.specs.Answer.{sendAnswer, sendFrame}
+use Rattle.answers.specs.Answer.{sendAnswer, sendFrame}
 
 -- sent into two lent frames of the same length, which by their contracts answer one number: the frames come out the same; sort 4 is refused, and then
 -- nothing is written, and every other sort is sent

@@ -9,7 +9,7 @@ use test_data::same_coordinates;
 use test_data::size;
 ghost use mathlib.Core.Path.{_≡_};
 ghost use lib.ListN.{length};
-ghost use Rattle.frame_coder.specs.Answer.{sendFrame};
+ghost use Rattle.answers.specs.Answer.{sendFrame};
 ghost use Rattle.test_tally.specs.Tally.{GrownBy};
 ghost use Rattle.test_ways.specs.Both.{isEqual, nines, isEqualIn, isEqualUnder};
 

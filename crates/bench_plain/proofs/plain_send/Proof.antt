@@ -10,8 +10,8 @@ use Rattle.frames.specs.Sending.{sendRefusal, frameAfter, energySent}
 use Rattle.frames.proofs.Accepted.{sent-leaves, refused-leaves}
 use Rattle.frames.proofs.Rows.{grade-low, grade-high}
 use Rattle.accepting.proofs.Answers.{Fits, fits}
-use Rattle.frame_coder.specs.Answer.{answerOf, sendAnswer, sendFrame}
-use Rattle.frame_coder.proofs.Bounds.{sent-fits, send-answer}
+use Rattle.answers.specs.Answer.{answerOf, sendAnswer, sendFrame}
+use Rattle.answers.proofs.Bounds.{sent-fits, send-answer}
 use borrow.Author.Needs.{needs}
 use Rattle.bench_plain.proofs.plain_send.Statement.{statement}
 use Rattle.bench_plain.proofs.plain_send.Tie as tie

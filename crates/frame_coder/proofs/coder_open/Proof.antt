@@ -4,7 +4,7 @@ use mir.Facts.{toZ-ofZ}
 use borrow.Author.Needs.{needs}
 use Rattle.power_account.specs.declared.Opened.{Opened}
 use Rattle.power_account.specs.Opening.{openedWith}
-use Rattle.frame_coder.specs.Answer.{answerOf, openingAnswer}
+use Rattle.answers.specs.Answer.{answerOf, openingAnswer}
 use Rattle.frame_coder.proofs.coder_open.Statement.{statement}
 use Rattle.frame_coder.proofs.coder_open.Tie as tie
 

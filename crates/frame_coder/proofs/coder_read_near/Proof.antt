@@ -5,7 +5,7 @@ use lib.ListN.{length}
 use mir.Facts.{toZ-ofZ}
 use borrow.Author.Needs.{needs}
 use Rattle.near_reading.specs.Answer.{nearNumber, numberOf, distanceOf}
-use Rattle.frame_coder.proofs.Bounds.{near-code, near-stored, near-left, refused-number}
+use Rattle.answers.proofs.Bounds.{near-code, near-stored, near-left, refused-number}
 use Rattle.frame_coder.proofs.coder_read_near.Statement.{statement}
 use Rattle.frame_coder.proofs.coder_read_near.Tie as tie
 

@@ -6,8 +6,8 @@ use lib.ListN.{length}
 use mir.Facts.{toZ-ofZ}
 use borrow.Author.Needs.{needs}
 use Rattle.frames.specs.Reading.{messageAfter}
-use Rattle.frame_coder.specs.Answer.{answerOf}
-use Rattle.frame_coder.proofs.Bounds.{open-fits, open-answer}
+use Rattle.answers.specs.Answer.{answerOf}
+use Rattle.answers.proofs.Bounds.{open-fits, open-answer}
 use Rattle.frame_coder.proofs.coder_read_open.Statement.{statement}
 use Rattle.frame_coder.proofs.coder_read_open.Tie as tie
 

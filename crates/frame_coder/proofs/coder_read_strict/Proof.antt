@@ -6,8 +6,8 @@ use lib.ListN.{length}
 use mir.Facts.{toZ-ofZ}
 use borrow.Author.Needs.{needs}
 use Rattle.frames.specs.Reading.{messageAfter}
-use Rattle.frame_coder.specs.Answer.{answerOf}
-use Rattle.frame_coder.proofs.Bounds.{strict-fits, strict-answer}
+use Rattle.answers.specs.Answer.{answerOf}
+use Rattle.answers.proofs.Bounds.{strict-fits, strict-answer}
 use Rattle.frame_coder.proofs.coder_read_strict.Statement.{statement}
 use Rattle.frame_coder.proofs.coder_read_strict.Tie as tie
 

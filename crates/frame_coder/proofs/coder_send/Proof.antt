@@ -6,8 +6,8 @@ use lib.ListN.{length}
 use mir.Facts.{toZ-ofZ}
 use borrow.Author.Needs.{needs}
 use Rattle.frames.specs.Sending.{frameAfter}
-use Rattle.frame_coder.specs.Answer.{answerOf}
-use Rattle.frame_coder.proofs.Bounds.{sent-fits, send-answer, least-answer}
+use Rattle.answers.specs.Answer.{answerOf}
+use Rattle.answers.proofs.Bounds.{sent-fits, send-answer, least-answer}
 use Rattle.frame_coder.proofs.coder_send.Statement.{statement}
 use Rattle.frame_coder.proofs.coder_send.Tie as tie
 

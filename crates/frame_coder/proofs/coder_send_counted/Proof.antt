@@ -12,8 +12,8 @@ use Rattle.power_account.specs.Counted.{numberFor, countedAccount}
 use Rattle.power_account.specs.History.{Call}
 use Rattle.power_account.proofs.Answers.{account-refused}
 use Rattle.power_account.proofs.History.{after-changeover}
-use Rattle.frame_coder.specs.Answer.{answerOf, accountOf, countedFrame, countedHeld}
-use Rattle.frame_coder.proofs.Bounds.{counted-fits, counted-answer, account-of, least-answer}
+use Rattle.answers.specs.Answer.{answerOf, accountOf, countedFrame, countedHeld}
+use Rattle.answers.proofs.Bounds.{counted-fits, counted-answer, account-of, least-answer}
 use Rattle.frame_coder.proofs.coder_send_counted.Statement.{statement}
 use Rattle.frame_coder.proofs.coder_send_counted.Tie as tie
 

@@ -5,8 +5,8 @@ use borrow.Author.Needs.{needs}
 use Rattle.power_account.specs.declared.Account.{Account}
 use Rattle.queue_turns.specs.declared.Queued.{Queued}
 use Rattle.queue_turns.proofs.InOrder.{queue-changeover}
-use Rattle.frame_coder.specs.Answer.{answerOf, accountOf, queueAnswer}
-use Rattle.frame_coder.proofs.Bounds.{account-of}
+use Rattle.answers.specs.Answer.{answerOf, accountOf, queueAnswer}
+use Rattle.answers.proofs.Bounds.{account-of}
 use Rattle.frame_coder.proofs.coder_send_queue.Statement.{statement}
 use Rattle.frame_coder.proofs.coder_send_queue.Tie as tie
 

@@ -4,7 +4,7 @@ use lib.ListN.{length}
 use mir.Facts.{toZ-ofZ}
 use borrow.Author.Tests.{not-true, not-false}
 use Rattle.frames.specs.Reading.{sameNumber}
-use Rattle.frame_coder.specs.Answer.{answerOf, nearCode}
+use Rattle.answers.specs.Answer.{answerOf, nearCode}
 use Rattle.test_data.specs.Alike.{sameFloat}
 use Rattle.test_near.specs.Judged.{exportedAnswers}
 use borrow.Author.Needs.{needs}

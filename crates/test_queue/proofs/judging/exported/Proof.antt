@@ -5,7 +5,7 @@ use mir.Facts.{toZ-ofZ}
 use borrow.Author.Tests.{not-true, not-false, eq-eqb, ne-eqb}
 use Rattle.frames.specs.Reading.{sameNumber}
 use Rattle.power_account.specs.declared.Account.{Account}
-use Rattle.frame_coder.specs.Answer.{answerOf, queueAnswer}
+use Rattle.answers.specs.Answer.{answerOf, queueAnswer}
 use Rattle.test_data.specs.Alike.{sameAccount}
 use Rattle.test_queue.specs.Judged.{outcome, exportedAnswers}
 use borrow.Author.Needs.{needs}

@@ -8,7 +8,7 @@ use mir.Val.{toZ, ofZ}
 use mir.Facts.{toZ-ofZ}
 use borrow.Author.Tests.{not-true, not-false}
 use Rattle.frames.specs.Reading.{sameFrame}
-use Rattle.frame_coder.specs.Answer.{sendAnswer}
+use Rattle.answers.specs.Answer.{sendAnswer}
 use Rattle.test_ways.proofs.Equal.{frames-differ, was-to-be-sent, left-as-lent, was-to-be-refused, as-it-has-to}
 use borrow.Author.Needs.{needs}
 use Rattle.test_ways.proofs.record.equal.Statement.{statement}

@@ -8,10 +8,10 @@ use mir.Val.{SFits, toZ}
 use mir.Facts.{toZ-ofZ, toZ-pos}
 use borrow.Author.Tests.{ne-eqb, eq-eqb}
 use Rattle.integers.proofs.Zed.{#_, _⊖_, sfits! }
-use Rattle.frame_coder.specs.Answer.{answerOf}
+use Rattle.answers.specs.Answer.{answerOf}
 use borrow.Author.Needs.{needs}
-use Rattle.frame_coder.proofs.answer.Statement.{statement}
-use Rattle.frame_coder.proofs.answer.Tie as tie
+use Rattle.answers.proofs.answer.Statement.{statement}
+use Rattle.answers.proofs.answer.Tie as tie
 
 -- minus a number of eight bits
 small : (n : ℕ) → n < 256 → toZ w64 n ≡ pos n

@@ -25,7 +25,7 @@ use Rattle.power_account.proofs.Answers.{passed}
 use Rattle.near_reading.specs.declared.NearReading.{NearReading}
 use Rattle.near_reading.specs.declared.NearReading.the-variants.{Near, Far, Refused}
 use Rattle.near_reading.specs.Answer.{nearNumber, nearDistance, nearAnswer}
-use Rattle.frame_coder.specs.Answer.{answerOf, sendAnswer, openAnswer, strictAnswer, accountOf, countedAnswer, nearCode, nearHeld}
+use Rattle.answers.specs.Answer.{answerOf, sendAnswer, openAnswer, strictAnswer, accountOf, countedAnswer, nearCode, nearHeld}
 
 -- the energy that stands with a refusal number says nothing
 answer-is : (number e : ℕ) → answerOf number (cond (eqb number 0) e 0) ≡ answerOf number e
