@@ -1,4 +1,5 @@
--- The levels of a frame as the code holds them, one number for each, and the test of such numbers. Assumes nothing.
+-- The levels of a frame as the code holds them, one number for each, and the test of such numbers. Contracts below the entry
+-- points cite it. Assumes nothing.
 use Prim.Native.Nat.{ℕ, suc, _/_, _%_, _^_}
 use mathlib.Core.List.{List, [], _∷_}
 use lib.Dec.{ltb}

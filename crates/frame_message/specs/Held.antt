@@ -1,4 +1,4 @@
--- The message of a frame whose levels are held in numbers, taken backwards. Assumes nothing.
+-- The message of a frame whose levels are held in numbers, taken backwards. Contracts below the entry points cite it. Assumes nothing.
 use Prim.Native.Nat.{ℕ, suc, _/_, _%_, _^_}
 use mathlib.Core.List.{List, [], _∷_, _++_}
 use lib.ListN.{getD}
