@@ -1,4 +1,4 @@
--- The codewords of a message's levels as the code holds them. The contracts of private functions cite it; clients need none of it. Assumes nothing.
+-- The codewords of a message's levels as the code holds them. The contracts on the way to the leader cite it; who sends needs none of it. Assumes nothing.
 use Prim.Native.Nat.{ℕ, zero, suc, _+_, _*_, _^_}
 use mathlib.Core.List.{List}
 use lib.Dec.{ltb}

@@ -1,6 +1,6 @@
 -- A block rounded coordinate by coordinate, and the candidates for its least member: each coordinate rounded, and where the sum is odd the one of highest
 -- rank changed.
--- Clients need none of it; the contracts of private functions cite it. M = 2·H. Assumes nothing.
+-- The contracts of rounding and candidates cite it; who shapes or sends needs none of it. M = 2·H. Assumes nothing.
 use mathlib.Core.Path.{_≡_}
 use mathlib.Core.Bool.{Bool, cond}
 use mathlib.Core.List.{List, [], _∷_}

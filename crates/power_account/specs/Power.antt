@@ -1,5 +1,5 @@
 -- Power and the account, as document 01 has them, with the largest block of request E2 and the changeover of request E5. Clients cite powerOf, begun,
--- full and grown; Measured and grownWith are cited by private contracts. Assumes nothing.
+-- full and grown; Measured and grownWith are cited by `power` and `grow`. Assumes nothing.
 use Prim.Native.Nat.{ℕ, max, _+_, _^_, _<_}
 use mathlib.Core.Path.{_≡_}
 use mathlib.Core.Bool.{Bool, false}
