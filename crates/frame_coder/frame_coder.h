@@ -88,13 +88,13 @@
  *     Measured on the archive of this version, A=target/staticlib/libframe_coder.a:
  *
  *       nm -u $A        no undefined symbols: it prints the name of the member and nothing more
- *       size $A         text 20639 (code and constants), data 0, bss 0
- *       size -A $A      a section for each function, so that -Wl,--gc-sections leaves out what is not called: of 19795 bytes of
- *                       code coder_send alone needs 9165, the open and the strict reading 10486, coder_read_near alone 12899
+ *       size $A         text 20716 (code and constants), data 0, bss 0
+ *       size -A $A      a section for each function, so that -Wl,--gc-sections leaves out what is not called: of 19872 bytes of
+ *                       code coder_send alone needs 9165, the open and the strict reading 10563, coder_read_near alone 12976
  *       cc -I crates/frame_coder tools/c/stack.c $A -o target/stack && target/stack
  *                       the most stack that a call used, in bytes, with its return address and the arguments on the stack:
- *                       coder_open 8, coder_send 816, coder_send_counted 864, coder_send_queue 960, coder_read_open 576,
- *                       coder_read_strict 1072, coder_read_near 1568
+ *                       coder_open 8, coder_send 816, coder_send_counted 864, coder_send_queue 960, coder_read_open 592,
+ *                       coder_read_strict 1088, coder_read_near 1568
  *       objdump -dr $A | grep -E '>:$|push|sub .*,%rsp|-0x[0-9a-f]*\(%rsp\)|PLT32'
  *                       where it goes: the frames on the way down add up to the same, nothing recurs, and 128 of the bytes of
  *                       sending and of the strict reading, and 8 of those of the open and the near reading, lie below the stack
