@@ -1,6 +1,6 @@
-/* Sends the message 00 08 at kind 3, grade 1, under an even and an odd number, prints the energy and both frames, and reads them back
- * openly and strictly, under their own number and under the other; then noisy samples of a frame, refusals by name, an account across
- * its changeover, and a queue that stops at its third message. */
+/* Sends the message 00 08 at kind 3, grade 1, under an even and an odd number, prints the energy and both frames, and reads them
+ * back openly and strictly, under their own number and under the other; then a message with free bits, noisy samples of a frame,
+ * refusals by name, an account across its changeover, and a queue that stops at its third message. */
 #include <inttypes.h>
 #include <stdio.h>
 #include <string.h>
@@ -38,7 +38,7 @@ int main(void)
     /* Sixteen frames of its class have the least energy: number 0 is sent as the first of them in reading order, number 1 as the
      * last. Both are read as the message, but strictly each under its own number alone. */
     for (uint32_t number = 0; number < 2; number++) {
-        int64_t answer = coder_send(kind, grade, number, message, bytes, frame, coordinates);
+        int64_t answer = coder_send(kind, grade, number, 0, message, bytes, frame, coordinates);
         if (answer < 0) {
             printf("refused %" PRId64 " (%s)\n", -answer, coder_refusal_name(answer));
             return 1;
@@ -46,22 +46,33 @@ int main(void)
         printf("number %" PRIu32 ", energy %" PRId64 ":", number, answer);
         print_frame(frame, coordinates);
 
-        answer = coder_read_open(kind, grade, frame, coordinates, back, bytes);
+        answer = coder_read_open(kind, grade, 0, frame, coordinates, back, bytes);
         print_message("read openly", answer, back, bytes);
         if (answer < 0 || memcmp(back, message, bytes) != 0)
             return 1;
-        answer = coder_read_strict(kind, grade, number, frame, coordinates, back, bytes);
+        answer = coder_read_strict(kind, grade, number, 0, frame, coordinates, back, bytes);
         print_message("read strictly", answer, back, bytes);
         if (answer < 0 || memcmp(back, message, bytes) != 0)
             return 1;
-        answer = coder_read_strict(kind, grade, 1 - number, frame, coordinates, back, bytes);
+        answer = coder_read_strict(kind, grade, 1 - number, 0, frame, coordinates, back, bytes);
         print_message("read strictly under the other number", answer, back, bytes);
     }
 
     /* Another frame of the same class, far from the least: it has the same message, but it is sent under no number. */
     frame[0] += 1048568;
-    print_message("read openly", coder_read_open(kind, grade, frame, coordinates, back, bytes), back, bytes);
-    print_message("read strictly", coder_read_strict(kind, grade, 0, frame, coordinates, back, bytes), back, bytes);
+    print_message("read openly", coder_read_open(kind, grade, 0, frame, coordinates, back, bytes), back, bytes);
+    print_message("read strictly", coder_read_strict(kind, grade, 0, 0, frame, coordinates, back, bytes), back, bytes);
+
+    /* The last bits of a message left to the sender, who sends a filling of least energy. Where several fillings have it, which of
+     * them is sent is open, so that the frame is not printed here. It is read back with as many free bits, which are given as 0. */
+    const uint8_t quiet[CODER_MESSAGE_LENGTH(3, 1)] = {0x12, 0x00};
+    for (uint8_t bits = 0; bits <= CODER_MAX_FREE + 1; bits++) {
+        int64_t quiet_answer = coder_send(kind, grade, 0, bits, quiet, bytes, frame, coordinates);
+        if (quiet_answer >= 0)
+            quiet_answer = coder_read_strict(kind, grade, 0, bits, frame, coordinates, back, bytes);
+        printf("free count %d, ", (int)bits);
+        print_message("read strictly", quiet_answer, back, bytes);
+    }
 
     /* What a receiver has of a frame: samples, each a whole number of 256ths, with noise. It is read as long as the squared distance
      * is below the limit; on the limit it is too far. */
@@ -78,7 +89,7 @@ int main(void)
     }
 
     /* Nothing is lent: a null pointer may stand where the length is 0. */
-    print_message("no message", coder_send(kind, grade, 0, NULL, 0, frame, coordinates), NULL, 0);
+    print_message("no message", coder_send(kind, grade, 0, 0, NULL, 0, frame, coordinates), NULL, 0);
 
     /* An account with a changeover of 2: its first two frames follow the old rule, and those after them the rule of their number,
      * which is the count before the send. The number by which a frame is judged is asked for before the send. */
@@ -88,13 +99,13 @@ int main(void)
         return 1;
     for (int times = 0; times < 4; times++) {
         const uint32_t count = account.count, number = coder_account_number(&account);
-        if (coder_account_send(&account, kind, grade, message, bytes, frame, coordinates) < 0 ||
-            coder_read_strict(kind, grade, number, frame, coordinates, back, bytes) < 0)
+        if (coder_account_send(&account, kind, grade, 0, message, bytes, frame, coordinates) < 0 ||
+            coder_read_strict(kind, grade, number, 0, frame, coordinates, back, bytes) < 0)
             return 1;
         printf("count %" PRIu32 ", judged under %" PRIu32 ":", count, number);
         print_frame(frame, coordinates);
     }
-    print_message("kind 259", coder_account_send(&account, 259, 1, message, bytes, frame, coordinates), NULL, 0);
+    print_message("kind 259", coder_account_send(&account, 259, 1, 0, message, bytes, frame, coordinates), NULL, 0);
     printf("account: %" PRIu32 " frames, mean power %g, largest block %" PRIu64 ", changeover %" PRIu32 "\n", account.count,
            account.sum / account.count, account.largest, account.changeover);
 

@@ -1,7 +1,7 @@
 /* Reads lines `kind grade energy coordinates`, as a listing has them, and prints what the two readings say of each frame. As in a
  * sheet, the lines are numbered from 0, the listing's header left out, and each frame is read strictly under the number of its line.
  * With an argument all are read under that number: `mark 0` for frames that are judged by number 0. Of a line `near kind grade
- * samples`, which takes no number, it prints what the near reading says. */
+ * samples`, which takes no number, it prints what the near reading says. No bit is free. */
 #include <stdio.h>
 #include <stdlib.h>
 #include <string.h>
@@ -94,8 +94,8 @@ int main(int count, char **words)
             continue;
         }
         uint8_t kind = (uint8_t)head[0], grade = (uint8_t)head[1];
-        show("strictly", coder_read_strict(kind, grade, number, frame, n, message, length), message, length);
-        show("; openly", coder_read_open(kind, grade, frame, n, message, length), message, length);
+        show("strictly", coder_read_strict(kind, grade, number, 0, frame, n, message, length), message, length);
+        show("; openly", coder_read_open(kind, grade, 0, frame, n, message, length), message, length);
         printf("\n");
     }
     return 0;

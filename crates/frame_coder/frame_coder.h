@@ -28,7 +28,18 @@
  *     coordinate where two differ, the smaller comes first. Their energy is the same, so that the number changes no answer of
  *     sending, and all even numbers have one frame, all odd numbers one. Without ties both are the same frame. A strict reading takes
  *     the frame of its number alone. Over all messages of a kind and grade, the frames of an even and those of an odd number add up
- *     to zero in every coordinate.
+ *     to zero in every coordinate. All this is said of messages without free bits.
+ *
+ * FREE BITS. The last bits of a message, 0 to 4 of them, can be left to the sender, who makes the frame quieter by them: `free`
+ *     says how many, and they are the message bits from coder_message_bits(kind, grade) - free on. They must be given as 0, else
+ *     the message is refused by 5, as for a spare bit. Each way to set them is a filling of the message, and has a frame under the
+ *     number, by the rules above. Sent is the frame of some filling whose frame has the least energy of all fillings: never more
+ *     than without free bits. Where several fillings have that energy, which of them is sent is left open, and may differ from
+ *     version to version. The energy and what is added to an account are the same for each of them. A reading with the same `free`
+ *     gives the other bits, which are fixed, and writes the free bits as 0. A strict reading takes the frame of any least filling
+ *     under its number, and no other. Messages that differ in a bit that is fixed for both keep their distance, whatever their
+ *     fillings, numbers and free counts. With `free` 0 nothing is left to the sender, and all is as said above. In a queue, and in
+ *     a near reading, no bit is free.
  *
  * ACCOUNTS AND THE CHANGEOVER. An account is opened with a changeover, a count from 0 to 1,000,000. With an account the number of a
  *     frame is the count before the send; but the frames below the changeover follow the old rule, which is that of number 0. So
@@ -67,15 +78,17 @@
  *     also where the call is refused (coder_send_queue and coder_open store to all four of theirs in every call);
  *   - a frame is read strictly under its own number, and an account goes on with its own changeover: nothing in a frame tells its
  *     number, and coder_send_counted and coder_send_queue take any changeover, as they take any count;
+ *   - a frame is read with the free count that it was sent with: nothing in a frame tells that either. With a smaller one the
+ *     filling is read too, and with a larger one fixed bits are lost;
  *   - what is lent to one call does not overlap, and nobody else writes to it during the call.
  * What is lent to be written (a sender's frames, `sent`, an account to be opened, a reading's message, `distance`) need not be set
  *     before: nothing of it is loaded that the call has not stored (tested under valgrind).
  *
- * KIND AND GRADE ARE uint8_t in the archive's functions. C and C++ narrow an int to that in silence: kind 259 arrives as 3. The
- *     functions that are written out in this header take an int and test it before they narrow it. Where kind and grade come
- *     from outside as ints, ask coder_message_length(kind, grade) first: it is 0 where there is no such kind or grade. A wider number
- *     or changeover is narrowed to uint32_t likewise: a number keeps its parity and so its rule; a changeover is tested by
- *     coder_account_open before that, and not by coder_open.
+ * KIND, GRADE AND FREE ARE uint8_t in the archive's functions. C and C++ narrow an int to that in silence: kind 259 arrives as 3,
+ *     and 256 free bits as none. The functions that are written out in this header take an int and test it before they narrow it.
+ *     Where kind and grade come from outside as ints, ask coder_message_length(kind, grade) first: it is 0 where there is no such
+ *     kind or grade; and hold a free count to CODER_MAX_FREE. A wider number or changeover is narrowed to uint32_t likewise: a
+ *     number keeps its parity and so its rule; a changeover is tested by coder_account_open before that, and not by coder_open.
  *
  * FOR FIRMWARE. The archive is for x86-64, ELF and the System V calling convention (Linux); there is none for other processors
  *     today. It needs nothing beyond the base of x86-64 (SSE2), and links into fixed and position-independent programs. It calls
@@ -88,13 +101,13 @@
  *     Measured on the archive of this version, A=target/staticlib/libframe_coder.a:
  *
  *       nm -u $A        no undefined symbols: it prints the name of the member and nothing more
- *       size $A         text 20716 (code and constants), data 0, bss 0
- *       size -A $A      a section for each function, so that -Wl,--gc-sections leaves out what is not called: of 19872 bytes of
- *                       code coder_send alone needs 9165, the open and the strict reading 10563, coder_read_near alone 12976
+ *       size $A         text 23112 (code and constants), data 0, bss 0
+ *       size -A $A      a section for each function, so that -Wl,--gc-sections leaves out what is not called: of 22268 bytes of
+ *                       code coder_send alone needs 10817, the open and the strict reading 11243, coder_read_near alone 13139
  *       cc -I crates/frame_coder tools/c/stack.c $A -o target/stack && target/stack
  *                       the most stack that a call used, in bytes, with its return address and the arguments on the stack:
- *                       coder_open 8, coder_send 816, coder_send_counted 864, coder_send_queue 960, coder_read_open 592,
- *                       coder_read_strict 1088, coder_read_near 1568
+ *                       coder_open 8, coder_send 1408, coder_send_counted 1472, coder_send_queue 1568, coder_read_open 624,
+ *                       coder_read_strict 1776, coder_read_near 1576
  *       objdump -dr $A | grep -E '>:$|push|sub .*,%rsp|-0x[0-9a-f]*\(%rsp\)|PLT32'
  *                       where it goes: the frames on the way down add up to the same, nothing recurs, and 128 of the bytes of
  *                       sending and of the strict reading, and 8 of those of the open and the near reading, lie below the stack
@@ -111,7 +124,7 @@
 #include <stddef.h>
 #include <stdint.h>
 
-#define FRAME_CODER_VERSION "0.8.1"
+#define FRAME_CODER_VERSION "0.9.0"
 
 #ifdef __cplusplus
 extern "C" {
@@ -130,6 +143,9 @@ extern "C" {
 
 /* A reading takes coordinates from minus this to this. */
 #define CODER_MAX_COORDINATE 1048576
+
+/* The most bits of a message that may be free. */
+#define CODER_MAX_FREE 4
 
 /* An account with so many frames is full, and no account is opened with a changeover above it. */
 #define CODER_MAX_COUNT 1000000
@@ -164,25 +180,26 @@ CODER_INLINE size_t coder_message_length(int kind, int grade)
     return (size_t)CODER_MESSAGE_LENGTH(kind, grade);
 }
 
-/* The numbers of the refusals. Sending tests 1, 2, 3, 4, 5, and with an account 11; sending a queue tests 1, 2, 3, 4 before any
- * message is sent, then 5 and 11 of each message in its turn; reading tests 1, 2, 4, 3, then 6 over all coordinates, then 7, 8, 13,
- * and if it is strict 9; reading noisy samples tests 1, 2, 4, 3, then 15 over all samples, then 16; opening an account tests 14 alone.
- * The first that holds is answered. (10 and 12 are refusals of a sheet.) */
+/* The numbers of the refusals. Sending tests 1, 2, 17, 3, 4, 5, and with an account 11; sending a queue tests 1, 2, 3, 4 before any
+ * message is sent, then 5 and 11 of each message in its turn; reading tests 1, 2, 17, 4, 3, then 6 over all coordinates, then 7, 8,
+ * 13, and if it is strict 9; reading noisy samples tests 1, 2, 4, 3, then 15 over all samples, then 16; opening an account tests 14
+ * alone. The first that holds is answered. (10 and 12 are refusals of a sheet.) */
 enum coder_refusal {
     CODER_REFUSED_KIND = 1,            /* the kind is not 3 to 6; noisy samples: not 3 to 5 */
     CODER_REFUSED_GRADE = 2,           /* the grade is not 1 to 4 */
     CODER_REFUSED_MESSAGE_LENGTH = 3,  /* the message bytes lent differ from the kind's and grade's; a queue: are no whole messages */
     CODER_REFUSED_FRAME_LENGTH = 4,    /* the coordinates or samples lent differ from the kind's; a queue: from so many a message */
-    CODER_REFUSED_SPARE_BITS = 5,      /* sending: a spare bit of the message is set; a queue: of the first one not sent */
+    CODER_REFUSED_SPARE_BITS = 5,      /* sending: a spare bit of the message is set, or a free one; a queue: of the first not sent */
     CODER_REFUSED_OVER_RANGE = 6,      /* reading: a coordinate is outside -1048576 .. 1048576 */
     CODER_REFUSED_BROKEN_LEVEL_0 = 7,  /* reading: the coordinates' bits of weight 1 are not a codeword */
     CODER_REFUSED_BROKEN_LEVEL_1 = 8,  /* reading, kinds 4 to 6: the coordinates' bits of weight 2 are not a codeword */
-    CODER_REFUSED_UNSHAPED = 9,        /* strict reading: the frame is not the one that is sent for its message under the number */
+    CODER_REFUSED_UNSHAPED = 9,        /* strict reading: the frame is not one that may be sent for its message under the number */
     CODER_REFUSED_ACCOUNT_FULL = 11,   /* sending with an account: the count is 1,000,000 or more; a queue: has become so */
     CODER_REFUSED_BROKEN_LEVEL_2 = 13, /* reading, kind 6: the coordinates' bits of weight 4 are not a codeword */
     CODER_REFUSED_CHANGEOVER = 14,     /* opening an account: the changeover is above 1,000,000 */
     CODER_REFUSED_UNFIT_SAMPLE = 15,   /* noisy samples: one is no number, or no whole number of 256ths from -128 to 128 */
-    CODER_REFUSED_TOO_FAR = 16         /* noisy samples: no frame of the coding set is near */
+    CODER_REFUSED_TOO_FAR = 16,        /* noisy samples: no frame of the coding set is near */
+    CODER_REFUSED_FREE_COUNT = 17      /* more than 4 bits are to be free */
 };
 
 /* The name of the refusal that an answer tells, in the words of the trade; "none" for an answer of 0 or more. */
@@ -205,22 +222,27 @@ CODER_INLINE const char *coder_refusal_name(int64_t answer)
     case CODER_REFUSED_CHANGEOVER: return "changeover";
     case CODER_REFUSED_UNFIT_SAMPLE: return "unfit sample";
     case CODER_REFUSED_TOO_FAR: return "too far";
+    case CODER_REFUSED_FREE_COUNT: return "free count";
     default: return "not known";
     }
 }
 
-/* Sends a message under a number: writes every coordinate of its frame, the first in reading order among the least where the number
- * is even, the last where it is odd. */
-int64_t coder_send(uint8_t kind, uint8_t grade, uint32_t number, const uint8_t *message, size_t message_len, int32_t *frame,
-                   size_t frame_len);
+/* Sends a message under a number, with its last `free` bits left to the sender: writes every coordinate of the frame that some
+ * filling of least energy has under the number. With `free` 0 that is the frame of the message itself: the first in reading order
+ * among the least where the number is even, the last where it is odd. */
+int64_t coder_send(uint8_t kind, uint8_t grade, uint32_t number, uint8_t free, const uint8_t *message, size_t message_len,
+                   int32_t *frame, size_t frame_len);
 
-/* The open reading: takes any frame of the coding set with coordinates in range, and writes every byte of its message. It takes no
- * number: the frames of a message under all numbers are read as the message. */
-int64_t coder_read_open(uint8_t kind, uint8_t grade, const int32_t *frame, size_t frame_len, uint8_t *message, size_t message_len);
+/* The open reading: takes any frame of the coding set with coordinates in range, and writes every byte of its message, the last
+ * `free` bits as 0. It takes no number: the frames of a message under all numbers, and of all its fillings, are read as the
+ * message. */
+int64_t coder_read_open(uint8_t kind, uint8_t grade, uint8_t free, const int32_t *frame, size_t frame_len, uint8_t *message,
+                        size_t message_len);
 
-/* The strict reading under a number: takes the frame alone that coder_send writes under it, and writes every byte of its message. */
-int64_t coder_read_strict(uint8_t kind, uint8_t grade, uint32_t number, const int32_t *frame, size_t frame_len, uint8_t *message,
-                          size_t message_len);
+/* The strict reading under a number: takes the frames alone that coder_send may write under it with the same `free`, which with
+ * `free` 0 is one for each message, and writes every byte of the message, the last `free` bits as 0. */
+int64_t coder_read_strict(uint8_t kind, uint8_t grade, uint32_t number, uint8_t free, const int32_t *frame, size_t frame_len,
+                          uint8_t *message, size_t message_len);
 
 /* The near reading of noisy samples (kinds 3 to 5): finds the frame of the coding set whose squared distance from the samples is below
  * CODER_NEAR_LIMIT(kind), writes every byte of its message, stores the squared distance to `distance`, and answers 0. Where there is
@@ -232,19 +254,20 @@ int64_t coder_read_near(uint8_t kind, uint8_t grade, const float *samples, size_
  * in `kept`, and answers 0. For a changeover above 1,000,000 it answers -14, and leaves zero in each of the four. */
 int64_t coder_open(uint32_t changeover, uint32_t *count, double *sum, uint64_t *largest, uint32_t *kept);
 
-/* Sends, under the number coder_number_at(changeover, *count), and on success adds 1 to the count of frames and the frame's power to
- * the sum of powers, and leaves in `largest` the larger of what stood there and the largest energy of the frame's blocks, by which an
- * output stage is sized. A refusal changes none of the three. The changeover is the one that coder_open left in `kept`, in every call
- * with the account. The sum of an account that grew from its opening is exact, and its `largest` is the largest block energy among
- * the frames counted. One from elsewhere is taken as it comes, with any count, sum, `largest` and changeover. */
-int64_t coder_send_counted(uint8_t kind, uint8_t grade, const uint8_t *message, size_t message_len, int32_t *frame, size_t frame_len,
-                           uint32_t *count, double *sum, uint64_t *largest, uint32_t changeover);
+/* Sends as coder_send does, under the number coder_number_at(changeover, *count), and on success adds 1 to the count of frames and
+ * the frame's power to the sum of powers, and leaves in `largest` the larger of what stood there and the largest energy of the
+ * frame's blocks, by which an output stage is sized. A refusal changes none of the three. The changeover is the one that coder_open
+ * left in `kept`, in every call with the account. The sum of an account that grew from its opening is exact, and its `largest` is
+ * the largest block energy among the frames counted. One from elsewhere is taken as it comes, with any count, sum, `largest` and
+ * changeover. */
+int64_t coder_send_counted(uint8_t kind, uint8_t grade, uint8_t free, const uint8_t *message, size_t message_len, int32_t *frame,
+                           size_t frame_len, uint32_t *count, double *sum, uint64_t *largest, uint32_t changeover);
 
-/* Sends a queue with an account: does what coder_send_counted would do with each message and frame in turn, up to the first message
- * that is refused. Answers 0 where all are sent, or minus the number of the refusal. In every call it leaves the number of messages
- * sent in `sent`, and the account grown by them in the other three, which is as it came where none is sent. The refused message is
- * the one behind those sent: it writes nothing and adds nothing, and what is behind it is not looked at. The refusals 1 to 4 are of
- * the whole queue, and none is sent. A queue of no messages is answered 0, also with a full account. */
+/* Sends a queue with an account: does what coder_send_counted with `free` 0 would do with each message and frame in turn, up to the
+ * first message that is refused. Answers 0 where all are sent, or minus the number of the refusal. In every call it leaves the
+ * number of messages sent in `sent`, and the account grown by them in the other three, which is as it came where none is sent. The
+ * refused message is the one behind those sent: it writes nothing and adds nothing, and what is behind it is not looked at. The
+ * refusals 1 to 4 are of the whole queue, and none is sent. A queue of no messages is answered 0, also with a full account. */
 int64_t coder_send_queue(uint8_t kind, uint8_t grade, const uint8_t *messages, size_t messages_len, int32_t *frames,
                          size_t frames_len, uint32_t *count, double *sum, uint64_t *largest, uint32_t changeover, size_t *sent);
 
@@ -277,19 +300,21 @@ CODER_INLINE uint32_t coder_account_number(const struct coder_account *account)
     return coder_number_at(account->changeover, account->count);
 }
 
-/* coder_send_counted with the account as a struct, and with kind and grade tested before they are narrowed. */
-CODER_INLINE int64_t coder_account_send(struct coder_account *account, int kind, int grade, const uint8_t *message,
+/* coder_send_counted with the account as a struct, and with kind, grade and free count tested before they are narrowed. */
+CODER_INLINE int64_t coder_account_send(struct coder_account *account, int kind, int grade, int free, const uint8_t *message,
                                         size_t message_len, int32_t *frame, size_t frame_len)
 {
     if (coder_frame_length(kind) == 0)
         return -CODER_REFUSED_KIND;
     if (coder_message_length(kind, grade) == 0)
         return -CODER_REFUSED_GRADE;
-    return coder_send_counted((uint8_t)kind, (uint8_t)grade, message, message_len, frame, frame_len, &account->count, &account->sum,
-                              &account->largest, account->changeover);
+    if (free < 0 || free > CODER_MAX_FREE)
+        return -CODER_REFUSED_FREE_COUNT;
+    return coder_send_counted((uint8_t)kind, (uint8_t)grade, (uint8_t)free, message, message_len, frame, frame_len, &account->count,
+                              &account->sum, &account->largest, account->changeover);
 }
 
-/* The same for coder_send_queue; where kind or grade is refused, `sent` is 0. */
+/* The same for coder_send_queue, which takes no free count; where kind or grade is refused, `sent` is 0. */
 CODER_INLINE int64_t coder_account_send_queue(struct coder_account *account, int kind, int grade, const uint8_t *messages,
                                               size_t messages_len, int32_t *frames, size_t frames_len, size_t *sent)
 {

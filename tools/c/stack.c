@@ -1,7 +1,7 @@
 /* Measures the most stack that a call of each function uses: the call is made on a stack that was filled with one byte, and the
  * lowest place that differs afterwards is looked up. Random messages of every kind and grade, 4000 of each, under even and odd numbers
- * by turns, and with each two more behind it as a queue; and of kinds 3 to 5 noisy samples of the frame, near and too far; x86-64
- * Linux.
+ * by turns and with 0 to 4 bits free, and with each two more behind it as a queue; and of kinds 3 to 5 noisy samples of the frame, near
+ * and too far; x86-64 Linux.
  *
  *     cc -I crates/frame_coder tools/c/stack.c target/staticlib/libframe_coder.a -o target/stack && target/stack
  */
@@ -20,8 +20,8 @@ enum { FUNCTIONS = sizeof names / sizeof names[0] };
 
 static unsigned char stack[ROOM];
 static ucontext_t here, there;
-static uint8_t kind, grade, messages[QUEUE * CODER_MAX_MESSAGE_LENGTH];
-static int32_t frames[QUEUE * CODER_MAX_FRAME_LENGTH];
+static uint8_t kind, grade, bits, messages[QUEUE * CODER_MAX_MESSAGE_LENGTH];
+static int32_t frame[CODER_MAX_FRAME_LENGTH], frames[QUEUE * CODER_MAX_FRAME_LENGTH];
 static float samples[CODER_MAX_FRAME_LENGTH];
 static double distance;
 static uint32_t number;
@@ -37,17 +37,17 @@ static void call(void)
     __asm__ volatile("mov %%rsp, %0" : "=r"(top));
     switch (function) {
     case 0: answer = coder_open(0, &account.count, &account.sum, &account.largest, &account.changeover); break;
-    case 1: answer = coder_send(kind, grade, number, messages, bytes, frames, coordinates); break;
+    case 1: answer = coder_send(kind, grade, number, bits, messages, bytes, frame, coordinates); break;
     case 2:
-        answer = coder_send_counted(kind, grade, messages, bytes, frames, coordinates, &account.count, &account.sum,
+        answer = coder_send_counted(kind, grade, bits, messages, bytes, frame, coordinates, &account.count, &account.sum,
                                     &account.largest, account.changeover);
         break;
     case 3:
         answer = coder_send_queue(kind, grade, messages, QUEUE * bytes, frames, QUEUE * coordinates, &account.count, &account.sum,
                                   &account.largest, account.changeover, &sent);
         break;
-    case 4: answer = coder_read_open(kind, grade, frames, coordinates, messages, bytes); break;
-    case 5: answer = coder_read_strict(kind, grade, number, frames, coordinates, messages, bytes); break;
+    case 4: answer = coder_read_open(kind, grade, bits, frame, coordinates, messages, bytes); break;
+    case 5: answer = coder_read_strict(kind, grade, number, bits, frame, coordinates, messages, bytes); break;
     default: answer = coder_read_near(kind, grade, samples, coordinates, messages, bytes, &distance); break;
     }
 }
@@ -82,10 +82,13 @@ int main(void)
                         messages[i] &= 0x0F; /* spare bits */
                 }
                 number = (uint32_t)turn;
+                bits = (uint8_t)(turn / 2 % (CODER_MAX_FREE + 1));
+                for (size_t k = coder_message_bits(kind, grade) - bits; k < coder_message_bits(kind, grade); k++)
+                    messages[k / 8] &= (uint8_t)~(1u << k % 8);
                 for (function = 0; function < FUNCTIONS; function++) {
                     account.count = number; /* its next frame has this number: the account was opened with 0 */
                     for (size_t p = 0; p < coordinates; p++)
-                        samples[p] = (float)frames[p] + (float)(rand() % 193 - 96) / 256;
+                        samples[p] = (float)frame[p] + (float)(rand() % 193 - 96) / 256;
                     size_t now = used();
                     if (answer < 0 && (function < 6 || answer != (kind == 6 ? -CODER_REFUSED_KIND : -CODER_REFUSED_TOO_FAR))) {
                         printf("refused %" PRId64 " (%s)\n", -answer, coder_refusal_name(answer));

@@ -1,8 +1,9 @@
 /* Tests what frame_coder.h, block.h and plain.h promise a C caller beyond the contracts: lengths by kind and grade, refusals and
  * their names, pointers that are not looked at where the length is 0, int arguments, the account as a struct; frames by hand under
  * even and odd numbers, and every frame judged under its own number and under others; accounts opened, and across their changeover;
- * queues against sending one by one; and noisy samples, near and too far, unfit and refused in their order. Every buffer is on the
- * heap with its exact length, so that valgrind sees a byte too far. It ends with status 1 where something differs. */
+ * messages with free bits against their fillings; queues against sending one by one; and noisy samples, near and too far, unfit and
+ * refused in their order. Every buffer is on the heap with its exact length, so that valgrind sees a byte too far. It ends with
+ * status 1 where something differs. */
 #include <inttypes.h>
 #include <stdio.h>
 #include <stdlib.h>
@@ -91,17 +92,17 @@ static void judge(int kind, int grade, uint32_t number, const uint8_t *message, 
     const uint32_t others[] = {number, number + 1, number ^ UINT32_C(0x80000000), ~number};
     uint8_t *back = (uint8_t *)unset(bytes), *kept = (uint8_t *)room(bytes);
     int32_t *again = (int32_t *)unset(size);
-    expect("judged, open", kind, grade, coder_read_open(k, g, frame, coordinates, back, bytes), energy);
+    expect("judged, open", kind, grade, coder_read_open(k, g, 0, frame, coordinates, back, bytes), energy);
     expect("judged, open message", kind, grade, memcmp(back, message, bytes), 0);
     for (size_t i = 0; i < sizeof others / sizeof others[0]; i++) {
         const uint32_t other = others[i];
-        expect("judged, again", kind, grade, coder_send(k, g, other, message, bytes, again, coordinates), energy);
+        expect("judged, again", kind, grade, coder_send(k, g, other, 0, message, bytes, again, coordinates), energy);
         const int own = memcmp(again, frame, size) == 0;
         if (other % 2 == number % 2)
             expect("judged, same rule", kind, grade, own, 1);
         memset(back, 0xA5, bytes);
         memset(kept, 0xA5, bytes);
-        expect("judged, strict", kind, grade, coder_read_strict(k, g, other, frame, coordinates, back, bytes),
+        expect("judged, strict", kind, grade, coder_read_strict(k, g, other, 0, frame, coordinates, back, bytes),
                own ? energy : -CODER_REFUSED_UNSHAPED);
         expect("judged, strict message", kind, grade, memcmp(back, own ? message : kept, bytes), 0);
     }
@@ -136,15 +137,15 @@ static void empty(int kind, int grade, void *nowhere)
     int32_t *frame = (int32_t *)room(coordinates * sizeof *frame), *gone = (int32_t *)nowhere;
     const struct coder_account before = strange_account(5, 5);
     struct coder_account account = before;
-    expect("send, no message", kind, grade, coder_send(k, g, 0, lost, 0, frame, coordinates), no_message);
-    expect("send, no frame", kind, grade, coder_send(k, g, 1, message, bytes, gone, 0), no_frame);
-    expect("send, neither", kind, grade, coder_send(k, g, UINT32_MAX, lost, 0, gone, 0), no_message);
-    expect("open, no frame", kind, grade, coder_read_open(k, g, gone, 0, message, bytes), no_frame);
-    expect("open, no message", kind, grade, coder_read_open(k, g, frame, coordinates, lost, 0), no_message);
-    expect("open, neither", kind, grade, coder_read_open(k, g, gone, 0, lost, 0), no_frame);
-    expect("strict, no frame", kind, grade, coder_read_strict(k, g, 0, gone, 0, message, bytes), no_frame);
-    expect("strict, no message", kind, grade, coder_read_strict(k, g, 1, frame, coordinates, lost, 0), no_message);
-    expect("strict, neither", kind, grade, coder_read_strict(k, g, UINT32_MAX, gone, 0, lost, 0), no_frame);
+    expect("send, no message", kind, grade, coder_send(k, g, 0, 0, lost, 0, frame, coordinates), no_message);
+    expect("send, no frame", kind, grade, coder_send(k, g, 1, 0, message, bytes, gone, 0), no_frame);
+    expect("send, neither", kind, grade, coder_send(k, g, UINT32_MAX, 0, lost, 0, gone, 0), no_message);
+    expect("open, no frame", kind, grade, coder_read_open(k, g, 0, gone, 0, message, bytes), no_frame);
+    expect("open, no message", kind, grade, coder_read_open(k, g, 0, frame, coordinates, lost, 0), no_message);
+    expect("open, neither", kind, grade, coder_read_open(k, g, 0, gone, 0, lost, 0), no_frame);
+    expect("strict, no frame", kind, grade, coder_read_strict(k, g, 0, 0, gone, 0, message, bytes), no_frame);
+    expect("strict, no message", kind, grade, coder_read_strict(k, g, 1, 0, frame, coordinates, lost, 0), no_message);
+    expect("strict, neither", kind, grade, coder_read_strict(k, g, UINT32_MAX, 0, gone, 0, lost, 0), no_frame);
     const int near_early = coordinates == 0 || kind == 6 ? -CODER_REFUSED_KIND : early != 0 ? -early : 0;
     const int no_bytes = near_early != 0 ? near_early : -CODER_REFUSED_MESSAGE_LENGTH;
     const int no_samples = near_early != 0 ? near_early : -CODER_REFUSED_FRAME_LENGTH;
@@ -158,13 +159,13 @@ static void empty(int kind, int grade, void *nowhere)
     free(samples);
     free(distance);
     expect("counted, no message", kind, grade,
-           coder_send_counted(k, g, lost, 0, frame, coordinates, &account.count, &account.sum, &account.largest, account.changeover),
+           coder_send_counted(k, g, 0, lost, 0, frame, coordinates, &account.count, &account.sum, &account.largest, account.changeover),
            no_message);
-    expect("account, no frame", kind, grade, coder_account_send(&account, kind, grade, message, bytes, gone, 0), no_frame);
-    expect("account, kind", kind, grade, coder_account_send(&account, kind + 256, grade, message, bytes, frame, coordinates),
+    expect("account, no frame", kind, grade, coder_account_send(&account, kind, grade, 0, message, bytes, gone, 0), no_frame);
+    expect("account, kind", kind, grade, coder_account_send(&account, kind + 256, grade, 0, message, bytes, frame, coordinates),
            -CODER_REFUSED_KIND);
     if (coordinates != 0)
-        expect("account, grade", kind, grade, coder_account_send(&account, kind, grade - 256, message, bytes, frame, coordinates),
+        expect("account, grade", kind, grade, coder_account_send(&account, kind, grade - 256, 0, message, bytes, frame, coordinates),
                -CODER_REFUSED_GRADE);
     expect("account kept", kind, grade, same_account(account, before), 1);
     if (early == 0) {
@@ -200,13 +201,13 @@ static void elsewhere(int kind, int grade, const uint8_t *message, size_t bytes,
                                             figures[i] < block ? block : figures[i], changeover};
         const struct coder_account full = {CODER_MAX_COUNT, 0.25, figures[i], changeover};
         struct coder_account account = last;
-        expect("last", kind, grade, coder_account_send(&account, kind, grade, message, bytes, frame, coordinates), energy);
+        expect("last", kind, grade, coder_account_send(&account, kind, grade, 0, message, bytes, frame, coordinates), energy);
         expect("last account", kind, grade, same_account(account, grown), 1);
         if (i < 2) /* under 999999, and under 0 */
             judge(kind, grade, coder_account_number(&last), message, frame, energy);
         account = full;
         memset(frame, 0x5A, coordinates * sizeof *frame);
-        expect("full", kind, grade, coder_account_send(&account, kind, grade, message, bytes, frame, coordinates),
+        expect("full", kind, grade, coder_account_send(&account, kind, grade, 0, message, bytes, frame, coordinates),
                -CODER_REFUSED_ACCOUNT_FULL);
         expect("full account", kind, grade, same_account(account, full), 1);
         int64_t changed = 0;
@@ -230,7 +231,7 @@ static void there_and_back(int kind, int grade)
     fill_one(kind, grade, message);
     expect("opened", kind, grade, coder_account_open(&account, rand() % 3), 0);
     const uint32_t changeover = account.changeover;
-    const int64_t answer = coder_account_send(&account, kind, grade, message, bytes, frame, coordinates);
+    const int64_t answer = coder_account_send(&account, kind, grade, 0, message, bytes, frame, coordinates);
     for (size_t p = 0; p < coordinates; p++) {
         energy += (int64_t)frame[p] * frame[p];
         block = (p % 8 == 0 ? 0 : block) + (uint64_t)((int64_t)frame[p] * frame[p]);
@@ -245,7 +246,7 @@ static void there_and_back(int kind, int grade)
     int32_t *plain = (int32_t *)unset(coordinates * sizeof *plain);
     const uint32_t any = (uint32_t)rand();
     for (uint32_t number = any; number - any < 2; number++) {
-        expect("under a number", kind, grade, coder_send(k, g, number, message, bytes, frame, coordinates), energy);
+        expect("under a number", kind, grade, coder_send(k, g, number, 0, message, bytes, frame, coordinates), energy);
         judge(kind, grade, number, message, frame, energy);
         expect("mask test", kind, grade, plain_send(k, g, number, message, bytes, plain, coordinates), energy);
         expect("mask test, frame", kind, grade, memcmp(plain, frame, coordinates * sizeof *frame), 0);
@@ -256,7 +257,7 @@ static void there_and_back(int kind, int grade)
         memcpy(kept, frame, coordinates * sizeof *kept);
         message[bytes - 1] |= 0x80;
         for (uint32_t other = 0; other < 2; other++) {
-            expect("spare", kind, grade, coder_send(k, g, other, message, bytes, frame, coordinates), -CODER_REFUSED_SPARE_BITS);
+            expect("spare", kind, grade, coder_send(k, g, other, 0, message, bytes, frame, coordinates), -CODER_REFUSED_SPARE_BITS);
             expect("mask test, spare", kind, grade, plain_send(k, g, other, message, bytes, frame, coordinates),
                    -CODER_REFUSED_SPARE_BITS);
         }
@@ -291,13 +292,160 @@ static void by_hand(void)
         memcpy(message, cases[i].message, bytes);
         for (size_t j = 0; j < sizeof numbers / sizeof numbers[0]; j++) {
             int32_t *frame = (int32_t *)unset(coordinates * sizeof *frame);
-            expect("by hand", kind, 1, coder_send((uint8_t)kind, 1, numbers[j], message, bytes, frame, coordinates), cases[i].energy);
+            expect("by hand", kind, 1, coder_send((uint8_t)kind, 1, numbers[j], 0, message, bytes, frame, coordinates), cases[i].energy);
             const int32_t *own = numbers[j] % 2 == 0 ? cases[i].even : cases[i].odd;
             expect("by hand, frame", kind, 1, memcmp(frame, own, coordinates * sizeof *frame), 0);
             judge(kind, 1, numbers[j], message, frame, cases[i].energy);
             free(frame);
         }
         free(message);
+    }
+}
+
+/* Sets the last bits of a message, so many of them, to a filling, lowest bit first. */
+static void set_filling(int kind, int grade, int bits, int filling, uint8_t *message)
+{
+    const size_t from = coder_message_bits(kind, grade) - (size_t)bits;
+    for (size_t t = 0; t < (size_t)bits; t++) {
+        const uint8_t bit = (uint8_t)(1u << (from + t) % 8);
+        if (filling >> t & 1)
+            message[(from + t) / 8] |= bit;
+        else
+            message[(from + t) / 8] &= (uint8_t)~bit;
+    }
+}
+
+/* Every frame of a filling is read as the message with its free bits 0: openly, and strictly where it has the least energy. */
+static void read_filling(int kind, int grade, uint32_t number, int bits, const uint8_t *message, const int32_t *frame, int64_t energy,
+                         int least)
+{
+    const uint8_t k = (uint8_t)kind, g = (uint8_t)grade, f = (uint8_t)bits;
+    const size_t bytes = coder_message_length(kind, grade), coordinates = coder_frame_length(kind);
+    uint8_t *back = (uint8_t *)unset(bytes), *kept = (uint8_t *)room(bytes);
+    expect("filling, open", kind, grade, coder_read_open(k, g, f, frame, coordinates, back, bytes), energy);
+    expect("filling, open message", kind, grade, memcmp(back, message, bytes), 0);
+    memset(back, 0xA5, bytes);
+    memset(kept, 0xA5, bytes);
+    expect("filling, strict", kind, grade, coder_read_strict(k, g, number, f, frame, coordinates, back, bytes),
+           least ? energy : -CODER_REFUSED_UNSHAPED);
+    expect("filling, strict message", kind, grade, memcmp(back, least ? message : kept, bytes), 0);
+    free(back);
+    free(kept);
+}
+
+/* A message with so many bits free, against its fillings sent by themselves: sent is the frame of one of least energy, alone and with an
+ * account, which grows by it as by any other; and each is read. With a free bit set it is refused. */
+static void quiet(int kind, int grade, uint32_t number, int bits, const uint8_t *given)
+{
+    const uint8_t k = (uint8_t)kind, g = (uint8_t)grade, f = (uint8_t)bits;
+    const size_t bytes = coder_message_length(kind, grade), coordinates = coder_frame_length(kind);
+    const size_t size = coordinates * sizeof(int32_t);
+    uint8_t *message = (uint8_t *)room(bytes), *filled = (uint8_t *)room(bytes);
+    int32_t *frame = (int32_t *)unset(size), *counted = (int32_t *)unset(size), *own = (int32_t *)unset(size);
+    memcpy(message, given, bytes);
+    set_filling(kind, grade, bits, 0, message);
+    memcpy(filled, message, bytes);
+    const int64_t energy = coder_send(k, g, number, f, message, bytes, frame, coordinates);
+    const struct coder_account before = {number % 1000, 0.25, 3, 0}; /* its next frame has a number of the same parity */
+    struct coder_account account = before;
+    expect("quiet, account", kind, grade, coder_account_send(&account, kind, grade, bits, message, bytes, counted, coordinates), energy);
+    int64_t least = INT64_MAX, found = 0, again = 0;
+    uint64_t block = 0, largest = before.largest;
+    for (int filling = 0; filling < 1 << bits; filling++) {
+        set_filling(kind, grade, bits, filling, filled);
+        const int64_t one = coder_send(k, g, number, 0, filled, bytes, own, coordinates);
+        least = one < least ? one : least;
+        found += one == energy && memcmp(own, frame, size) == 0;
+        again += one == energy && memcmp(own, counted, size) == 0;
+        read_filling(kind, grade, number, bits, message, own, one, one == energy);
+    }
+    expect("quiet, energy", kind, grade, energy, least);
+    expect("quiet, frame", kind, grade, found, 1);
+    expect("quiet, frame with an account", kind, grade, again, 1);
+    for (size_t p = 0; p < coordinates; p++) {
+        block = (p % 8 == 0 ? 0 : block) + (uint64_t)((int64_t)counted[p] * counted[p]);
+        largest = block > largest ? block : largest;
+    }
+    const struct coder_account grown = {before.count + 1, 0.25 + (double)energy / (double)coordinates, largest, 0};
+    expect("quiet, account grown", kind, grade, same_account(account, grown), 1);
+    read_filling(kind, grade, number, bits, message, frame, energy, 1);
+    for (int t = 0; t < bits; t++) {
+        set_filling(kind, grade, bits, 1 << t, filled);
+        memcpy(own, frame, size);
+        account = before;
+        expect("free bit set", kind, grade, coder_send(k, g, number, f, filled, bytes, own, coordinates), -CODER_REFUSED_SPARE_BITS);
+        expect("free bit set, account", kind, grade,
+               coder_account_send(&account, kind, grade, bits, filled, bytes, own, coordinates), -CODER_REFUSED_SPARE_BITS);
+        expect("free bit set, frame", kind, grade, memcmp(own, frame, size), 0);
+        expect("free bit set, account kept", kind, grade, same_account(account, before), 1);
+    }
+    free(message);
+    free(filled);
+    free(frame);
+    free(counted);
+    free(own);
+}
+
+/* Free counts above 4, which come before all but kind and grade; and ints that would be good ones if they were narrowed. */
+static void free_counts(int kind, int grade)
+{
+    static const int counts[] = {5, 6, 8, 127, 128, 255, 256, 260, -1, -252, -256, INT32_MAX};
+    const uint8_t k = (uint8_t)kind, g = (uint8_t)grade;
+    const size_t bytes = coder_message_length(kind, grade), coordinates = coder_frame_length(kind);
+    const struct coder_account before = strange_account(CODER_MAX_COUNT, 7);
+    uint8_t *message = (uint8_t *)room(bytes + 1);
+    int32_t *frame = (int32_t *)room((coordinates + 1) * sizeof *frame);
+    memset(message, 0xFF, bytes + 1);
+    for (size_t i = 0; i < sizeof counts / sizeof counts[0]; i++)
+        for (size_t over = 0; over < 2; over++) {
+            const size_t m = bytes + over, n = coordinates + over;
+            struct coder_account account = before;
+            expect("free count, account", kind, grade, coder_account_send(&account, kind, grade, counts[i], message, m, frame, n),
+                   -CODER_REFUSED_FREE_COUNT);
+            expect("free count, kind", kind, grade, coder_account_send(&account, kind + 4, grade, counts[i], message, m, frame, n),
+                   -CODER_REFUSED_KIND);
+            expect("free count, grade", kind, grade, coder_account_send(&account, kind, grade + 4, counts[i], message, m, frame, n),
+                   -CODER_REFUSED_GRADE);
+            expect("free count, account kept", kind, grade, same_account(account, before), 1);
+            if (counts[i] < 0 || counts[i] > 255)
+                continue;
+            const uint8_t f = (uint8_t)counts[i];
+            expect("free count, send", kind, grade, coder_send(k, g, 1, f, message, m, frame, n), -CODER_REFUSED_FREE_COUNT);
+            expect("free count, open", kind, grade, coder_read_open(k, g, f, frame, n, message, m), -CODER_REFUSED_FREE_COUNT);
+            expect("free count, strict", kind, grade, coder_read_strict(k, g, 0, f, frame, n, message, m),
+                   -CODER_REFUSED_FREE_COUNT);
+            expect("free count, kind", kind, grade, coder_send((uint8_t)(k + 4), g, 1, f, message, m, frame, n), -CODER_REFUSED_KIND);
+            expect("free count, grade", kind, grade, coder_read_open(k, (uint8_t)(g + 4), f, frame, n, message, m),
+                   -CODER_REFUSED_GRADE);
+        }
+    int64_t changed = 0;
+    for (size_t p = 0; p <= coordinates; p++)
+        changed += frame[p] != 0;
+    for (size_t i = 0; i <= bytes; i++)
+        changed += message[i] != 0xFF;
+    expect("free count, kept", kind, grade, changed, 0);
+    free(message);
+    free(frame);
+}
+
+/* Free bits by hand: 12 00 at kind 3, grade 1, whose fillings with two bits free have the energies 12, 4, 4 and 12. */
+static void quiet_by_hand(void)
+{
+    static const uint8_t message[2] = {0x12, 0x00};
+    static const int32_t frames[2][8] = {{0, -1, 0, 1, 0, 1, 0, -1}, {0, -1, 0, 1, 0, 1, 0, 1}};
+    static const int64_t energies[4] = {12, 4, 4, 12};
+    for (uint32_t number = 0; number < 2; number++) {
+        int32_t frame[8];
+        expect("quiet by hand", 3, 1, coder_send(3, 1, number, 2, message, 2, frame, 8), 4);
+        expect("quiet by hand, frame", 3, 1, !memcmp(frame, frames[0], sizeof frame) + !memcmp(frame, frames[1], sizeof frame), 1);
+        for (int filling = 0; filling < 4; filling++) {
+            uint8_t filled[2] = {0x12, 0x00};
+            set_filling(3, 1, 2, filling, filled);
+            expect("filling by hand", 3, 1, coder_send(3, 1, number, 0, filled, 2, frame, 8), energies[filling]);
+            if (filling == 1 || filling == 2)
+                expect("filling by hand, frame", 3, 1, memcmp(frame, frames[filling - 1], sizeof frame), 0);
+            read_filling(3, 1, number, 2, message, frame, energies[filling], filling == 1 || filling == 2);
+        }
     }
 }
 
@@ -355,11 +503,11 @@ static void across(int kind, int grade)
             const uint32_t number = i < changeover ? 0 : i;
             expect("number", kind, grade, coder_account_number(&account), number);
             expect("number at", kind, grade, coder_number_at(changeover, i), number);
-            expect("refused", kind, grade, coder_account_send(&account, kind, grade, message, bytes, frame, coordinates + 1),
+            expect("refused", kind, grade, coder_account_send(&account, kind, grade, 0, message, bytes, frame, coordinates + 1),
                    -CODER_REFUSED_FRAME_LENGTH);
-            const int64_t energy = coder_account_send(&old, kind, grade, message, bytes, frame, coordinates);
+            const int64_t energy = coder_account_send(&old, kind, grade, 0, message, bytes, frame, coordinates);
             judge(kind, grade, 0, message, frame, energy);
-            expect("across", kind, grade, coder_account_send(&account, kind, grade, message, bytes, frame, coordinates), energy);
+            expect("across", kind, grade, coder_account_send(&account, kind, grade, 0, message, bytes, frame, coordinates), energy);
             judge(kind, grade, number, message, frame, energy);
             expect("old changeover", kind, grade, old.changeover, CODER_MAX_COUNT);
             old.changeover = changeover;
@@ -382,10 +530,10 @@ static void broken(int grade)
     int32_t *frame = (int32_t *)room(CODER_FRAME_LENGTH(6) * sizeof *frame);
     for (int x = 0; x < 8; x++) {
         frame[63] = x;
-        expect("broken, open", 6, grade, coder_read_open(6, (uint8_t)grade, frame, CODER_FRAME_LENGTH(6), message, bytes), -numbers[x]);
+        expect("broken, open", 6, grade, coder_read_open(6, (uint8_t)grade, 0, frame, CODER_FRAME_LENGTH(6), message, bytes), -numbers[x]);
         for (uint32_t number = 0; number < 2; number++)
             expect("broken, strict", 6, grade,
-                   coder_read_strict(6, (uint8_t)grade, number, frame, CODER_FRAME_LENGTH(6), message, bytes), -numbers[x]);
+                   coder_read_strict(6, (uint8_t)grade, number, 0, frame, CODER_FRAME_LENGTH(6), message, bytes), -numbers[x]);
     }
     free(message);
     free(frame);
@@ -419,7 +567,7 @@ static void in_turn(int kind, int grade, size_t number, size_t bad, const struct
     memset(set, 0x5A, size);
     for (size_t i = 0; i < number && i <= stop; i++) {
         const int64_t answer =
-            coder_account_send(&by_one, kind, grade, messages + i * bytes, bytes, one + i * coordinates, coordinates);
+            coder_account_send(&by_one, kind, grade, 0, messages + i * bytes, bytes, one + i * coordinates, coordinates);
         expect("one by one", kind, grade, answer < 0 ? answer : 0, i < stop ? 0 : expected);
         if (answer >= 0)
             judge(kind, grade, coder_number_at(before.changeover, before.count + (uint32_t)i), messages + i * bytes,
@@ -554,7 +702,7 @@ static void near_and_far(int kind, int grade)
     int32_t *frame = (int32_t *)unset(n * sizeof *frame);
     int noise[CODER_MAX_FRAME_LENGTH];
     fill_one(kind, grade, message);
-    expect("near, sent", kind, grade, coder_send(k, g, (uint32_t)rand(), message, bytes, frame, n) >= 0, 1);
+    expect("near, sent", kind, grade, coder_send(k, g, (uint32_t)rand(), 0, message, bytes, frame, n) >= 0, 1);
     noisy(kind, grade, message, frame, 0, noise, 0);
     noise[0] = rand() % 2 ? most[kind - 3] : -most[kind - 3];
     noisy(kind, grade, message, frame, place, noise, 1);
@@ -652,8 +800,8 @@ int main(void)
 
     static const char *const names[] = {"none", "kind", "grade", "message length", "frame length", "spare bits", "over range",
                                         "broken level 0", "broken level 1", "unshaped", "not known", "account full", "not known",
-                                        "broken level 2", "changeover", "unfit sample", "too far", "not known"};
-    for (int number = 0; number <= 17; number++)
+                                        "broken level 2", "changeover", "unfit sample", "too far", "free count", "not known"};
+    for (int number = 0; number <= 18; number++)
         expect("name", 0, number, strcmp(coder_refusal_name(-number), names[number]), 0);
 
     void *const nowhere[] = {NULL, (void *)1, (void *)UINTPTR_MAX};
@@ -673,6 +821,17 @@ int main(void)
         for (int kind = 3; kind <= 6; kind++)
             for (int grade = 1; grade <= 4; grade++)
                 there_and_back(kind, grade);
+    quiet_by_hand();
+    for (int kind = 3; kind <= 6; kind++)
+        for (int grade = 1; grade <= 4; grade++) {
+            uint8_t message[CODER_MAX_MESSAGE_LENGTH];
+            free_counts(kind, grade);
+            for (int turn = 0; turn < 20; turn++)
+                for (int bits = 0; bits <= CODER_MAX_FREE; bits++) {
+                    fill_one(kind, grade, message);
+                    quiet(kind, grade, (uint32_t)rand(), bits, message);
+                }
+        }
     for (int grade = 1; grade <= 4; grade++)
         broken(grade);
     for (int kind = 3; kind <= 6; kind++)

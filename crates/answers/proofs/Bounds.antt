@@ -11,14 +11,15 @@ use lib.IntN.{ℤ, pos, negsuc, negℤ, natAbs}
 use lib.Ieee.{Float}
 use borrow.Author.Tests.{eqb-true, eq-eqb, ne-eqb}
 use Rattle.e8.specs.Energy.{energy}
-use Rattle.frames.specs.Frame.{numberedFrame}
-use Rattle.frames.specs.Sending.{sendRefusal, energySent, LeastEnergy}
+use Rattle.frames.specs.Free.{quietEnergy}
+use Rattle.frames.specs.Sending.{sendRefusal, QuietAfter, energySent, LeastOfFillings}
 use Rattle.frames.specs.Reading.{openRefusal, strictRefusal, energyRead}
 use Rattle.frames.proofs.Accepted.{all-passed}
 use Rattle.frames.proofs.Refusals.{accepted, range-within}
 use Rattle.frames.proofs.Limits.{few-positions}
-use Rattle.frames.proofs.Bounds.{short-energy, sent-energy}
-use Rattle.frames.proofs.Reading.{strict-passed}
+use Rattle.frames.proofs.Bounds.{short-energy}
+use Rattle.free_bits.proofs.ReadBack.{quiet-energy-small}
+use Rattle.free_bits.proofs.Strict.{strict-passed}
 use Rattle.power_account.specs.declared.Account.{Account}
 use Rattle.power_account.specs.Counted.{numberFor, countedRefusal}
 use Rattle.power_account.proofs.Answers.{passed}
@@ -41,64 +42,75 @@ is-negative : ℤ → ℕ
 is-negative (pos n) = 0
 is-negative (negsuc n) = 1
 
-pub least-answer : (k b : ℕ) (f : List ℤ) (refusal e : ℕ) → (refusal ≡ 0 → LeastEnergy k b f e)
-    → (r : ℤ) → r ≡ answerOf refusal e → (e′ : ℕ) → r ≡ pos e′ → LeastEnergy k b f e′
-unfolding answerOf is-negative
-least-answer k b f zero e h r q e′ p = subst (LeastEnergy k b f) (ap natAbs (sym q ∙ p)) (h refl)
-least-answer k b f (suc n) e h r q e′ p =
-    let is = q ∙ ap (λ (t : Bool). cond t (pos e) (negsuc n)) (ne-eqb (suc n) 0 (λ z. omega (arith, z))) in
-    let o : _≡_ {A = ℕ} 1 0 = ap is-negative (sym is ∙ p) in
-    absurd (omega (arith, o))
+module _ (k b f number : ℕ) (bytes : List ℕ) (frame : List ℤ) where
+  pub least-answer : (refusal e : ℕ) → (refusal ≡ 0 → LeastOfFillings k b f number bytes frame e)
+      → (r : ℤ) → r ≡ answerOf refusal e → (e′ : ℕ) → r ≡ pos e′ → LeastOfFillings k b f number bytes frame e′
+  unfolding answerOf is-negative
+  least-answer zero e h r q e′ p = subst (LeastOfFillings k b f number bytes frame) (ap natAbs (sym q ∙ p)) (h refl)
+  least-answer (suc n) e h r q e′ p =
+      let is = q ∙ ap (λ (t : Bool). cond t (pos e) (negsuc n)) (ne-eqb (suc n) 0 (λ z. omega (arith, z))) in
+      let o : _≡_ {A = ℕ} 1 0 = ap is-negative (sym is ∙ p) in
+      absurd (omega (arith, o))
 
-pub send-answer : (refusal k b number : ℕ) (bytes : List ℕ) (n : ℕ) → refusal ≡ sendRefusal k b bytes n
-    → answerOf refusal (energySent refusal k b number bytes) ≡ sendAnswer k b number bytes n
+-- what is left, by the refusal under another name
+pub quiet-as : (k b f number : ℕ) (bytes : List ℕ) (before after : List ℤ) {refusal other : ℕ} → refusal ≡ other
+    → QuietAfter refusal k b f number bytes before after → QuietAfter other k b f number bytes before after
+quiet-as k b f number bytes before after e q = subst (λ (n : ℕ). QuietAfter n k b f number bytes before after) e q
+
+pub send-answer : (refusal k b f number : ℕ) (bytes : List ℕ) (n : ℕ) → refusal ≡ sendRefusal k b f bytes n
+    → answerOf refusal (energySent refusal k b f number bytes) ≡ sendAnswer k b f number bytes n
 unfolding sendAnswer energySent
-send-answer refusal k b number bytes n e = answer-is refusal (energy (numberedFrame k b number bytes)) ∙ ap (λ (m : ℕ). answerOf m (energy (numberedFrame k b number bytes))) e
+send-answer refusal k b f number bytes n e =
+    answer-is refusal (quietEnergy k b f number bytes) ∙ ap (λ (m : ℕ). answerOf m (quietEnergy k b f number bytes)) e
 
-pub open-answer : (refusal k b : ℕ) (f : List ℤ) (n : ℕ) → refusal ≡ openRefusal k b f n → answerOf refusal (energyRead refusal f) ≡ openAnswer k b f n
+pub open-answer : (refusal k b f : ℕ) (frame : List ℤ) (n : ℕ) → refusal ≡ openRefusal k b f frame n
+    → answerOf refusal (energyRead refusal frame) ≡ openAnswer k b f frame n
 unfolding openAnswer energyRead
-open-answer refusal k b f n e = answer-is refusal (energy f) ∙ ap (λ (m : ℕ). answerOf m (energy f)) e
+open-answer refusal k b f frame n e = answer-is refusal (energy frame) ∙ ap (λ (m : ℕ). answerOf m (energy frame)) e
 
-pub strict-answer : (refusal k b number : ℕ) (f : List ℤ) (n : ℕ) → refusal ≡ strictRefusal k b number f n → answerOf refusal (energyRead refusal f) ≡ strictAnswer k b number f n
+pub strict-answer : (refusal k b f number : ℕ) (frame : List ℤ) (n : ℕ) → refusal ≡ strictRefusal k b f number frame n
+    → answerOf refusal (energyRead refusal frame) ≡ strictAnswer k b f number frame n
 unfolding strictAnswer energyRead
-strict-answer refusal k b number f n e = answer-is refusal (energy f) ∙ ap (λ (m : ℕ). answerOf m (energy f)) e
+strict-answer refusal k b f number frame n e = answer-is refusal (energy frame) ∙ ap (λ (m : ℕ). answerOf m (energy frame)) e
 
 -- an answer that is 0 unless a test is passed
 either : (t : Bool) (e B : ℕ) → (t ≡ true → e ≤ B) → cond t e 0 ≤ B
 either true e B h = h refl
 either false e B h = omega arith
 
-pub sent-fits : (refusal k b number : ℕ) (bytes : List ℕ) (n : ℕ) → refusal ≡ sendRefusal k b bytes n → energySent refusal k b number bytes ≤ 2 ^ 46
+pub sent-fits : (refusal k b f number : ℕ) (bytes : List ℕ) (n : ℕ) → refusal ≡ sendRefusal k b f bytes n → energySent refusal k b f number bytes ≤ 2 ^ 46
 unfolding energySent
-sent-fits refusal k b number bytes n e = either (eqb refusal 0) (energy (numberedFrame k b number bytes)) (2 ^ 46) (λ t.
-    let p = all-passed k b bytes n (sym e ∙ eqb-true refusal 0 t) in
-    omega (arith, sent-energy k b number bytes (p .kind) (p .grade)))
+sent-fits refusal k b f number bytes n e = either (eqb refusal 0) (quietEnergy k b f number bytes) (2 ^ 46) (λ t.
+    let p = all-passed k b f bytes n (sym e ∙ eqb-true refusal 0 t) in
+    omega (arith, quiet-energy-small k b f (p .kind) (p .grade) (p .few) number bytes))
 
-taken-energy : (k b : ℕ) (f : List ℤ) (n : ℕ) → openRefusal k b f n ≡ 0 → energy f ≤ 2 ^ 46
-taken-energy k b f n e =
-    let a = accepted k b f n e in
-    omega (arith, short-energy 64 1048576 f (omega (arith, a .coordinates, few-positions k (a .kind))) (range-within f (a .range)))
+taken-energy : (k b f : ℕ) (frame : List ℤ) (n : ℕ) → openRefusal k b f frame n ≡ 0 → energy frame ≤ 2 ^ 46
+taken-energy k b f frame n e =
+    let a = accepted k b f frame n e in
+    omega (arith, short-energy 64 1048576 frame (omega (arith, a .coordinates, few-positions k (a .kind))) (range-within frame (a .range)))
 
-pub open-fits : (refusal k b : ℕ) (f : List ℤ) (n : ℕ) → refusal ≡ openRefusal k b f n → energyRead refusal f ≤ 2 ^ 46
+pub open-fits : (refusal k b f : ℕ) (frame : List ℤ) (n : ℕ) → refusal ≡ openRefusal k b f frame n → energyRead refusal frame ≤ 2 ^ 46
 unfolding energyRead
-open-fits refusal k b f n e = either (eqb refusal 0) (energy f) (2 ^ 46) (λ t. taken-energy k b f n (sym e ∙ eqb-true refusal 0 t))
+open-fits refusal k b f frame n e = either (eqb refusal 0) (energy frame) (2 ^ 46) (λ t. taken-energy k b f frame n (sym e ∙ eqb-true refusal 0 t))
 
-pub strict-fits : (refusal k b number : ℕ) (f : List ℤ) (n : ℕ) → refusal ≡ strictRefusal k b number f n → energyRead refusal f ≤ 2 ^ 46
+pub strict-fits : (refusal k b f number : ℕ) (frame : List ℤ) (n : ℕ) → refusal ≡ strictRefusal k b f number frame n → energyRead refusal frame ≤ 2 ^ 46
 unfolding energyRead
-strict-fits refusal k b number f n e = either (eqb refusal 0) (energy f) (2 ^ 46) (λ t. taken-energy k b f n (strict-passed k b number f n (sym e ∙ eqb-true refusal 0 t) .0))
+strict-fits refusal k b f number frame n e =
+    either (eqb refusal 0) (energy frame) (2 ^ 46) (λ t. taken-energy k b f frame n (strict-passed k b f number frame n (sym e ∙ eqb-true refusal 0 t) .0))
 
 -- ---- sending with an account: the energy and the answer, by the refusal refusal
 
-module _ (k b : ℕ) (bytes : List ℕ) (n : ℕ) (a : Account) (refusal : ℕ) (is : refusal ≡ countedRefusal k b bytes n a) where
-  pub counted-fits : energySent refusal k b (numberFor a) bytes ≤ 2 ^ 46
+module _ (k b f : ℕ) (bytes : List ℕ) (n : ℕ) (a : Account) (refusal : ℕ) (is : refusal ≡ countedRefusal k b f bytes n a) where
+  pub counted-fits : energySent refusal k b f (numberFor a) bytes ≤ 2 ^ 46
   unfolding energySent
-  counted-fits = either (eqb refusal 0) (energy (numberedFrame k b (numberFor a) bytes)) (2 ^ 46) (λ t.
-      let p = all-passed k b bytes n (passed k b bytes n a refusal is (λ l. eqb-true refusal 0 t)) in
-      omega (arith, sent-energy k b (numberFor a) bytes (p .kind) (p .grade)))
+  counted-fits = either (eqb refusal 0) (quietEnergy k b f (numberFor a) bytes) (2 ^ 46) (λ t.
+      let p = all-passed k b f bytes n (passed k b f bytes n a (sym is ∙ eqb-true refusal 0 t)) in
+      omega (arith, quiet-energy-small k b f (p .kind) (p .grade) (p .few) (numberFor a) bytes))
 
-  pub counted-answer : answerOf refusal (energySent refusal k b (numberFor a) bytes) ≡ countedAnswer k b bytes n a
+  pub counted-answer : answerOf refusal (energySent refusal k b f (numberFor a) bytes) ≡ countedAnswer k b f bytes n a
   unfolding countedAnswer energySent
-  counted-answer = answer-is refusal (energy (numberedFrame k b (numberFor a) bytes)) ∙ ap (λ (m : ℕ). answerOf m (energy (numberedFrame k b (numberFor a) bytes))) is
+  counted-answer =
+      answer-is refusal (quietEnergy k b f (numberFor a) bytes) ∙ ap (λ (m : ℕ). answerOf m (quietEnergy k b f (numberFor a) bytes)) is
 
 -- an account of a changeover, from its three other numbers
 pub account-of : (a : Account) (changeover : ℕ) → a .changeover ≡ changeover → accountOf (a .count) (a .sum) (a .largest) changeover ≡ a

@@ -7,8 +7,8 @@ use lib.IntN.{ℤ, pos, negℤ}
 use lib.ListN.{length}
 use lib.Ieee.{Float}
 use Rattle.e8.specs.Energy.{energy}
-use Rattle.frames.specs.Frame.{numberedFrame}
-use Rattle.frames.specs.Sending.{sendRefusal, frameAfter}
+use Rattle.frames.specs.Free.{quietEnergy}
+use Rattle.frames.specs.Sending.{sendRefusal, QuietAfter, frameAfter}
 use Rattle.frames.specs.Reading.{openRefusal, strictRefusal, messageAfter}
 use Rattle.power_account.specs.declared.Account.{Account}
 use Rattle.power_account.specs.Opening.{openingRefusal}
@@ -20,31 +20,35 @@ use Rattle.near_reading.specs.Answer.{nearNumber, nearDistance}
 unfoldable pub answerOf : ℕ → ℕ → ℤ
 answerOf number energy = cond (eqb number 0) (pos energy) (negℤ (pos number))
 
--- sending under a number: the energy of its frame, or minus the refusal number; n coordinates are lent
-unfoldable pub sendAnswer : ℕ → ℕ → ℕ → List ℕ → ℕ → ℤ
+-- sending under a number, with f free bits: the least energy of the fillings' frames, or minus the refusal number; n coordinates are lent
+unfoldable pub sendAnswer : ℕ → ℕ → ℕ → ℕ → List ℕ → ℕ → ℤ
+unfolding answerOf quietEnergy
+sendAnswer k b f number bytes n = answerOf (sendRefusal k b f bytes n) (quietEnergy k b f number bytes)
+
+-- the lent frame afterwards: a quiet frame under the number, or as it was where sending is refused
+abbrev pub SendFrame : ℕ → ℕ → ℕ → ℕ → List ℕ → List ℤ → List ℤ → Type 0
+SendFrame k b f number bytes before after = QuietAfter (sendRefusal k b f bytes (length before)) k b f number bytes before after
+
+-- where no bit is free: the frame of the number, or as it was
+abbrev pub wholeFrame : ℕ → ℕ → ℕ → List ℕ → List ℤ → List ℤ
+wholeFrame k b number bytes frame = frameAfter (sendRefusal k b 0 bytes (length frame)) k b number bytes frame
+
+-- the open reading of a frame, with f free bits: its energy, or minus the refusal number; n message bytes are lent
+unfoldable pub openAnswer : ℕ → ℕ → ℕ → List ℤ → ℕ → ℤ
 unfolding answerOf
-sendAnswer k b number bytes n = answerOf (sendRefusal k b bytes n) (energy (numberedFrame k b number bytes))
+openAnswer k b f frame n = answerOf (openRefusal k b f frame n) (energy frame)
 
--- the lent frame f afterwards: the frame of the number, or as it was where sending is refused
-abbrev pub sendFrame : ℕ → ℕ → ℕ → List ℕ → List ℤ → List ℤ
-sendFrame k b number bytes f = frameAfter (sendRefusal k b bytes (length f)) k b number bytes f
-
--- the open reading of a frame f: its energy, or minus the refusal number; n message bytes are lent
-unfoldable pub openAnswer : ℕ → ℕ → List ℤ → ℕ → ℤ
-unfolding answerOf
-openAnswer k b f n = answerOf (openRefusal k b f n) (energy f)
-
--- the lent bytes afterwards: the message, or as they were where the reading is refused
-abbrev pub openBytes : ℕ → ℕ → List ℤ → List ℕ → List ℕ
-openBytes k b f bytes = messageAfter (openRefusal k b f (length bytes)) k b f bytes
+-- the lent bytes afterwards: the fixed bits of the message, or as they were where the reading is refused
+abbrev pub openBytes : ℕ → ℕ → ℕ → List ℤ → List ℕ → List ℕ
+openBytes k b f frame bytes = messageAfter (openRefusal k b f frame (length bytes)) k b f frame bytes
 
 -- the strict reading likewise, under a number
-unfoldable pub strictAnswer : ℕ → ℕ → ℕ → List ℤ → ℕ → ℤ
+unfoldable pub strictAnswer : ℕ → ℕ → ℕ → ℕ → List ℤ → ℕ → ℤ
 unfolding answerOf
-strictAnswer k b number f n = answerOf (strictRefusal k b number f n) (energy f)
+strictAnswer k b f number frame n = answerOf (strictRefusal k b f number frame n) (energy frame)
 
-abbrev pub strictBytes : ℕ → ℕ → ℕ → List ℤ → List ℕ → List ℕ
-strictBytes k b number f bytes = messageAfter (strictRefusal k b number f (length bytes)) k b f bytes
+abbrev pub strictBytes : ℕ → ℕ → ℕ → ℕ → List ℤ → List ℕ → List ℕ
+strictBytes k b f number frame bytes = messageAfter (strictRefusal k b f number frame (length bytes)) k b f frame bytes
 
 -- ---- opening an account; openedWith of account says the rest
 
@@ -57,20 +61,20 @@ unfoldable pub openingAnswer : ℕ → ℤ
 unfolding answerOf
 openingAnswer changeover = answerOf (openingRefusal changeover) 0
 
--- ---- sending with an account a, into a lent frame f
+-- ---- sending with an account a and f free bits
 
--- the energy of the sent frame, or minus the refusal number; n coordinates are lent
-unfoldable pub countedAnswer : ℕ → ℕ → List ℕ → ℕ → Account → ℤ
-unfolding answerOf
-countedAnswer k b bytes n a = answerOf (countedRefusal k b bytes n a) (energy (numberedFrame k b (numberFor a) bytes))
+-- the least energy of the fillings' frames, or minus the refusal number; n coordinates are lent
+unfoldable pub countedAnswer : ℕ → ℕ → ℕ → List ℕ → ℕ → Account → ℤ
+unfolding answerOf quietEnergy
+countedAnswer k b f bytes n a = answerOf (countedRefusal k b f bytes n a) (quietEnergy k b f (numberFor a) bytes)
 
 -- the lent frame afterwards
-abbrev pub countedFrame : ℕ → ℕ → List ℕ → List ℤ → Account → List ℤ
-countedFrame k b bytes f a = frameAfter (countedRefusal k b bytes (length f) a) k b (numberFor a) bytes f
+abbrev pub CountedFrame : ℕ → ℕ → ℕ → List ℕ → Account → List ℤ → List ℤ → Type 0
+CountedFrame k b f bytes a before after = QuietAfter (countedRefusal k b f bytes (length before) a) k b f (numberFor a) bytes before after
 
 -- the account that the lent numbers hold afterwards: grown by the sent frame, or as it came where sending is refused
-abbrev pub countedHeld : ℕ → ℕ → List ℕ → ℕ → Account → Account
-countedHeld k b bytes n a = countedAccount (countedRefusal k b bytes n a) k b bytes a
+abbrev pub countedHeld : ℕ → ℕ → ℕ → List ℕ → ℕ → Account → Account
+countedHeld k b f bytes n a = countedAccount (countedRefusal k b f bytes n a) k b f bytes a
 
 -- ---- sending a queue with an account a; queueOutcome and queueFrames of queue say the rest
 

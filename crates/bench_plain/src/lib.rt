@@ -11,7 +11,7 @@ ghost use Rattle.e8.specs.Energy.{energy as energyOf};
 ghost use Rattle.frames.specs.Kind.{isKind, degrees, levelBits, messageBytes};
 ghost use Rattle.frames.specs.Message.{widths, numbers, stacked, leader};
 ghost use Rattle.frames.specs.Frame.{numberedFrame};
-ghost use Rattle.answers.specs.Answer.{sendAnswer, sendFrame};
+ghost use Rattle.answers.specs.Answer.{sendAnswer, wholeFrame};
 
 // Number o of the block whose message bits begin at `from`.
 fn number_at(message: &[u8], from: usize, grade: usize, o: usize) -> u64
@@ -72,7 +72,7 @@ fn write_sent(kind: u8, grade: usize, number: u32, message: &[u8], frame: &mut [
     sent.energy
 }
 
-// Sending by the mask test at every position: as `coder_send`, by the same contract.
+// Sending by the mask test at every position: as `coder_send` where no bit is free, by the same contract.
 #[no_mangle]
 pub extern "C" fn plain_send(
     kind: u8,
@@ -81,10 +81,10 @@ pub extern "C" fn plain_send(
     message: &[u8],
     frame: &mut [i32],
 ) -> i64
-    ensures answer { λ r. ⌜ r ≡ sendAnswer kind grade number (now (message .entry)) (length (now (frame .entry))) ⌝ }
-    ensures frame { λ r. ⌜ now (frame .exit) ≡ sendFrame kind grade number (now (message .entry)) (now (frame .entry)) ⌝ }
+    ensures answer { λ r. ⌜ r ≡ sendAnswer kind grade 0 number (now (message .entry)) (length (now (frame .entry))) ⌝ }
+    ensures frame { λ r. ⌜ now (frame .exit) ≡ wholeFrame kind grade number (now (message .entry)) (now (frame .entry)) ⌝ }
 {
-    let refusal = sending::test(kind, grade, message, frame.len());
+    let refusal = sending::test(kind, grade, 0, message, frame.len());
     if refusal != 0 {
         return answers::answer(refusal, 0);
     }

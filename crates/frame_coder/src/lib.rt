@@ -3,54 +3,63 @@ ghost use mathlib.Core.Path.{_≡_};
 ghost use Prim.Native.Nat.{ℕ};
 ghost use lib.IntN.{pos};
 ghost use lib.ListN.{length};
-ghost use Rattle.frames.specs.Sending.{LeastEnergy};
-ghost use Rattle.answers.specs.Answer.{sendAnswer, sendFrame, openAnswer, openBytes, strictAnswer, strictBytes};
-ghost use Rattle.answers.specs.Answer.{accountOf, openingAnswer, countedAnswer, countedFrame, countedHeld, queueAnswer};
+ghost use Rattle.frames.specs.Sending.{LeastOfFillings};
+ghost use Rattle.answers.specs.Answer.{sendAnswer, SendFrame, openAnswer, openBytes, strictAnswer, strictBytes};
+ghost use Rattle.answers.specs.Answer.{accountOf, openingAnswer, countedAnswer, CountedFrame, countedHeld, queueAnswer};
 ghost use Rattle.power_account.specs.Opening.{openedWith};
+ghost use Rattle.power_account.specs.Counted.{numberFor};
 ghost use Rattle.answers.specs.Answer.{nearCode, nearHeld};
 ghost use Rattle.queue_turns.specs.Queue.{queueOutcome, queueFrames, EachLeast};
 ghost use Rattle.near_reading.specs.Answer.{nearMessage};
 
-// Sending under a number: the energy, or minus the refusal number.
+// Sending under a number, with free bits: the energy, or minus the refusal number.
 #[no_mangle]
 pub extern "C" fn coder_send(
     kind: u8,
     grade: u8,
     number: u32,
+    free: u8,
     message: &[u8],
     frame: &mut [i32],
 ) -> i64
-    ensures answer { λ r. ⌜ r ≡ sendAnswer kind grade number (now (message .entry)) (length (now (frame .entry))) ⌝ }
-    ensures frame { λ r. ⌜ now (frame .exit) ≡ sendFrame kind grade number (now (message .entry)) (now (frame .entry)) ⌝ }
-    ensures least { λ r. ⌜ ((e : ℕ) → r ≡ pos e → LeastEnergy kind grade (now (frame .exit)) e) ⌝ }
+    ensures answer { λ r. ⌜ r ≡ sendAnswer kind grade free number (now (message .entry)) (length (now (frame .entry))) ⌝ }
+    ensures frame { λ r. ⌜ SendFrame kind grade free number (now (message .entry)) (now (frame .entry)) (now (frame .exit)) ⌝ }
+    ensures least { λ r. ⌜ ((e : ℕ) → r ≡ pos e → LeastOfFillings kind grade free number (now (message .entry)) (now (frame .exit)) e) ⌝ }
 {
-    let r = sending::send(kind, grade, number, message, frame);
+    let r = sending::send(kind, grade, number, free, message, frame);
     answers::answer(r.number, r.energy)
 }
 
-// The open reading: the energy, or minus the refusal number.
+// The open reading, with free bits: the energy, or minus the refusal number.
 #[no_mangle]
-pub extern "C" fn coder_read_open(kind: u8, grade: u8, frame: &[i32], message: &mut [u8]) -> i64
-    ensures answer { λ r. ⌜ r ≡ openAnswer kind grade (now (frame .entry)) (length (now (message .entry))) ⌝ }
-    ensures message { λ r. ⌜ now (message .exit) ≡ openBytes kind grade (now (frame .entry)) (now (message .entry)) ⌝ }
+pub extern "C" fn coder_read_open(
+    kind: u8,
+    grade: u8,
+    free: u8,
+    frame: &[i32],
+    message: &mut [u8],
+) -> i64
+    ensures answer { λ r. ⌜ r ≡ openAnswer kind grade free (now (frame .entry)) (length (now (message .entry))) ⌝ }
+    ensures message { λ r. ⌜ now (message .exit) ≡ openBytes kind grade free (now (frame .entry)) (now (message .entry)) ⌝ }
 {
-    let r = reading::read_open(kind, grade, frame, message);
+    let r = reading::read_open(kind, grade, free, frame, message);
     answers::answer(r.number, r.energy)
 }
 
-// The strict reading under a number: the energy, or minus the refusal number.
+// The strict reading under a number, with free bits: the energy, or minus the refusal number.
 #[no_mangle]
 pub extern "C" fn coder_read_strict(
     kind: u8,
     grade: u8,
     number: u32,
+    free: u8,
     frame: &[i32],
     message: &mut [u8],
 ) -> i64
-    ensures answer { λ r. ⌜ r ≡ strictAnswer kind grade number (now (frame .entry)) (length (now (message .entry))) ⌝ }
-    ensures message { λ r. ⌜ now (message .exit) ≡ strictBytes kind grade number (now (frame .entry)) (now (message .entry)) ⌝ }
+    ensures answer { λ r. ⌜ r ≡ strictAnswer kind grade free number (now (frame .entry)) (length (now (message .entry))) ⌝ }
+    ensures message { λ r. ⌜ now (message .exit) ≡ strictBytes kind grade free number (now (frame .entry)) (now (message .entry)) ⌝ }
 {
-    let r = reading::read_strict(kind, grade, number, frame, message);
+    let r = reading::read_strict(kind, grade, number, free, frame, message);
     answers::answer(r.number, r.energy)
 }
 
@@ -76,12 +85,13 @@ pub extern "C" fn coder_open(
     answers::answer(r.number, 0)
 }
 
-// Sending with an account that is held in three lent numbers, stored to on success only, and of a changeover, which stays: the energy, or minus the
-// refusal number.
+// Sending with free bits and an account that is held in three lent numbers, stored to on success only, and of a changeover, which stays: the energy, or
+// minus the refusal number.
 #[no_mangle]
 pub extern "C" fn coder_send_counted(
     kind: u8,
     grade: u8,
+    free: u8,
     message: &[u8],
     frame: &mut [i32],
     count: &mut u32,
@@ -89,14 +99,15 @@ pub extern "C" fn coder_send_counted(
     largest: &mut u64,
     changeover: u32,
 ) -> i64
-    ensures answer { λ r. ⌜ r ≡ countedAnswer kind grade (now (message .entry)) (length (now (frame .entry)))
+    ensures answer { λ r. ⌜ r ≡ countedAnswer kind grade free (now (message .entry)) (length (now (frame .entry)))
         (accountOf (now (count .entry)) (now (sum .entry)) (now (largest .entry)) changeover) ⌝ }
-    ensures frame { λ r. ⌜ now (frame .exit) ≡ countedFrame kind grade (now (message .entry)) (now (frame .entry))
-        (accountOf (now (count .entry)) (now (sum .entry)) (now (largest .entry)) changeover) ⌝ }
+    ensures frame { λ r. ⌜ CountedFrame kind grade free (now (message .entry))
+        (accountOf (now (count .entry)) (now (sum .entry)) (now (largest .entry)) changeover) (now (frame .entry)) (now (frame .exit)) ⌝ }
     ensures account { λ r. ⌜ accountOf (now (count .exit)) (now (sum .exit)) (now (largest .exit)) changeover
-        ≡ countedHeld kind grade (now (message .entry)) (length (now (frame .entry)))
+        ≡ countedHeld kind grade free (now (message .entry)) (length (now (frame .entry)))
         (accountOf (now (count .entry)) (now (sum .entry)) (now (largest .entry)) changeover) ⌝ }
-    ensures least { λ r. ⌜ ((e : ℕ) → r ≡ pos e → LeastEnergy kind grade (now (frame .exit)) e) ⌝ }
+    ensures least { λ r. ⌜ ((e : ℕ) → r ≡ pos e → LeastOfFillings kind grade free
+        (numberFor (accountOf (now (count .entry)) (now (sum .entry)) (now (largest .entry)) changeover)) (now (message .entry)) (now (frame .exit)) e) ⌝ }
 {
     let before = account::Account {
         count: *count,
@@ -104,7 +115,7 @@ pub extern "C" fn coder_send_counted(
         largest: *largest,
         changeover,
     };
-    let r = account::send_counted(kind, grade, message, frame, before);
+    let r = account::send_counted(kind, grade, free, message, frame, before);
     if r.number != 0 {
         return answers::answer(r.number, 0);
     }

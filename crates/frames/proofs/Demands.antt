@@ -221,19 +221,19 @@ module _ (k b : ℕ) (kind : isKind k ≡ true) (grade : isGrade b ≡ true) whe
 -- ---- the same of what is SENT: of bytes that sending accepts, whatever kind and grade they are sent at
 
 -- bytes that sending accepts are a message of a kind and grade of the table
-pub sent-sendable : (k b : ℕ) (bytes : List ℕ) → Bytes bytes → Accepts k b bytes → Sendable k b bytes (2 ^ k)
-sent-sendable k b bytes each e = accepted-exactly k b bytes (2 ^ k) each .sendable e
+pub sent-sendable : (k b : ℕ) (bytes : List ℕ) → Bytes bytes → Accepts k b 0 bytes → Sendable k b 0 bytes (2 ^ k)
+sent-sendable k b bytes each e = accepted-exactly k b 0 bytes (2 ^ k) each .sendable e
 
 -- two different byte strings that sending accepts at one kind and grade are sent at least the distance apart, whatever their numbers
-pub accepted-apart : (k b number other : ℕ) (x y : List ℕ) → Bytes x → Bytes y → Accepts k b x → Accepts k b y → (x ≡ y → ⊥)
+pub accepted-apart : (k b number other : ℕ) (x y : List ℕ) → Bytes x → Bytes y → Accepts k b 0 x → Accepts k b 0 y → (x ≡ y → ⊥)
     → leastDistance k ≤ distance (numberedFrame k b number x) (numberedFrame k b other y)
 accepted-apart k b number other x y bx by ax ay ne =
     let s = sent-sendable k b x bx ax in
-    sent-apart k b (s .kind) (s .grade) number other x y (s .message) (sent-sendable k b y by ay .message) ne
+    sent-apart k b (s .kind) (s .grade) number other x y (s .message .message) (sent-sendable k b y by ay .message .message) ne
 
 -- and no two of them differ from one frame by a lattice point
-pub accepted-only : (k b number other : ℕ) (f : List ℤ) (x y : List ℕ) → Bytes x → Bytes y → Accepts k b x → Accepts k b y
+pub accepted-only : (k b number other : ℕ) (f : List ℤ) (x y : List ℕ) → Bytes x → Bytes y → Accepts k b 0 x → Accepts k b 0 y
     → SameClass k b (numberedFrame k b number x) f → SameClass k b (numberedFrame k b other y) f → x ≡ y
 accepted-only k b number other f x y bx by ax ay dx dy =
     let s = sent-sendable k b x bx ax in
-    one-only k b (s .kind) (s .grade) number other x y f (s .message) (sent-sendable k b y by ay .message) dx dy
+    one-only k b (s .kind) (s .grade) number other x y f (s .message .message) (sent-sendable k b y by ay .message .message) dx dy

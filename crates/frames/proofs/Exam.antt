@@ -12,8 +12,9 @@ use lib.ListN.{getD}
 use borrow.Author.Tests.{le-leb, lt-leb, ne-eqb}
 use Rattle.bits.specs.Number.{sumTo, table}
 use Rattle.reed_muller.specs.Level.{ofWeight, masks, order, dimension, codeword, backwards, clearAbove, belongs}
-use Rattle.bits.specs.Message.{messageBit, byteOf, bytesOf}
+use Rattle.bits.specs.Message.{messageBit, byteOf, bytesOf, withBits}
 use Rattle.e8.specs.Energy.{sq, energy, isWithin}
+use Rattle.e8.specs.Largest.{largestTo}
 use Rattle.e8.specs.Order.{before}
 use Rattle.e8.specs.Least.{cent, better, best, leastBlock, leastFrame}
 use Rattle.e8.specs.Ties.{leastFrameBy}
@@ -21,11 +22,12 @@ use Rattle.e8.specs.Rows.{reduced}
 use Rattle.frames.specs.Kind.{kinds, isKind, isGrade, degrees, levels, levelBits, messageBits, messageBytes}
 use Rattle.frames.specs.Message.{numbers, blockNumbers, stacked, coordinate, leader}
 use Rattle.frames.specs.Frame.{weightBit, levelWord, half, isOdd, numberedFrame, sentFrame}
-use Rattle.frames.specs.Sending.{anySet, spareSet, sendRefusal}
+use Rattle.frames.specs.Free.{isFreeCount, freeFrom, filled, filledFrame, leastOf, quietEnergy, quietLargest}
+use Rattle.frames.specs.Sending.{anySet, freeSet, sendRefusal}
 use Rattle.frames.specs.Reading.{levelMessage, levelMessages, quotients, digits, allDigits, blockMessages, readBits, openMessage}
-use Rattle.frames.specs.Reading.{sameFrame, inRange, broken, openRefusal, isSent, strictRefusal}
+use Rattle.frames.specs.Reading.{fixedMessage, sameFrame, inRange, broken, openRefusal, isSent, isQuiet, strictRefusal}
 use Rattle.frames.specs.Exam.{printed, AllPrinted, levelAt, blockNumberAt, Leader, exams, sentAs, examined, layout, Numbered, numbered, sentUnder}
-use Rattle.frames.specs.Exam.{AllSets, NumberedTests, FurtherCases, SendingTests, ReadingTests}
+use Rattle.frames.specs.Exam.{AllSets, NumberedTests, FreeCases, FurtherCases, SendingTests, FreeTests, ReadingTests}
 
 -- the kinds are those printed: 3, 4, 5, 6 and no other
 pub kinds-are : (k : ℕ) → isKind k ≡ (eqb k 3 || (eqb k 4 || (eqb k 5 || eqb k 6)))
@@ -147,8 +149,8 @@ numbered-frames = refl
 
 -- and the strict reading by them
 pub numbered-tests : NumberedTests
-unfolding openRefusal strictRefusal isSent sameFrame openMessage readBits levelMessages levelMessage blockMessages quotients allDigits digits
-    inRange isWithin broken weightBit isKind isGrade sendRefusal spareSet anySet messageBytes messageBits
+unfolding openRefusal strictRefusal isQuiet isSent isFreeCount fixedMessage filled freeFrom withBits quietEnergy leastOf filledFrame sameFrame openMessage readBits levelMessages levelMessage blockMessages quotients allDigits digits
+    inRange isWithin broken weightBit isKind isGrade sendRefusal freeSet anySet messageBytes messageBits
     numberedFrame isOdd half leastFrameBy leastFrame leastBlock best better cent before energy sq leader coordinate stacked blockNumbers numbers
     degrees kinds levels levelBits sumTo codeword order dimension masks ofWeight table messageBit bytesOf byteOf backwards belongs clearAbove reduced ones
 numbered-tests = record {
@@ -163,9 +165,33 @@ numbered-tests = record {
   no-tie-odd = refl;
 }
 
+-- the fillings of a message with free bits
+pub free-cases : FreeCases
+unfolding openRefusal strictRefusal isQuiet isSent isFreeCount fixedMessage filled freeFrom withBits quietEnergy leastOf filledFrame quietLargest largestTo sameFrame openMessage readBits levelMessages levelMessage blockMessages quotients allDigits digits
+    inRange isWithin broken weightBit isKind isGrade sendRefusal freeSet anySet messageBytes messageBits
+    numberedFrame isOdd half leastFrameBy leastFrame leastBlock best better cent before energy sq leader coordinate stacked blockNumbers numbers
+    degrees kinds levels levelBits sumTo codeword order dimension masks ofWeight table messageBit bytesOf byteOf backwards belongs clearAbove reduced ones
+free-cases = record {
+  energies = refl;
+  even = refl;
+  odd = refl;
+  least = refl;
+  largest = refl;
+  passes-1 = refl;
+  passes-2 = refl;
+  passes-1-odd = refl;
+  passes-2-odd = refl;
+  nine-0 = refl;
+  nine-3 = refl;
+  whole-1 = refl;
+  whole-2 = refl;
+  fixed-1 = refl;
+  fixed-2 = refl;
+}
+
 pub further-cases : FurtherCases
-unfolding openRefusal strictRefusal isSent sameFrame openMessage readBits levelMessages levelMessage blockMessages quotients allDigits digits
-    inRange isWithin broken weightBit isKind isGrade sendRefusal spareSet anySet messageBytes messageBits
+unfolding openRefusal strictRefusal isQuiet isSent isFreeCount fixedMessage filled freeFrom withBits quietEnergy leastOf filledFrame sameFrame openMessage readBits levelMessages levelMessage blockMessages quotients allDigits digits
+    inRange isWithin broken weightBit isKind isGrade sendRefusal freeSet anySet messageBytes messageBits
     numberedFrame isOdd half leastFrameBy leastFrame leastBlock best better cent before energy sq leader coordinate stacked blockNumbers numbers
     degrees kinds levels levelBits sumTo codeword order dimension masks ofWeight table messageBit bytesOf byteOf backwards belongs clearAbove reduced ones
 further-cases = record {
@@ -181,17 +207,24 @@ further-cases = record {
 }
 
 pub sending-tests : SendingTests
-unfolding isKind isGrade sendRefusal spareSet anySet messageBytes messageBits levelBits degrees kinds dimension masks ofWeight table messageBit ones
-sending-tests = record { kind = refl; grade = refl; bytes = refl; coordinates = refl; spare = refl; none = refl }
+unfolding isKind isGrade isFreeCount sendRefusal freeSet freeFrom anySet messageBytes messageBits
+    levelBits degrees kinds dimension masks ofWeight table messageBit ones
+sending-tests = record { kind = refl; grade = refl; count = refl; bytes = refl; coordinates = refl; spare = refl; none = refl }
+
+pub free-tests : FreeTests
+unfolding isKind isGrade isFreeCount sendRefusal freeSet freeFrom anySet messageBytes messageBits
+    levelBits degrees kinds dimension masks ofWeight table messageBit ones
+free-tests = record { most = refl; first-of-4 = refl; last-of-4 = refl; one = refl; first-of-1 = refl; spare = refl }
 
 pub reading-tests : ReadingTests
-unfolding openRefusal strictRefusal isSent sameFrame openMessage readBits levelMessages levelMessage blockMessages quotients allDigits digits
-    inRange isWithin broken weightBit isKind isGrade sendRefusal spareSet anySet messageBytes messageBits
+unfolding openRefusal strictRefusal isQuiet isSent isFreeCount fixedMessage filled freeFrom withBits quietEnergy leastOf filledFrame sameFrame openMessage readBits levelMessages levelMessage blockMessages quotients allDigits digits
+    inRange isWithin broken weightBit isKind isGrade sendRefusal freeSet anySet messageBytes messageBits
     numberedFrame isOdd half leastFrameBy leastFrame leastBlock best better cent before energy sq leader coordinate stacked blockNumbers numbers
     degrees kinds levels levelBits sumTo codeword order dimension masks ofWeight table messageBit bytesOf byteOf backwards belongs clearAbove reduced ones
 reading-tests = record {
   kind = refl;
   grade = refl;
+  count = refl;
   coordinates = refl;
   bytes = refl;
   range = refl;

@@ -1,31 +1,27 @@
 -- THE TWO READINGS as theorems, sentence by sentence: which frames each one takes, by which number the others are refused, and the message that is given.
 -- For every kind of the table, every grade and every number of a frame. Assumes nothing.
 use Prim.Native.Nat.{ℕ, _^_}
-use mathlib.Core.Path.{_≡_, refl, sym, ap, _∙_, subst}
+use mathlib.Core.Path.{_≡_, sym, _∙_, subst}
 use mathlib.Core.Logic.{_⊎_, inl, inr}
-use mathlib.Core.Bool.{Bool, true, false, cond}
+use mathlib.Core.Bool.{true}
 use mathlib.Core.List.{List}
 use native.Mathlib.Omega.{arith}
-use lib.Dec.{eqb}
 use lib.ListN.{length}
 use lib.IntN.{ℤ}
-use borrow.Author.Tests.{eqb-true, eqb-false, ne-eqb}
-use Rattle.e8.specs.Energy.{energy}
 use Rattle.e8.specs.Ties.{leastFrameBy}
 use Rattle.e8.proofs.Frame.{differ-refl, differ-sym, differ-trans}
 use Rattle.e8.proofs.Ties.{leastFrameBy-class}
 use Rattle.e8.proofs.Within.{within-to}
 use Rattle.frames.specs.Kind.{isKind, isGrade, degrees, blocks, messageBytes, scale}
-use Rattle.frames.specs.Message.{Bytes, Message, leader}
+use Rattle.frames.specs.Message.{Message, leader}
 use Rattle.frames.specs.Frame.{InCodingSet, half, SameClass, isOdd, numberedFrame}
-use Rattle.frames.specs.Sending.{unless, Accepts}
-use Rattle.frames.specs.Reading.{openMessage, sameFrame, inRange, broken, openRefusal, isSent, strictRefusal, messageAfter, energyRead}
-use Rattle.frames.specs.Demands.{FirstBroken, SentFor, ReadBack}
+use Rattle.frames.specs.Free.{isFreeCount}
+use Rattle.frames.specs.Reading.{openMessage, inRange, broken, openRefusal}
+use Rattle.frames.specs.Demands.{FirstBroken}
 use Rattle.frames.proofs.Rows.{grade-low}
 use Rattle.frames.proofs.Limits.{shape, scale-128}
-use Rattle.frames.proofs.Demands.{half-pos, sent-within, sent-in-set, read-message, leader-class, read-class, same-leaders, exactly-one, sent-sendable}
-use Rattle.frames.proofs.Accepted.{message-accepted}
-use Rattle.frames.proofs.Refusals.{passed, same-frame, frame-same, within-range, Accepted, accepted}
+use Rattle.frames.proofs.Demands.{half-pos, sent-within, sent-in-set, read-message, leader-class, read-class, same-leaders, exactly-one}
+use Rattle.frames.proofs.Refusals.{within-range, Accepted, accepted}
 use Rattle.frames.proofs.Refusals.{levels-decide, levels-answer, set-passes, broken-refuses, seven-eight-thirteen}
 
 module _ (k b : ℕ) (kind : isKind k ≡ true) (grade : isGrade b ≡ true) where
@@ -81,14 +77,14 @@ module _ (k b : ℕ) (kind : isKind k ≡ true) (grade : isGrade b ≡ true) whe
 
   -- ---- which frames the open reading takes; n message bytes are lent
 
-  module _ (f : List ℤ) (n : ℕ) (bytes : n ≡ messageBytes k b) where
+  module _ (c : ℕ) (few : isFreeCount c ≡ true) (f : List ℤ) (n : ℕ) (bytes : n ≡ messageBytes k b) where
     -- a frame of the coding set is refused by none
-    pub inside-taken : InCodingSet k f → inRange f ≡ true → openRefusal k b f n ≡ 0
-    inside-taken set range = levels-decide k b f n kind grade (set .long) bytes range ∙ set-passes k f set
+    pub inside-taken : InCodingSet k f → inRange f ≡ true → openRefusal k b c f n ≡ 0
+    inside-taken set range = levels-decide k b c f n kind grade few (set .long) bytes range ∙ set-passes k f set
 
     -- one outside is refused by the number of the first level that is not a codeword
-    pub outside-broken : length f ≡ 2 ^ k → inRange f ≡ true → (InCodingSet k f → ⊥) → FirstBroken k f (openRefusal k b f n)
-    outside-broken l range out = subst (FirstBroken k f) (sym (levels-decide k b f n kind grade l bytes range)) (go (levels-answer k f l))
+    pub outside-broken : length f ≡ 2 ^ k → inRange f ≡ true → (InCodingSet k f → ⊥) → FirstBroken k f (openRefusal k b c f n)
+    outside-broken l range out = subst (FirstBroken k f) (sym (levels-decide k b c f n kind grade few l bytes range)) (go (levels-answer k f l))
       where
         go : InCodingSet k f ⊎ FirstBroken k f (broken k 0 (degrees k) f) → FirstBroken k f (broken k 0 (degrees k) f)
         go (inl set) = absurd (out set)
@@ -96,105 +92,16 @@ module _ (k b : ℕ) (kind : isKind k ≡ true) (grade : isGrade b ≡ true) whe
 
     -- which is 7, 8 or 13, and no other
     pub outside-refused : length f ≡ 2 ^ k → inRange f ≡ true → (InCodingSet k f → ⊥)
-        → (openRefusal k b f n ≡ 7) ⊎ ((openRefusal k b f n ≡ 8) ⊎ (openRefusal k b f n ≡ 13))
-    outside-refused l range out = seven-eight-thirteen k f (openRefusal k b f n) kind (outside-broken l range out)
+        → (openRefusal k b c f n ≡ 7) ⊎ ((openRefusal k b c f n ≡ 8) ⊎ (openRefusal k b c f n ≡ 13))
+    outside-refused l range out = seven-eight-thirteen k f (openRefusal k b c f n) kind (outside-broken l range out)
 
 -- a frame that the open reading takes is of the coding set
-pub taken-in-set : (k b : ℕ) (f : List ℤ) (n : ℕ) → openRefusal k b f n ≡ 0 → InCodingSet k f
-taken-in-set k b f n e = go (levels-answer k f (a .coordinates))
+pub taken-in-set : (k b c : ℕ) (f : List ℤ) (n : ℕ) → openRefusal k b c f n ≡ 0 → InCodingSet k f
+taken-in-set k b c f n e = go (levels-answer k f (a .coordinates))
   where
-    a : Accepted k b f n
-    a = accepted k b f n e
+    a : Accepted k b c f n
+    a = accepted k b c f n e
 
     go : InCodingSet k f ⊎ FirstBroken k f (broken k 0 (degrees k) f) → InCodingSet k f
     go (inl set) = set
     go (inr first) = absurd (omega (arith, broken-refuses k f (broken k 0 (degrees k) f) (a .kind) first, a .words))
-
--- ---- the strict reading
-
--- past the tests of the open reading, the frame is the least member of its class by the number's tie rule, or 9
-pub strict-by-least : (k b number : ℕ) (f : List ℤ) (n : ℕ) → openRefusal k b f n ≡ 0
-    → strictRefusal k b number f n ≡ unless (sameFrame f (leastFrameBy (isOdd number) (half k b) (blocks k) f)) 9 0
-unfolding strictRefusal isSent
-strict-by-least k b number f n e =
-    ap (λ (x : ℕ). cond (eqb x 0) (unless (sameFrame f (numberedFrame k b number (openMessage k b f))) 9 0) x) e
-    ∙ ap (λ (g : List ℤ). unless (sameFrame f g) 9 0) (sent-is-least k b (a .kind) (a .grade) number f (taken-in-set k b f n e))
-  where
-    a : Accepted k b f n
-    a = accepted k b f n e
-
--- what the open reading refuses, the strict reading refuses by the same number
-pub strict-as-open : (k b number : ℕ) (f : List ℤ) (n : ℕ) → (openRefusal k b f n ≡ 0 → ⊥) → strictRefusal k b number f n ≡ openRefusal k b f n
-unfolding strictRefusal
-strict-as-open k b number f n h = rw (ne-eqb (openRefusal k b f n) 0 h)
-
--- what a strict reading takes has passed the open reading's tests and is the sent frame
-pub strict-passed : (k b number : ℕ) (f : List ℤ) (n : ℕ) → strictRefusal k b number f n ≡ 0 → (openRefusal k b f n ≡ 0) × (isSent k b number f ≡ true)
-unfolding strictRefusal
-strict-passed k b number f n e = go (openRefusal k b f n) (eqb (openRefusal k b f n) 0) refl e
-  where
-    go : (x : ℕ) (t : Bool) → eqb x 0 ≡ t → cond t (unless (isSent k b number f) 9 0) x ≡ 0 → (x ≡ 0) × (isSent k b number f ≡ true)
-    go x true z e = (eqb-true x 0 z, passed (isSent k b number f) 8 0 e .0)
-    go x false z e = absurd (eqb-false x 0 z e)
-
--- "The strict reading gives it only for the sent frame": what is taken was sent under the number for a message
-pub strict-takes-sent : (k b number : ℕ) (f : List ℤ) (n : ℕ) → strictRefusal k b number f n ≡ 0 → SentFor k b number f
-unfolding isSent
-strict-takes-sent k b number f n e = record {
-  bytes = openMessage k b f;
-  message = message;
-  accepted = message-accepted k b (openMessage k b f) (a .kind) (a .grade) message;
-  sent = same-frame f (numberedFrame k b number (openMessage k b f)) (p .1);
-  given = refl;
-}
-  where
-    p : (openRefusal k b f n ≡ 0) × (isSent k b number f ≡ true)
-    p = strict-passed k b number f n e
-
-    a : Accepted k b f n
-    a = accepted k b f n (p .0)
-
-    message : Message k b (openMessage k b f)
-    message = read-message k b (a .kind) (a .grade) f (taken-in-set k b f n (p .0))
-
-module _ (k b : ℕ) (kind : isKind k ≡ true) (grade : isGrade b ≡ true) (number : ℕ) (bytes : List ℕ) (m : Message k b bytes) where
-  -- what is sent for a message is taken by both readings, the strict one under the same number
-  pub open-takes-sent : openRefusal k b (numberedFrame k b number bytes) (length bytes) ≡ 0
-  open-takes-sent =
-      inside-taken k b kind grade (numberedFrame k b number bytes) (length bytes) (m .long) (sent-in-set k b kind grade number bytes)
-      (sent-in-range k b kind grade number bytes)
-
-  pub sent-taken-strictly : strictRefusal k b number (numberedFrame k b number bytes) (length bytes) ≡ 0
-  unfolding strictRefusal isSent
-  sent-taken-strictly = rw (open-takes-sent, read-sent k b kind grade number bytes m, frame-same (numberedFrame k b number bytes))
-
-  -- which gives the message back with the energy of the frame, whatever bytes were lent
-  pub open-gives-back : (lent : List ℕ)
-      → messageAfter (openRefusal k b (numberedFrame k b number bytes) (length bytes)) k b (numberedFrame k b number bytes) lent ≡ bytes
-  unfolding messageAfter
-  open-gives-back lent = rw open-takes-sent (read-sent k b kind grade number bytes m)
-
-  pub strict-gives-back : (lent : List ℕ)
-      → messageAfter (strictRefusal k b number (numberedFrame k b number bytes) (length bytes)) k b (numberedFrame k b number bytes) lent ≡ bytes
-  unfolding messageAfter
-  strict-gives-back lent = rw sent-taken-strictly (read-sent k b kind grade number bytes m)
-
-  pub open-same-energy : energyRead (openRefusal k b (numberedFrame k b number bytes) (length bytes)) (numberedFrame k b number bytes)
-      ≡ energy (numberedFrame k b number bytes)
-  unfolding energyRead
-  open-same-energy = rw open-takes-sent
-
-  pub strict-same-energy : energyRead (strictRefusal k b number (numberedFrame k b number bytes) (length bytes)) (numberedFrame k b number bytes)
-      ≡ energy (numberedFrame k b number bytes)
-  unfolding energyRead
-  strict-same-energy = rw sent-taken-strictly
-
--- what sending accepts, both readings take from the frame that is sent, and give back
-pub accepted-read-back : (k b number : ℕ) (bytes : List ℕ) → Bytes bytes → Accepts k b bytes → ReadBack k b number bytes
-accepted-read-back k b number bytes each e =
-    let s = sent-sendable k b bytes each e in
-    record {
-      open-takes = open-takes-sent k b (s .kind) (s .grade) number bytes (s .message);
-      strict-takes = sent-taken-strictly k b (s .kind) (s .grade) number bytes (s .message);
-      given = read-sent k b (s .kind) (s .grade) number bytes (s .message);
-    }

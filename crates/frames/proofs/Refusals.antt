@@ -10,13 +10,14 @@ use native.Mathlib.Omega.{arith}
 use lib.Dec.{eqb}
 use lib.ListN.{length, getD}
 use lib.IntN.{ℤ, pos, negsuc}
-use borrow.Author.Tests.{eqb-true, eq-eqb}
+use borrow.Author.Tests.{eqb-true, eq-eqb, lt-leb}
 use Rattle.reed_muller.specs.Level.{belongs}
 use Rattle.e8.specs.Energy.{Within}
 use Rattle.e8.proofs.Within.{test-within, within-test}
 use Rattle.e8.proofs.Within.{and-both}
 use Rattle.frames.specs.Kind.{brokenNumber, isKind, isGrade, degrees, levels, messageBytes}
 use Rattle.frames.specs.Frame.{levelWord, InCodingSet}
+use Rattle.frames.specs.Free.{isFreeCount}
 use Rattle.frames.specs.Sending.{unless}
 use Rattle.frames.specs.Reading.{sameNumber, sameFrame, inRange, broken, openRefusal}
 use Rattle.frames.specs.Demands.{FirstBroken}
@@ -184,33 +185,41 @@ seven-eight-thirteen k f n kind b = go (b .level) (b .given) (omega (arith, b .i
 -- ---- the open reading's tests
 
 -- every test was passed
-pub record Accepted (k b : ℕ) (f : List ℤ) (n : ℕ) : Type 0 where
+pub record Accepted (k b c : ℕ) (f : List ℤ) (n : ℕ) : Type 0 where
   pub kind : isKind k ≡ true
   pub grade : isGrade b ≡ true
+  pub few : isFreeCount c ≡ true
   pub coordinates : length f ≡ 2 ^ k
   pub bytes : n ≡ messageBytes k b
   pub range : inRange f ≡ true
   pub words : broken k 0 (degrees k) f ≡ 0
 
-pub accepted : (k b : ℕ) (f : List ℤ) (n : ℕ) → openRefusal k b f n ≡ 0 → Accepted k b f n
+pub accepted : (k b c : ℕ) (f : List ℤ) (n : ℕ) → openRefusal k b c f n ≡ 0 → Accepted k b c f n
 unfolding openRefusal
-accepted k b f n e =
+accepted k b c f n e =
     let t₁ = passed (isKind k) 0 _ e in
     let t₂ = passed (isGrade b) 1 _ (t₁ .1) in
-    let t₃ = passed (eqb (length f) (2 ^ k)) 3 _ (t₂ .1) in
-    let t₄ = passed (eqb n (messageBytes k b)) 2 _ (t₃ .1) in
-    let t₅ = passed (inRange f) 5 _ (t₄ .1) in
+    let t₃ = passed (isFreeCount c) 16 _ (t₂ .1) in
+    let t₄ = passed (eqb (length f) (2 ^ k)) 3 _ (t₃ .1) in
+    let t₅ = passed (eqb n (messageBytes k b)) 2 _ (t₄ .1) in
+    let t₆ = passed (inRange f) 5 _ (t₅ .1) in
     record {
       kind = t₁ .0;
       grade = t₂ .0;
-      coordinates = eqb-true (length f) (2 ^ k) (t₃ .0);
-      bytes = eqb-true n (messageBytes k b) (t₄ .0);
-      range = t₅ .0;
-      words = t₅ .1;
+      few = t₃ .0;
+      coordinates = eqb-true (length f) (2 ^ k) (t₄ .0);
+      bytes = eqb-true n (messageBytes k b) (t₅ .0);
+      range = t₆ .0;
+      words = t₆ .1;
     }
 
--- past the tests 1, 2, 4, 3 and 6 the levels answer
-pub levels-decide : (k b : ℕ) (f : List ℤ) (n : ℕ) → isKind k ≡ true → isGrade b ≡ true → length f ≡ 2 ^ k → n ≡ messageBytes k b → inRange f ≡ true
-    → openRefusal k b f n ≡ broken k 0 (degrees k) f
+-- past the tests 1, 2, 17, 4, 3 and 6 the levels answer
+pub levels-decide : (k b c : ℕ) (f : List ℤ) (n : ℕ) → isKind k ≡ true → isGrade b ≡ true → isFreeCount c ≡ true → length f ≡ 2 ^ k → n ≡ messageBytes k b
+    → inRange f ≡ true → openRefusal k b c f n ≡ broken k 0 (degrees k) f
 unfolding openRefusal
-levels-decide k b f n kind grade l h range = rw (kind, grade, eq-eqb (length f) (2 ^ k) l, eq-eqb n (messageBytes k b) h, range)
+levels-decide k b c f n kind grade few l h range = rw (kind, grade, few, eq-eqb (length f) (2 ^ k) l, eq-eqb n (messageBytes k b) h, range)
+
+-- "17: free count, f above 4, tested after 2"
+pub many-open : (k b c : ℕ) (f : List ℤ) (n : ℕ) → isKind k ≡ true → isGrade b ≡ true → 4 < c → openRefusal k b c f n ≡ 17
+unfolding openRefusal isFreeCount
+many-open k b c f n kind grade h = rw (kind, grade, lt-leb c 4 h)

@@ -1,29 +1,34 @@
 -- What the theorems of the demands say beyond the definitions of Frame and Sending: one record for each such sentence. Assumes nothing.
-use Prim.Native.Nat.{ℕ, _^_, _<_}
+use Prim.Native.Nat.{ℕ, _-_, _*_, _^_, _≤_, _<_}
 use mathlib.Core.Path.{_≡_}
-use mathlib.Core.Bool.{true, false}
+use mathlib.Core.Bool.{true, false, cond}
 use mathlib.Core.List.{List}
+use lib.Dec.{eqb}
 use lib.ListN.{length, getD}
 use lib.IntN.{ℤ}
 use Rattle.reed_muller.specs.Level.{belongs}
-use Rattle.e8.specs.Energy.{distance}
-use Rattle.frames.specs.Kind.{brokenNumber, isKind, isGrade, degrees, levels}
+use Rattle.bits.specs.Message.{messageBit}
+use Rattle.e8.specs.Energy.{energy, distance}
+use Rattle.e8.specs.Largest.{largestBlock}
+use Rattle.frames.specs.Kind.{brokenNumber, isKind, isGrade, degrees, levels, messageBits, messageBytes}
 use Rattle.frames.specs.Message.{Message}
 use Rattle.frames.specs.Frame.{levelWord, SameClass, numberedFrame, leastDistance}
-use Rattle.frames.specs.Sending.{sendRefusal, Accepts}
-use Rattle.frames.specs.Reading.{openMessage, openRefusal, strictRefusal}
+use Rattle.frames.specs.Free.{isFreeCount, freeFrom, FreeMessage, filledFrame, Quiet, quietEnergy, quietLargest}
+use Rattle.frames.specs.Sending.{anySet, unless, sendRefusal, Accepts}
+use Rattle.frames.specs.Reading.{openMessage, fixedMessage, openRefusal, isSent, strictRefusal}
 
--- what sending asks: a kind, a grade, "a message of a kind and grade", and as many coordinates as the kind has
-pub record Sendable (k b : ℕ) (bytes : List ℕ) (n : ℕ) : Type 0 where
+-- what sending asks: a kind, a grade, a free count, a message of them whose free bits are 0, and as many coordinates as the kind has
+pub record Sendable (k b f : ℕ) (bytes : List ℕ) (n : ℕ) : Type 0 where
   pub kind : isKind k ≡ true
   pub grade : isGrade b ≡ true
-  pub message : Message k b bytes
+  pub few : isFreeCount f ≡ true
+  pub message : FreeMessage k b f bytes
   pub coordinates : n ≡ 2 ^ k
 
--- "Sending tests 1, 2, 3, 4, 5": it accepts exactly what it asks
-pub record AcceptedExactly (k b : ℕ) (bytes : List ℕ) (n : ℕ) : Type 0 where
-  pub sendable : sendRefusal k b bytes n ≡ 0 → Sendable k b bytes n
-  pub accepted : Sendable k b bytes n → sendRefusal k b bytes n ≡ 0
+-- "Sending tests 1, 2, 3, 4, 5", and 17 after 2: it accepts exactly what it asks
+pub record AcceptedExactly (k b f : ℕ) (bytes : List ℕ) (n : ℕ) : Type 0 where
+  pub sendable : sendRefusal k b f bytes n ≡ 0 → Sendable k b f bytes n
+  pub accepted : Sendable k b f bytes n → sendRefusal k b f bytes n ≡ 0
 
 -- "broken level 0", "broken level 1", "broken level 2": the first level of the frame f that is not a codeword, and the number that is given for it
 pub record FirstBroken (k : ℕ) (f : List ℤ) (number : ℕ) : Type 0 where
@@ -37,7 +42,7 @@ pub record FirstBroken (k : ℕ) (f : List ℤ) (number : ℕ) : Type 0 where
 pub record OneMessage (k b number : ℕ) (f : List ℤ) : Type 0 where
   pub bytes : List ℕ
   pub message : Message k b bytes
-  pub accepted : Accepts k b bytes
+  pub accepted : Accepts k b 0 bytes
   pub class : SameClass k b (numberedFrame k b number bytes) f
   pub only : (other : List ℕ) → Message k b other → SameClass k b (numberedFrame k b number other) f → other ≡ bytes
 
@@ -47,22 +52,68 @@ pub record Reached (k b : ℕ) : Type 0 where
   pub y : List ℕ
   pub message-x : Message k b x
   pub message-y : Message k b y
-  pub accepted-x : Accepts k b x
-  pub accepted-y : Accepts k b y
+  pub accepted-x : Accepts k b 0 x
+  pub accepted-y : Accepts k b 0 y
   pub different : x ≡ y → ⊥
   pub exactly : (number other : ℕ) → distance (numberedFrame k b number x) (numberedFrame k b other y) ≡ leastDistance k
 
--- "The strict reading gives it only for the sent frame": f is sent under the number for some message of the kind and grade, and the reading gives
--- that one
-pub record SentFor (k b number : ℕ) (f : List ℤ) : Type 0 where
-  pub bytes : List ℕ
-  pub message : Message k b bytes
-  pub accepted : Accepts k b bytes
-  pub sent : f ≡ numberedFrame k b number bytes
-  pub given : openMessage k b f ≡ bytes
+-- ---- with free bits (request E7)
 
--- "A frame reads back to its message": both readings take what is sent for the bytes under the number, and give these bytes
-pub record ReadBack (k b number : ℕ) (bytes : List ℕ) : Type 0 where
-  pub open-takes : openRefusal k b (numberedFrame k b number bytes) (length bytes) ≡ 0
-  pub strict-takes : strictRefusal k b number (numberedFrame k b number bytes) (length bytes) ≡ 0
-  pub given : openMessage k b (numberedFrame k b number bytes) ≡ bytes
+-- "Each frame of the coding set lies in a filling's class of exactly one message whose free bits are 0": the message, for the frame and any number, and the
+-- filling, of which there is one too
+pub record OneFilling (k b f number : ℕ) (frame : List ℤ) : Type 0 where
+  pub bytes : List ℕ
+  pub φ : ℕ
+  pub message : FreeMessage k b f bytes
+  pub accepted : Accepts k b f bytes
+  pub below : φ < 2 ^ f
+  pub class : SameClass k b (filledFrame k b f number bytes φ) frame
+  pub only : (other : List ℕ) (ψ : ℕ) → FreeMessage k b f other → ψ < 2 ^ f → SameClass k b (filledFrame k b f number other ψ) frame
+      → (other ≡ bytes) × (ψ ≡ φ)
+
+-- "The strict reading gives it only for the sent frame", and with free bits "it passes the frame of any least filling": the frame is a quiet one under the
+-- number, for some message of the kind and grade whose free bits are 0, and the reading gives that one
+pub record SentFor (k b f number : ℕ) (frame : List ℤ) : Type 0 where
+  pub bytes : List ℕ
+  pub message : FreeMessage k b f bytes
+  pub accepted : Accepts k b f bytes
+  pub sent : Quiet k b f number bytes frame
+  pub given : fixedMessage k b f frame ≡ bytes
+
+-- "A frame reads back to its message": both readings take any quiet frame of the bytes under the number, and give these bytes
+pub record ReadBack (k b f number : ℕ) (bytes : List ℕ) : Type 0 where
+  pub open-takes : (frame : List ℤ) → Quiet k b f number bytes frame → openRefusal k b f frame (length bytes) ≡ 0
+  pub strict-takes : (frame : List ℤ) → Quiet k b f number bytes frame → strictRefusal k b f number frame (length bytes) ≡ 0
+  pub given : (frame : List ℤ) → Quiet k b f number bytes frame → fixedMessage k b f frame ≡ bytes
+
+-- "never more energy than without free bits"
+pub record Quieter (k b f number : ℕ) (bytes : List ℕ) : Type 0 where
+  pub energy-at-most : (frame : List ℤ) → Quiet k b f number bytes frame → energy frame ≤ energy (numberedFrame k b number bytes)
+
+-- "Messages that differ in a fixed bit keep their distance", whatever their fillings, numbers and free counts f and g, where bit i is fixed for both: the
+-- frames of any two fillings, and so what is sent
+pub record FixedApart (k b f g number other : ℕ) (x y : List ℕ) : Type 0 where
+  pub fillings : (i : ℕ) → i < freeFrom k b f → i < freeFrom k b g → (messageBit x i ≡ messageBit y i → ⊥)
+      → (φ ψ : ℕ) → leastDistance k ≤ distance (filledFrame k b f number x φ) (filledFrame k b g other y ψ)
+  pub sent : (i : ℕ) → i < freeFrom k b f → i < freeFrom k b g → (messageBit x i ≡ messageBit y i → ⊥)
+      → (s t : List ℤ) → Quiet k b f number x s → Quiet k b g other y t → leastDistance k ≤ distance s t
+
+-- ---- where f is 0, the rule that stood
+
+-- sending: the tests without 17, and 5 for a spare bit alone; the one quiet frame is the frame of the number, and the figures are that frame's
+pub record NoneFree (k b number : ℕ) (bytes : List ℕ) (n : ℕ) : Type 0 where
+  pub tests : sendRefusal k b 0 bytes n ≡
+      unless (isKind k) 1
+      (unless (isGrade b) 2
+      (unless (eqb (length bytes) (messageBytes k b)) 3
+      (unless (eqb n (2 ^ k)) 4
+      (cond (anySet (messageBit bytes) (messageBits k b) (8 * messageBytes k b - messageBits k b)) 5 0))))
+  pub quiet : Quiet k b 0 number bytes (numberedFrame k b number bytes)
+  pub only : (frame : List ℤ) → Quiet k b 0 number bytes frame → frame ≡ numberedFrame k b number bytes
+  pub least : quietEnergy k b 0 number bytes ≡ energy (numberedFrame k b number bytes)
+  pub largest : quietLargest k b 0 number bytes ≡ largestBlock (numberedFrame k b number bytes)
+
+-- reading: of a frame that passes the open reading's tests the whole message is given, and strictly the frame that is sent for it passes alone
+pub record NoneFreeRead (k b number : ℕ) (frame : List ℤ) (n : ℕ) : Type 0 where
+  pub given : openRefusal k b 0 frame n ≡ 0 → fixedMessage k b 0 frame ≡ openMessage k b frame
+  pub strict : openRefusal k b 0 frame n ≡ 0 → strictRefusal k b 0 number frame n ≡ unless (isSent k b number frame) 9 0

@@ -3,7 +3,7 @@
 use Prim.Native.Nat.{ℕ, _+_, _-_, _*_, _/_, _%_, _^_}
 use mathlib.Core.Path.{_≡_}
 use mathlib.Core.Bool.{true}
-use mathlib.Core.List.{List, [], _∷_, _++_}
+use mathlib.Core.List.{List, [], _∷_, _++_, map}
 use lib.IntN.{ℤ, pos, negℤ}
 use lib.ListN.{length, getD, replicate}
 use Rattle.integers.specs.Integer.{modZ}
@@ -14,8 +14,9 @@ use Rattle.e8.specs.Rows.{ints}
 use Rattle.frames.specs.Kind.{degrees, levels, messageBits, messageBytes}
 use Rattle.frames.specs.Message.{widths, numbers, coordinate}
 use Rattle.frames.specs.Frame.{InCodingSet, numberedFrame, sentFrame, leastDistance}
+use Rattle.frames.specs.Free.{filledFrame, quietEnergy, quietLargest}
 use Rattle.frames.specs.Sending.{sendRefusal}
-use Rattle.frames.specs.Reading.{openMessage, openRefusal, strictRefusal}
+use Rattle.frames.specs.Reading.{openMessage, fixedMessage, openRefusal, strictRefusal}
 
 -- ---- the table of kinds
 
@@ -210,49 +211,91 @@ sentUnder e = numberedFrame (e .kind) (e .grade) (e .number) (e .message)
 -- the strict reading under both rules: a tied frame passes under one of them alone, and a frame that takes one rule in the first block and the other
 -- in the second under neither; where there is no tie, under both
 pub record NumberedTests : Type 0 where
-  pub all-2-odd : strictRefusal 4 1 1 (replicate 16 (pos 2)) 5 ≡ 0
-  pub all-minus-2-odd : strictRefusal 4 1 1 (replicate 16 (minus 2)) 5 ≡ 9
-  pub all-minus-2-even : strictRefusal 4 1 4294967294 (replicate 16 (minus 2)) 5 ≡ 0
-  pub mixed-openly : openRefusal 4 1 (replicate 8 (pos 2) ++ replicate 8 (minus 2)) 5 ≡ 0
-  pub mixed-odd : strictRefusal 4 1 1 (replicate 8 (pos 2) ++ replicate 8 (minus 2)) 5 ≡ 9
-  pub mixed-even : strictRefusal 4 1 0 (replicate 8 (pos 2) ++ replicate 8 (minus 2)) 5 ≡ 9
-  pub turned-even : strictRefusal 4 1 0 (replicate 8 (minus 2) ++ replicate 8 (pos 2)) 5 ≡ 9
-  pub no-tie-even : strictRefusal 3 1 0 (ints (0 ∷ 1 ∷ 0 ∷ 1 ∷ 0 ∷ 1 ∷ 0 ∷ 1 ∷ [])) 2 ≡ 0
-  pub no-tie-odd : strictRefusal 3 1 4294967295 (ints (0 ∷ 1 ∷ 0 ∷ 1 ∷ 0 ∷ 1 ∷ 0 ∷ 1 ∷ [])) 2 ≡ 0
+  pub all-2-odd : strictRefusal 4 1 0 1 (replicate 16 (pos 2)) 5 ≡ 0
+  pub all-minus-2-odd : strictRefusal 4 1 0 1 (replicate 16 (minus 2)) 5 ≡ 9
+  pub all-minus-2-even : strictRefusal 4 1 0 4294967294 (replicate 16 (minus 2)) 5 ≡ 0
+  pub mixed-openly : openRefusal 4 1 0 (replicate 8 (pos 2) ++ replicate 8 (minus 2)) 5 ≡ 0
+  pub mixed-odd : strictRefusal 4 1 0 1 (replicate 8 (pos 2) ++ replicate 8 (minus 2)) 5 ≡ 9
+  pub mixed-even : strictRefusal 4 1 0 0 (replicate 8 (pos 2) ++ replicate 8 (minus 2)) 5 ≡ 9
+  pub turned-even : strictRefusal 4 1 0 0 (replicate 8 (minus 2) ++ replicate 8 (pos 2)) 5 ≡ 9
+  pub no-tie-even : strictRefusal 3 1 0 0 (ints (0 ∷ 1 ∷ 0 ∷ 1 ∷ 0 ∷ 1 ∷ 0 ∷ 1 ∷ [])) 2 ≡ 0
+  pub no-tie-odd : strictRefusal 3 1 0 4294967295 (ints (0 ∷ 1 ∷ 0 ∷ 1 ∷ 0 ∷ 1 ∷ 0 ∷ 1 ∷ [])) 2 ≡ 0
+
+-- ---- free bits
+
+-- request E7, by hand: 12 00 of kind 3, grade 1 with 2 free bits, which are bits 10 and 11, the values 4 and 8 of its last byte
+abbrev pub freeMessage : List ℕ
+freeMessage = 18 ∷ 0 ∷ []
+
+-- the frames of the fillings 1, whose first free bit is set, and 2, whose last is
+abbrev pub frameOf1 : List ℤ
+frameOf1 = pos 0 ∷ minus 1 ∷ pos 0 ∷ pos 1 ∷ pos 0 ∷ pos 1 ∷ pos 0 ∷ minus 1 ∷ []
+
+abbrev pub frameOf2 : List ℤ
+frameOf2 = pos 0 ∷ minus 1 ∷ pos 0 ∷ pos 1 ∷ pos 0 ∷ pos 1 ∷ pos 0 ∷ pos 1 ∷ []
+
+-- the fillings' energies are 12, 4, 4, 12: both frames of energy 4 may be sent, the same under every number, and pass strictly; those of 12 are 9
+pub record FreeCases : Type 0 where
+  pub energies : map (λ (φ : ℕ). energy (filledFrame 3 1 2 0 freeMessage φ)) (0 ∷ 1 ∷ 2 ∷ 3 ∷ []) ≡ 12 ∷ 4 ∷ 4 ∷ 12 ∷ []
+  pub even : map (filledFrame 3 1 2 0 freeMessage) (1 ∷ 2 ∷ []) ≡ frameOf1 ∷ frameOf2 ∷ []
+  pub odd : map (filledFrame 3 1 2 1 freeMessage) (1 ∷ 2 ∷ []) ≡ frameOf1 ∷ frameOf2 ∷ []
+  pub least : quietEnergy 3 1 2 0 freeMessage ≡ 4
+  pub largest : quietLargest 3 1 2 0 freeMessage ≡ 4
+  pub passes-1 : strictRefusal 3 1 2 0 frameOf1 2 ≡ 0
+  pub passes-2 : strictRefusal 3 1 2 0 frameOf2 2 ≡ 0
+  pub passes-1-odd : strictRefusal 3 1 2 1 frameOf1 2 ≡ 0
+  pub passes-2-odd : strictRefusal 3 1 2 1 frameOf2 2 ≡ 0
+  pub nine-0 : strictRefusal 3 1 2 0 (filledFrame 3 1 2 0 freeMessage 0) 2 ≡ 9
+  pub nine-3 : strictRefusal 3 1 2 0 (filledFrame 3 1 2 0 freeMessage 3) 2 ≡ 9
+  pub whole-1 : openMessage 3 1 frameOf1 ≡ 18 ∷ 4 ∷ []
+  pub whole-2 : openMessage 3 1 frameOf2 ≡ 18 ∷ 8 ∷ []
+  pub fixed-1 : fixedMessage 3 1 2 frameOf1 ≡ freeMessage
+  pub fixed-2 : fixedMessage 3 1 2 frameOf2 ≡ freeMessage
 
 -- ---- further cases
 
 -- document 01, "Exam frames", after the table; by number 0, as all cases here but those of request E5
 pub record FurtherCases : Type 0 where
-  pub all-2-openly : openRefusal 4 1 (replicate 16 (pos 2)) 5 ≡ 0
+  pub all-2-openly : openRefusal 4 1 0 (replicate 16 (pos 2)) 5 ≡ 0
   pub all-2-message : openMessage 4 1 (replicate 16 (pos 2)) ≡ 32 ∷ replicate 4 0
-  pub all-2-strictly : strictRefusal 4 1 0 (replicate 16 (pos 2)) 5 ≡ 9
-  pub broken-level-0 : openRefusal 3 1 (pos 1 ∷ replicate 7 (pos 0)) 2 ≡ 7
-  pub spare-bit : sendRefusal 3 1 (0 ∷ 16 ∷ []) 8 ≡ 5
-  pub largest : openRefusal 3 1 (pos 1048576 ∷ replicate 7 (pos 0)) 2 ≡ 0
-  pub past-largest : openRefusal 3 1 (pos 1048577 ∷ replicate 7 (pos 0)) 2 ≡ 6
-  pub least : openRefusal 3 1 (minus 1048576 ∷ replicate 7 (pos 0)) 2 ≡ 0
-  pub past-least : openRefusal 3 1 (minus 1048577 ∷ replicate 7 (pos 0)) 2 ≡ 6
+  pub all-2-strictly : strictRefusal 4 1 0 0 (replicate 16 (pos 2)) 5 ≡ 9
+  pub broken-level-0 : openRefusal 3 1 0 (pos 1 ∷ replicate 7 (pos 0)) 2 ≡ 7
+  pub spare-bit : sendRefusal 3 1 0 (0 ∷ 16 ∷ []) 8 ≡ 5
+  pub largest : openRefusal 3 1 0 (pos 1048576 ∷ replicate 7 (pos 0)) 2 ≡ 0
+  pub past-largest : openRefusal 3 1 0 (pos 1048577 ∷ replicate 7 (pos 0)) 2 ≡ 6
+  pub least : openRefusal 3 1 0 (minus 1048576 ∷ replicate 7 (pos 0)) 2 ≡ 0
+  pub past-least : openRefusal 3 1 0 (minus 1048577 ∷ replicate 7 (pos 0)) 2 ≡ 6
 
 -- ---- the order of tests
 
--- "Sending tests 1, 2, 3, 4, 5": each call is wrong in that test and in all later ones
+-- "Sending tests 1, 2, 3, 4, 5", with 17 "tested after 2": each call is wrong in that test and in all later ones
 pub record SendingTests : Type 0 where
-  pub kind : sendRefusal 2 5 (0 ∷ 16 ∷ 0 ∷ []) 7 ≡ 1
-  pub grade : sendRefusal 3 5 (0 ∷ 16 ∷ 0 ∷ []) 7 ≡ 2
-  pub bytes : sendRefusal 3 1 (0 ∷ 16 ∷ 0 ∷ []) 7 ≡ 3
-  pub coordinates : sendRefusal 3 1 (0 ∷ 16 ∷ []) 7 ≡ 4
-  pub spare : sendRefusal 3 1 (0 ∷ 16 ∷ []) 8 ≡ 5
-  pub none : sendRefusal 3 1 (255 ∷ 15 ∷ []) 8 ≡ 0
+  pub kind : sendRefusal 2 5 5 (0 ∷ 16 ∷ 0 ∷ []) 7 ≡ 1
+  pub grade : sendRefusal 3 5 5 (0 ∷ 16 ∷ 0 ∷ []) 7 ≡ 2
+  pub count : sendRefusal 3 1 5 (0 ∷ 16 ∷ 0 ∷ []) 7 ≡ 17
+  pub bytes : sendRefusal 3 1 0 (0 ∷ 16 ∷ 0 ∷ []) 7 ≡ 3
+  pub coordinates : sendRefusal 3 1 0 (0 ∷ 16 ∷ []) 7 ≡ 4
+  pub spare : sendRefusal 3 1 0 (0 ∷ 16 ∷ []) 8 ≡ 5
+  pub none : sendRefusal 3 1 0 (255 ∷ 15 ∷ []) 8 ≡ 0
 
--- "Reading tests 1, 2, 4, 3, then 6 over all coordinates, then 7, 8, 9": 1,048,579 is over range, and its bits of weight 1 and 2 are set
+-- "A free bit given as 1 is 5": kind 3, grade 1 has 12 message bits, the last four of them in its last byte
+pub record FreeTests : Type 0 where
+  pub most : sendRefusal 3 1 4 (255 ∷ 0 ∷ []) 8 ≡ 0
+  pub first-of-4 : sendRefusal 3 1 4 (255 ∷ 1 ∷ []) 8 ≡ 5
+  pub last-of-4 : sendRefusal 3 1 4 (255 ∷ 8 ∷ []) 8 ≡ 5
+  pub one : sendRefusal 3 1 1 (255 ∷ 7 ∷ []) 8 ≡ 0
+  pub first-of-1 : sendRefusal 3 1 1 (255 ∷ 8 ∷ []) 8 ≡ 5
+  pub spare : sendRefusal 3 1 1 (255 ∷ 16 ∷ []) 8 ≡ 5
+
+-- "Reading tests 1, 2, 4, 3, then 6 over all coordinates, then 7, 8, 9", with 17 after 2: 1,048,579 is over range, and its bits of weight 1 and 2 are set
 pub record ReadingTests : Type 0 where
-  pub kind : strictRefusal 2 5 0 (pos 1048579 ∷ replicate 14 (pos 0)) 4 ≡ 1
-  pub grade : strictRefusal 4 5 0 (pos 1048579 ∷ replicate 14 (pos 0)) 4 ≡ 2
-  pub coordinates : strictRefusal 4 1 0 (pos 1048579 ∷ replicate 14 (pos 0)) 4 ≡ 4
-  pub bytes : strictRefusal 4 1 0 (pos 1048579 ∷ replicate 15 (pos 0)) 4 ≡ 3
-  pub range : strictRefusal 4 1 0 (pos 1048579 ∷ replicate 15 (pos 0)) 5 ≡ 6
-  pub level-0 : strictRefusal 4 1 0 (pos 3 ∷ replicate 15 (pos 0)) 5 ≡ 7
-  pub level-1 : strictRefusal 4 1 0 (pos 2 ∷ replicate 15 (pos 0)) 5 ≡ 8
-  pub unshaped : strictRefusal 4 1 0 (replicate 16 (pos 2)) 5 ≡ 9
-  pub none : strictRefusal 4 1 0 (replicate 16 (minus 2)) 5 ≡ 0
+  pub kind : strictRefusal 2 5 5 0 (pos 1048579 ∷ replicate 14 (pos 0)) 4 ≡ 1
+  pub grade : strictRefusal 4 5 5 0 (pos 1048579 ∷ replicate 14 (pos 0)) 4 ≡ 2
+  pub count : strictRefusal 4 1 5 0 (pos 1048579 ∷ replicate 14 (pos 0)) 4 ≡ 17
+  pub coordinates : strictRefusal 4 1 0 0 (pos 1048579 ∷ replicate 14 (pos 0)) 4 ≡ 4
+  pub bytes : strictRefusal 4 1 0 0 (pos 1048579 ∷ replicate 15 (pos 0)) 4 ≡ 3
+  pub range : strictRefusal 4 1 0 0 (pos 1048579 ∷ replicate 15 (pos 0)) 5 ≡ 6
+  pub level-0 : strictRefusal 4 1 0 0 (pos 3 ∷ replicate 15 (pos 0)) 5 ≡ 7
+  pub level-1 : strictRefusal 4 1 0 0 (pos 2 ∷ replicate 15 (pos 0)) 5 ≡ 8
+  pub unshaped : strictRefusal 4 1 0 0 (replicate 16 (pos 2)) 5 ≡ 9
+  pub none : strictRefusal 4 1 0 0 (replicate 16 (minus 2)) 5 ≡ 0

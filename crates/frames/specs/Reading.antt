@@ -1,5 +1,5 @@
 -- What a reading takes from a frame: its message, and the number of the first test that is not passed
--- (document 01, "Shaping", last paragraph, and "Numbers"). Assumes nothing.
+-- (document 01, "Shaping", last paragraph, and "Numbers"; request E7 for free bits). Assumes nothing.
 use Prim.Native.Nat.{ℕ, zero, suc, _-_, _/_, _%_, _^_}
 use mathlib.Core.Bool.{Bool, true, false, _&&_, cond}
 use mathlib.Core.List.{List, [], _∷_, _++_, map}
@@ -16,6 +16,7 @@ use Rattle.e8.specs.Rows.{reduced}
 use Rattle.frames.specs.Kind.{brokenNumber, isKind, isGrade, degrees, levels, blocks, messageBytes}
 use Rattle.frames.specs.Message.{widths}
 use Rattle.frames.specs.Frame.{levelWord, numberedFrame}
+use Rattle.frames.specs.Free.{isFreeCount, filled, quietEnergy}
 use Rattle.frames.specs.Sending.{unless}
 
 -- the message bits of a level: backwards, the bits of the first masks of the order
@@ -61,6 +62,11 @@ unfoldable pub openMessage : ℕ → ℕ → List ℤ → List ℕ
 unfolding readBits messageBytes
 openMessage k b f = bytesOf (messageBytes k b) (λ i. getD (readBits k b f) i 0)
 
+-- "Reading with f gives the fixed bits and writes free bits as 0"
+unfoldable pub fixedMessage : ℕ → ℕ → ℕ → List ℤ → List ℕ
+unfolding filled openMessage
+fixedMessage k b f frame = filled k b f 0 (openMessage k b frame)
+
 -- ---- the refusals of the readings
 
 -- the whole numbers a and b are the same
@@ -87,33 +93,40 @@ unfoldable pub broken : ℕ → ℕ → List ℕ → List ℤ → ℕ
 broken m i [] f = 0
 broken m i (r ∷ rs) f = unless (belongs r m (levelWord i f)) (brokenNumber i) (broken m (suc i) rs f)
 
--- the open reading tests 1, 2, 4, 3, then 6 over all coordinates, then 7, 8 and 13; n message bytes are lent
-unfoldable pub openRefusal : ℕ → ℕ → List ℤ → ℕ → ℕ
-unfolding isKind isGrade messageBytes inRange broken degrees
-openRefusal k b f n =
+-- the open reading tests 1, 2, 17, 4, 3, then 6 over all coordinates, then 7, 8 and 13; n message bytes are lent
+unfoldable pub openRefusal : ℕ → ℕ → ℕ → List ℤ → ℕ → ℕ
+unfolding isKind isGrade isFreeCount messageBytes inRange broken degrees
+openRefusal k b f frame n =
     unless (isKind k) 1
     (unless (isGrade b) 2
-    (unless (eqb (length f) (2 ^ k)) 4
+    (unless (isFreeCount f) 17
+    (unless (eqb (length frame) (2 ^ k)) 4
     (unless (eqb n (messageBytes k b)) 3
-    (unless (inRange f) 6
-    (broken k 0 (degrees k) f)))))
+    (unless (inRange frame) 6
+    (broken k 0 (degrees k) frame))))))
 
--- the frame is the one sent for its message under the number
+-- the frame is the one sent for its message under the number, free bits as they are
 unfoldable pub isSent : ℕ → ℕ → ℕ → List ℤ → Bool
 unfolding sameFrame numberedFrame openMessage
-isSent k b number f = sameFrame f (numberedFrame k b number (openMessage k b f))
+isSent k b number frame = sameFrame frame (numberedFrame k b number (openMessage k b frame))
+
+-- "strictly, it passes the frame of any least filling": that of its own filling, where its energy is the least of all fillings
+unfoldable pub isQuiet : ℕ → ℕ → ℕ → ℕ → List ℤ → Bool
+unfolding isSent fixedMessage quietEnergy energy
+isQuiet k b f number frame = isSent k b number frame && eqb (energy frame) (quietEnergy k b f number (fixedMessage k b f frame))
 
 -- the strict reading under a number tests what the open reading does, and then 9
-unfoldable pub strictRefusal : ℕ → ℕ → ℕ → List ℤ → ℕ → ℕ
-unfolding openRefusal isSent
-strictRefusal k b number f n = cond (eqb (openRefusal k b f n) 0) (unless (isSent k b number f) 9 0) (openRefusal k b f n)
+unfoldable pub strictRefusal : ℕ → ℕ → ℕ → ℕ → List ℤ → ℕ → ℕ
+unfolding openRefusal isQuiet
+strictRefusal k b f number frame n =
+    cond (eqb (openRefusal k b f frame n) 0) (unless (isQuiet k b f number frame) 9 0) (openRefusal k b f frame n)
 
--- ---- what a reading that answers `refusal` leaves: the message of the frame and the frame's energy, or the lent bytes as they were and 0
+-- ---- what a reading that answers `refusal` leaves: the fixed bits and the frame's energy, or the lent bytes as they were and 0
 
-unfoldable pub messageAfter : ℕ → ℕ → ℕ → List ℤ → List ℕ → List ℕ
-unfolding openMessage
-messageAfter refusal k b f bytes = cond (eqb refusal 0) (openMessage k b f) bytes
+unfoldable pub messageAfter : ℕ → ℕ → ℕ → ℕ → List ℤ → List ℕ → List ℕ
+unfolding fixedMessage
+messageAfter refusal k b f frame bytes = cond (eqb refusal 0) (fixedMessage k b f frame) bytes
 
 unfoldable pub energyRead : ℕ → List ℤ → ℕ
 unfolding energy
-energyRead refusal f = cond (eqb refusal 0) (energy f) 0
+energyRead refusal frame = cond (eqb refusal 0) (energy frame) 0

@@ -14,7 +14,7 @@ use Rattle.bits.specs.Message.{messageBit}
 use Rattle.bits.proofs.Message.{message-small}
 use Rattle.bits.proofs.Table.{length-table, table-at}
 use Rattle.e8.specs.Energy.{Within}
-use Rattle.e8.proofs.Within.{within-all}
+use Rattle.e8.proofs.Within.{within-to, within-all}
 use Rattle.e8.specs.Lattice.{part}
 use Rattle.e8.specs.Rows.{ints}
 use Rattle.e8.proofs.Rows.{ints-length}
@@ -80,7 +80,10 @@ module _ (k b : ℕ) (kind : isKind k ≡ true) (bytes : List ℕ) where
         let f : 2 ^ length (degrees k) * (s + 1) ≤ 8 * 32 = mul-le-mul {n₁ = 2 ^ length (degrees k)} {m₁ = s + 1} {n₂ = 8} {m₂ = 32} (pow-mono {j = 3} (few-levels k kind)) (omega arith) in
         omega (arith, stacked-below k (degrees k) (messageBit bytes) 0 s p)
 
-    pub leader-within : Within (2 ^ 24) (leader k b bytes)
-    leader-within =
-        within-all (2 ^ 24) (leader k b bytes)
+    pub leader-near : Within (2 ^ 9) (leader k b bytes)
+    leader-near =
+        within-all (2 ^ 9) (leader k b bytes)
         (λ p l. rw (leader-at k b bytes p (omega (arith, leader-length k b bytes))) (omega (arith, coordinate-below p)))
+
+    pub leader-within : Within (2 ^ 24) (leader k b bytes)
+    leader-within = within-to (2 ^ 9) (2 ^ 24) (leader k b bytes) (omega arith) leader-near

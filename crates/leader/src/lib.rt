@@ -47,7 +47,7 @@ pub fn codewords(kind: u8, message: &[u8]) -> [u64; 3]
 }
 
 // A block's numbers s1 to s8, from its message bits, held in a number.
-fn unpacked_by(bits: u64, grade: usize) -> [u32; 8]
+pub fn unpacked_by(bits: u64, grade: usize) -> [u32; 8]
     requires { ⌜ (1 ≤ grade) × (grade ≤ 4) ⌝ }
     ensures { λ s. ⌜ s ≡ numbers (λ t. bits / 2 ^ t % 2) 0 (widths grade) ⌝ }
 {

@@ -13,7 +13,8 @@ use Rattle.e8.specs.Ties.{leastFrameBy}
 use Rattle.frames.specs.Kind.{kinds, isKind, isGrade, degrees, levels, levelBits, messageBits, messageBytes}
 use Rattle.frames.specs.Message.{numbers, blockNumbers, stacked, coordinate, leader}
 use Rattle.frames.specs.Frame.{half, isOdd, numberedFrame}
-use Rattle.frames.specs.Sending.{anySet, spareSet, sendRefusal}
+use Rattle.frames.specs.Free.{isFreeCount, freeFrom}
+use Rattle.frames.specs.Sending.{anySet, freeSet, sendRefusal}
 use Rattle.text.specs.Text.{bytes, digitsOf, decimalOf, signedOf}
 use Rattle.text.specs.Line.{headerText, coordinatesOf, lineOf, refusedText}
 use Rattle.sheet_record.specs.Record.{marked, recordRefusal, recordNumber}
@@ -25,7 +26,7 @@ pub sheet : List ℕ
 sheet = 76 ∷ 67 ∷ 3 ∷ 1 ∷ 0 ∷ 8 ∷ 76 ∷ 67 ∷ 3 ∷ 1 ∷ 2 ∷ 0 ∷ 76 ∷ 67 ∷ 3 ∷ 5 ∷ []
 
 pub example : listingOf sheet ≡ bytes "kind grade energy frame\n3 1 16 -4 0 0 0 0 0 0 0\n3 1 4 0 1 0 1 0 1 0 1\nrefused 2\n"
-unfolding sheet listingOf linesFrom lineAt nextAt sentLine recordNumber recordRefusal marked sendRefusal isGrade isKind kinds spareSet
+unfolding sheet listingOf linesFrom lineAt nextAt sentLine recordNumber recordRefusal marked sendRefusal isGrade isKind isFreeCount kinds freeSet freeFrom
     anySet messageBytes messageBits levelBits headerText lineOf refusedText coordinatesOf signedOf decimalOf digitsOf bytes numberedFrame isOdd half
     leastFrameBy leastFrame leastBlock best better cent before energy sq leader coordinate stacked blockNumbers numbers degrees levels sumTo
     codeword order dimension masks ofWeight table messageBit ones
@@ -36,7 +37,7 @@ pub tied : List ℕ
 tied = 76 ∷ 67 ∷ 3 ∷ 1 ∷ 0 ∷ 8 ∷ 76 ∷ 67 ∷ 3 ∷ 1 ∷ 0 ∷ 8 ∷ 76 ∷ 67 ∷ 3 ∷ 1 ∷ 0 ∷ 8 ∷ []
 
 pub numbered : listingOf tied ≡ bytes "kind grade energy frame\n3 1 16 -4 0 0 0 0 0 0 0\n3 1 16 4 0 0 0 0 0 0 0\n3 1 16 -4 0 0 0 0 0 0 0\n"
-unfolding tied listingOf linesFrom lineAt nextAt sentLine recordNumber recordRefusal marked sendRefusal isGrade isKind kinds spareSet
+unfolding tied listingOf linesFrom lineAt nextAt sentLine recordNumber recordRefusal marked sendRefusal isGrade isKind isFreeCount kinds freeSet freeFrom
     anySet messageBytes messageBits levelBits headerText lineOf refusedText coordinatesOf signedOf decimalOf digitsOf bytes numberedFrame isOdd half
     leastFrameBy leastFrame leastBlock best better cent before energy sq leader coordinate stacked blockNumbers numbers degrees levels sumTo
     codeword order dimension masks ofWeight table messageBit ones

@@ -3,7 +3,7 @@ use mathlib.Core.Path.{_≡_, refl}
 use mathlib.Core.List.{map}
 use lib.Count.{ones}
 use Rattle.bits.specs.Number.{sumTo, table}
-use Rattle.bits.specs.Message.{messageBit, byteOf, bytesOf}
+use Rattle.bits.specs.Message.{messageBit, byteOf, bytesOf, withBits}
 use Rattle.reed_muller.specs.Level.{ofWeight, masks, order, dimension, codeword, backwards, clearAbove, belongs}
 use Rattle.e8.specs.Energy.{sq, energy, isWithin}
 use Rattle.e8.specs.Order.{before}
@@ -13,9 +13,10 @@ use Rattle.e8.specs.Rows.{reduced}
 use Rattle.frames.specs.Kind.{kinds, isKind, isGrade, degrees, levels, levelBits, messageBits, messageBytes}
 use Rattle.frames.specs.Message.{numbers, blockNumbers, stacked, coordinate, leader}
 use Rattle.frames.specs.Frame.{weightBit, half, isOdd, numberedFrame, sentFrame}
-use Rattle.frames.specs.Sending.{anySet, spareSet, sendRefusal}
+use Rattle.frames.specs.Free.{isFreeCount, freeFrom, filled, filledFrame, leastOf, quietEnergy}
+use Rattle.frames.specs.Sending.{anySet, freeSet, sendRefusal}
 use Rattle.frames.specs.Reading.{levelMessage, levelMessages, quotients, digits, allDigits, blockMessages, readBits, openMessage}
-use Rattle.frames.specs.Reading.{sameFrame, inRange, broken, openRefusal, isSent, strictRefusal}
+use Rattle.frames.specs.Reading.{fixedMessage, sameFrame, inRange, broken, openRefusal, isSent, isQuiet, strictRefusal}
 use Rattle.frames.specs.Exam.{sentAs, examined, Numbered, sentUnder}
 use Rattle.long_frames.specs.Cases.{layout, numbered, KindSixTests}
 
@@ -32,8 +33,8 @@ unfolding numberedFrame isOdd half leastFrameBy leastFrame leastBlock best bette
 numbered-frames = refl
 
 pub kind-six-tests : KindSixTests
-unfolding openRefusal strictRefusal isSent sameFrame openMessage readBits levelMessages levelMessage blockMessages quotients allDigits digits
-    inRange isWithin broken weightBit isKind isGrade sendRefusal spareSet anySet messageBytes messageBits
+unfolding openRefusal strictRefusal isQuiet isSent isFreeCount fixedMessage filled freeFrom withBits quietEnergy leastOf filledFrame sameFrame openMessage readBits levelMessages levelMessage blockMessages quotients allDigits digits
+    inRange isWithin broken weightBit isKind isGrade sendRefusal freeSet anySet messageBytes messageBits
     numberedFrame isOdd half leastFrameBy leastFrame leastBlock best better cent before energy sq leader coordinate stacked blockNumbers numbers
     degrees kinds levels levelBits sumTo codeword order dimension masks ofWeight table messageBit bytesOf byteOf backwards belongs clearAbove reduced ones
 kind-six-tests = record {

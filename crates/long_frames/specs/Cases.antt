@@ -33,15 +33,15 @@ numbered =
 -- request E1: "1 now means not 3 to 6"; "13: broken level 2, when the third level isn't a codeword, tested after 8", and so before 9. Each frame
 -- but the last three is wrong in that test and in all later ones: 1,048,583 is over range, and its bits of weight 1, 2 and 4 are set
 pub record KindSixTests : Type 0 where
-  pub kind : sendRefusal 7 1 (replicate 22 255) 64 ≡ 1
-  pub bytes : sendRefusal 6 1 (replicate 23 255) 63 ≡ 3
-  pub coordinates : sendRefusal 6 1 (replicate 22 255) 63 ≡ 4
-  pub none-spare : sendRefusal 6 1 (replicate 22 255) 64 ≡ 0
-  pub range : strictRefusal 6 1 0 (pos 1048583 ∷ replicate 63 (pos 0)) 22 ≡ 6
-  pub level-0 : strictRefusal 6 1 0 (pos 7 ∷ replicate 63 (pos 0)) 22 ≡ 7
-  pub level-1 : strictRefusal 6 1 0 (pos 6 ∷ replicate 63 (pos 0)) 22 ≡ 8
-  pub level-2 : strictRefusal 6 1 0 (pos 4 ∷ replicate 63 (pos 0)) 22 ≡ 13
-  pub level-2-openly : openRefusal 6 1 (pos 4 ∷ replicate 63 (pos 0)) 22 ≡ 13
-  pub unshaped : strictRefusal 6 1 0 (replicate 64 (pos 4)) 22 ≡ 9
+  pub kind : sendRefusal 7 1 0 (replicate 22 255) 64 ≡ 1
+  pub bytes : sendRefusal 6 1 0 (replicate 23 255) 63 ≡ 3
+  pub coordinates : sendRefusal 6 1 0 (replicate 22 255) 63 ≡ 4
+  pub none-spare : sendRefusal 6 1 0 (replicate 22 255) 64 ≡ 0
+  pub range : strictRefusal 6 1 0 0 (pos 1048583 ∷ replicate 63 (pos 0)) 22 ≡ 6
+  pub level-0 : strictRefusal 6 1 0 0 (pos 7 ∷ replicate 63 (pos 0)) 22 ≡ 7
+  pub level-1 : strictRefusal 6 1 0 0 (pos 6 ∷ replicate 63 (pos 0)) 22 ≡ 8
+  pub level-2 : strictRefusal 6 1 0 0 (pos 4 ∷ replicate 63 (pos 0)) 22 ≡ 13
+  pub level-2-openly : openRefusal 6 1 0 (pos 4 ∷ replicate 63 (pos 0)) 22 ≡ 13
+  pub unshaped : strictRefusal 6 1 0 0 (replicate 64 (pos 4)) 22 ≡ 9
   pub openly : openMessage 6 1 (replicate 64 (pos 4)) ≡ oneByte 22 6 2
-  pub none : strictRefusal 6 1 0 (replicate 64 (minus 4)) 22 ≡ 0
+  pub none : strictRefusal 6 1 0 0 (replicate 64 (minus 4)) 22 ≡ 0

@@ -15,11 +15,12 @@ use Rattle.e8.proofs.Within.{within-to}
 use Rattle.frames.specs.Kind.{isGrade, messageBytes, scale}
 use Rattle.frames.specs.Message.{Message}
 use Rattle.frames.specs.Frame.{numberedFrame, leastDistance}
-use Rattle.frames.specs.Reading.{openMessage}
+use Rattle.frames.specs.Reading.{fixedMessage}
 use Rattle.frames.proofs.Rows.{grade-low}
 use Rattle.frames.proofs.Limits.{scale-128}
 use Rattle.frames.proofs.Demands.{sent-in-set, sent-length, sent-within}
 use Rattle.frames.proofs.Reading.{read-sent}
+use Rattle.free_bits.proofs.ReadBack.{none-fixed}
 use Rattle.samples.specs.Sample.{samplesIn256ths, samplesOf}
 use Rattle.samples.proofs.Samples.{samples-length, samples-of-fit, samples-of-256}
 use Rattle.near_frames.specs.Near.{frameIn256ths, nearness, nearKind, IsNear, nearFrame}
@@ -49,7 +50,7 @@ module _ (k b : ℕ) (xs : List Float) (bytes : List ℕ) (r : Readable k b xs (
       let z = number-0 k b xs bytes r (n .0) in
       record {
         number = z;
-        message = message-near k b xs bytes z ∙ ap (openMessage k b) (n .1 []);
+        message = message-near k b xs bytes z ∙ ap (fixedMessage k b 0) (n .1 []) ∙ none-fixed k b (near-is-kind k (r .kind)) (r .grade) f (near .coded);
         exact = subst (λ (x : Float). HasValue x false (nearness f t) 65536) (sym (given-distance f near))
             (parts-value (nearness f t) (omega (arith, near .close, limit-low k (r .kind))));
       }

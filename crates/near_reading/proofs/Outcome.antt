@@ -1,6 +1,6 @@
 -- What is answered past the tests, by what the search tells: the near frame's message and distance; or too far. Assumes nothing.
 use Prim.Native.Nat.{ℕ, _^_, _≤_, _<_}
-use mathlib.Core.Path.{_≡_, sym, ap, _∙_}
+use mathlib.Core.Path.{_≡_, refl, sym, ap, _∙_}
 use mathlib.Core.Bool.{true, false}
 use mathlib.Core.List.{List, []}
 use native.Mathlib.Omega.{arith}
@@ -11,7 +11,8 @@ use Rattle.integers.proofs.Zed.{`_, #_, _⊖_, _⊗_, eq!, eq?}
 use Rattle.bits.proofs.Sum.{sum-term}
 use Rattle.e8.specs.Energy.{sq}
 use Rattle.e8.proofs.Within.{within-at, within-all}
-use Rattle.frames.specs.Reading.{openMessage, openRefusal, messageAfter, inRange}
+use Rattle.frames.specs.Free.{isFreeCount}
+use Rattle.frames.specs.Reading.{fixedMessage, openRefusal, messageAfter, inRange}
 use Rattle.frames.proofs.Frame.{at}
 use Rattle.frames.proofs.Refusals.{within-range}
 use Rattle.frames.proofs.Reading.{inside-taken}
@@ -57,8 +58,9 @@ module _ (k b : ℕ) (xs : List Float) (bytes : List ℕ) (r : Readable k b xs (
             sum-term (2 ^ k) (λ q. sq (pos 256 *ℤ at f q -ℤ at t q)) p (omega (arith, h, near .coded .long)),
           ))
 
-  pub taken : (f : List ℤ) → IsNear k t f → openRefusal k b f (length bytes) ≡ 0
-  taken f near = inside-taken k b (near-is-kind k (r .kind)) (r .grade) f (length bytes) (r .bytes) (near .coded) (in-range f near)
+  pub taken : (f : List ℤ) → IsNear k t f → openRefusal k b 0 f (length bytes) ≡ 0
+  unfolding isFreeCount
+  taken f near = inside-taken k b (near-is-kind k (r .kind)) (r .grade) 0 refl f (length bytes) (r .bytes) (near .coded) (in-range f near)
 
   -- ---- none is near
 
@@ -82,11 +84,11 @@ module _ (k b : ℕ) (xs : List Float) (bytes : List ℕ) (r : Readable k b xs (
     near-answer = ap answer.Near (sym (distance-near k b xs (length bytes) number-0)) ∙ answer-near k b xs (length bytes) number-0
 
     -- what the open reading of the near frame leaves, whatever coordinates were lent for it
-    pub near-message : (lent f : List ℤ) (number : ℕ) → f ≡ nearFrame k t lent → number ≡ openRefusal k b f (length bytes)
-        → messageAfter number k b f bytes ≡ nearMessage k b xs bytes
+    pub near-message : (lent f : List ℤ) (number : ℕ) → f ≡ nearFrame k t lent → number ≡ openRefusal k b 0 f (length bytes)
+        → messageAfter number k b 0 f bytes ≡ nearMessage k b xs bytes
     unfolding messageAfter
     near-message lent f number same e =
         let i : IsNear k t (nearFrame k t []) = is-near k (r .kind) t near in
         let is : f ≡ nearFrame k t [] = same ∙ near-is k (r .kind) t (nearFrame k t []) i .1 lent in
-        let z : number ≡ 0 = e ∙ ap (λ (g : List ℤ). openRefusal k b g (length bytes)) is ∙ taken (nearFrame k t []) i in
-        rw z (ap (openMessage k b) is ∙ sym (message-near k b xs bytes number-0))
+        let z : number ≡ 0 = e ∙ ap (λ (g : List ℤ). openRefusal k b 0 g (length bytes)) is ∙ taken (nearFrame k t []) i in
+        rw z (ap (fixedMessage k b 0) is ∙ sym (message-near k b xs bytes number-0))

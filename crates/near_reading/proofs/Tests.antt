@@ -10,7 +10,7 @@ use lib.Ieee.{Float}
 use borrow.Author.Tests.{eqb-true, eqb-false, eq-eqb, ne-eqb}
 use Rattle.frames.specs.Kind.{isGrade, messageBytes}
 use Rattle.frames.specs.Sending.{unless}
-use Rattle.frames.specs.Reading.{openMessage, messageAfter}
+use Rattle.frames.specs.Reading.{fixedMessage, messageAfter}
 use Rattle.frames.proofs.Refusals.{passed}
 use Rattle.samples.specs.Sample.{allFit, samplesIn256ths}
 use Rattle.near_frames.specs.Near.{nearKind, someNear, nearFrame, nearCost}
@@ -147,7 +147,7 @@ module _ (k b : ℕ) (xs : List Float) (n : ℕ) where
 
 module _ (k b : ℕ) (xs : List Float) (bytes : List ℕ) where
   -- the lent bytes afterwards, by the number
-  pub message-near : nearNumber k b xs (length bytes) ≡ 0 → nearMessage k b xs bytes ≡ openMessage k b (nearFrame k (samplesIn256ths xs) [])
+  pub message-near : nearNumber k b xs (length bytes) ≡ 0 → nearMessage k b xs bytes ≡ fixedMessage k b 0 (nearFrame k (samplesIn256ths xs) [])
   unfolding nearMessage messageAfter
   message-near e = rw e
 

@@ -43,10 +43,10 @@ unfoldable pub nearDistance : ℕ → ℕ → List Float → ℕ → Float
 unfolding nearNumber inParts nearCost samplesIn256ths
 nearDistance k b xs n = cond (eqb (nearNumber k b xs n) 0) (inParts (nearCost k (samplesIn256ths xs))) zero64
 
--- THE LENT BYTES afterwards: the message of the near frame, or as they were where the number is another than 0
+-- THE LENT BYTES afterwards: the message of the near frame, no bit free, or as they were where the number is another than 0
 unfoldable pub nearMessage : ℕ → ℕ → List Float → List ℕ → List ℕ
 unfolding nearNumber nearFrame samplesIn256ths messageAfter
-nearMessage k b xs bytes = messageAfter (nearNumber k b xs (length bytes)) k b (nearFrame k (samplesIn256ths xs) []) bytes
+nearMessage k b xs bytes = messageAfter (nearNumber k b xs (length bytes)) k b 0 (nearFrame k (samplesIn256ths xs) []) bytes
 
 -- the paper's number for each case: 0, 16, or that of the test; and the squared distance, 0.0 where there is none
 abbrev pub numberOf : NearReading → ℕ

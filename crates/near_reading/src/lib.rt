@@ -70,7 +70,7 @@ fn read_fit(
     if !place.found {
         return NearReading::Far;
     }
-    reading::read_open(kind, grade, frame, message);
+    reading::read_open(kind, grade, 0, frame, message);
     let d = distance_of(place.cost);
     NearReading::Near(d)
 }

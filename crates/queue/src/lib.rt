@@ -44,7 +44,7 @@ fn in_turn(kind: u8, grade: u8, messages: &[u8], frames: &mut [i32], account: Ac
         let e = s + m;
         let t = n * i;
         let u = t + n;
-        let number = account::refusal(kind, grade, &messages[s..e], n, grown);
+        let number = account::refusal(kind, grade, 0, &messages[s..e], n, grown);
         if number != 0 {
             return Queued {
                 number,
@@ -52,7 +52,7 @@ fn in_turn(kind: u8, grade: u8, messages: &[u8], frames: &mut [i32], account: Ac
                 account: grown,
             };
         }
-        let w = account::write_counted(kind, grade, &messages[s..e], &mut frames[t..u], grown);
+        let w = account::write_counted(kind, grade, 0, &messages[s..e], &mut frames[t..u], grown);
         grown = w.account;
         i += 1;
     }

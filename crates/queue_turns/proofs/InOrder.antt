@@ -17,17 +17,18 @@ use Rattle.frames.specs.Kind.{isKind, isGrade, messageBytes}
 use Rattle.frames.specs.Frame.{numberedFrame}
 use Rattle.frames.proofs.Rows.{grade-low}
 use Rattle.frames.proofs.Demands.{least-energy}
+use Rattle.free_bits.proofs.ReadBack.{none-free}
 use Rattle.power_account.specs.declared.Account.{Account}
 use Rattle.power_account.specs.Power.{begun}
 use Rattle.power_account.specs.Counted.{numberAt, numberFor, countedRefusal}
-use Rattle.power_account.specs.History.{Call, answer, after, accountAfter, sentBy, Holds}
-use Rattle.power_account.proofs.History.{frame-of, first-number, tests, frame-length, after-refused, by-sent, by-refused, next-numbers, calls-after, history}
+use Rattle.power_account.specs.History.{Call, answer, after, accountAfter, Sends, SentBy, Holds}
+use Rattle.power_account.proofs.History.{first-number, tests, after-refused, by-sent, by-refused, next-numbers, calls-after, history}
 use Rattle.power_account.proofs.Changeover.{changeover-kept}
 use Rattle.queue_turns.specs.declared.Queued.{Queued}
 use Rattle.queue_turns.specs.Queue.{queueRefusal, messagesIn, callsFor, callsOf, oneMore, inTurn, framesInTurn, queueOutcome, queueFrames, piece, EachLeast}
 use Rattle.queue_turns.specs.InTurn.{accountAt, answerAt, callsMade, InTurn}
 use Rattle.queue_turns.proofs.Tests.{fits, all-fit}
-use Rattle.queue_turns.proofs.Turns.{sent-answer, sent-frames, refused-answer, refused-frames}
+use Rattle.queue_turns.proofs.Turns.{frame-of, frame-length, sent-answer, sent-frames, refused-answer, refused-frames}
 
 -- ---- pieces, from the first
 
@@ -43,21 +44,21 @@ piece-next n i xs =
 
 module _ (m k b : ℕ) (bytes : List ℕ) (a : Account) where
   abbrev first-call : Call
-  first-call = record { kind = k; grade = b; message = take (messageBytes k b) bytes; n = 2 ^ k }
+  first-call = record { kind = k; grade = b; free = 0; message = take (messageBytes k b) bytes; n = 2 ^ k }
 
   abbrev rest : List ℕ
   rest = drop (messageBytes k b) bytes
 
   answer-first : answerAt (suc m) k b bytes a 0 ≡ answer a first-call
   unfolding accountAfter
-  answer-first = ap (λ (x : List ℕ). countedRefusal k b x (2 ^ k) a) (piece-first (messageBytes k b) bytes)
+  answer-first = ap (λ (x : List ℕ). countedRefusal k b 0 x (2 ^ k) a) (piece-first (messageBytes k b) bytes)
 
   account-next : (i : ℕ) → accountAt (suc m) k b bytes a (suc i) ≡ accountAt m k b rest (after a first-call) i
   unfolding accountAfter callsFor
   account-next i = refl
 
   answer-next : (i : ℕ) → answerAt (suc m) k b bytes a (suc i) ≡ answerAt m k b rest (after a first-call) i
-  answer-next i = ap₂ (λ (x : List ℕ) (y : Account). countedRefusal k b x (2 ^ k) y) (piece-next (messageBytes k b) i bytes) (account-next i)
+  answer-next i = ap₂ (λ (x : List ℕ) (y : Account). countedRefusal k b 0 x (2 ^ k) y) (piece-next (messageBytes k b) i bytes) (account-next i)
 
   made-next : (q : Queued) → callsMade (suc m) k b bytes (oneMore q) ≡ first-call ∷ callsMade m k b rest q
   unfolding callsFor
@@ -66,7 +67,7 @@ module _ (m k b : ℕ) (bytes : List ℕ) (a : Account) where
   -- the first is refused: nothing is sent
   refused-first : (f : List ℤ) → (answer a first-call ≡ 0 → ⊥)
       → InTurn (suc m) k b bytes a f (record { number = answer a first-call; sent = 0; account = a }) f
-  unfolding accountAfter callsFor sentBy
+  unfolding accountAfter callsFor
   refused-first f not-0 =
       let q : eqb (answer a first-call) 0 ≡ false = ne-eqb _ _ not-0 in
       record {
@@ -79,8 +80,8 @@ module _ (m k b : ℕ) (bytes : List ℕ) (a : Account) where
         all = λ e. absurd (omega arith);
         account = refl;
         refused = sym (after-refused a first-call q);
-        counted = ap length (by-refused a first-call q []);
-        history = λ i h. absurd (omega arith);
+        counted = λ fs s. ap length (by-refused a first-call [] fs q s);
+        history = λ fs s i h. absurd (omega arith);
       }
 
   -- the first is sent, before those of q, which leave g
@@ -90,7 +91,7 @@ module _ (m k b : ℕ) (bytes : List ℕ) (a : Account) where
     frame = frame-of a first-call
 
     whole : length frame ≡ 2 ^ k
-    whole = frame-length a first-call e (numberFor a)
+    whole = frame-length a first-call e
 
     abbrev left : List ℤ
     left = frame ++ g
@@ -109,8 +110,10 @@ module _ (m k b : ℕ) (bytes : List ℕ) (a : Account) where
         let l : 2 ^ k * (q .sent + 1) ≡ 2 ^ k + 2 ^ k * q .sent = omega arith in
         ap (λ (x : ℕ). drop x xs) l ∙ sym (drop-drop (2 ^ k * q .sent) (2 ^ k) xs) ∙ ap (drop (2 ^ k * q .sent)) d
 
-    made : sentBy a (callsMade (suc m) k b bytes (oneMore q)) ≡ frame ∷ sentBy (after a first-call) (callsMade m k b rest q)
-    made = ap (sentBy a) (made-next q) ∙ by-sent a first-call (eq-eqb _ _ e) (callsMade m k b rest q)
+    -- a history of the calls: its first frame, and those behind it
+    made : (fs : List (List ℤ)) → SentBy a (callsMade (suc m) k b bytes (oneMore q)) fs
+        → Sends a first-call fs (SentBy (after a first-call) (callsMade m k b rest q))
+    made fs s = by-sent a first-call (callsMade m k b rest q) fs (eq-eqb _ _ e) (subst (λ (cs : List Call). SentBy a cs fs) (made-next q) s)
 
     each-accepted : (i : ℕ) → i < q .sent + 1 → answerAt (suc m) k b bytes a i ≡ 0
     each-accepted zero h = answer-first ∙ e
@@ -123,9 +126,18 @@ module _ (m k b : ℕ) (bytes : List ℕ) (a : Account) where
         left-next i ∙ r .written i (omega arith)
         ∙ ap₂ (numberedFrame k b) (next-numbers a first-call e i) (sym (piece-next (messageBytes k b) i bytes))
 
-    each-counted : (i : ℕ) → i < q .sent + 1 → getD (sentBy a (callsMade (suc m) k b bytes (oneMore q))) i [] ≡ piece (2 ^ k) i left
-    each-counted zero h = ap (λ (x : List (List ℤ)). getD x 0 []) made ∙ sym left-first
-    each-counted (suc i) h = ap (λ (x : List (List ℤ)). getD x (suc i) []) made ∙ r .history i (omega arith) ∙ sym (left-next i)
+    module _ (fs : List (List ℤ)) (s : SentBy a (callsMade (suc m) k b bytes (oneMore q)) fs) where
+      each-counted : (i : ℕ) → i < q .sent + 1 → getD fs i [] ≡ piece (2 ^ k) i left
+      each-counted zero h =
+          let t = made fs s in
+          ap (λ (x : List (List ℤ)). getD x 0 []) (t .is)
+          ∙ none-free k b (numberFor a) (take (messageBytes k b) bytes) 0 .only (t .frame) (t .quiet) ∙ sym left-first
+      each-counted (suc i) h =
+          let t = made fs s in
+          ap (λ (x : List (List ℤ)). getD x (suc i) []) (t .is) ∙ r .history (t .others) (t .later) i (omega arith) ∙ sym (left-next i)
+
+      all-counted : length fs ≡ q .sent + 1
+      all-counted = let t = made fs s in ap length (t .is) ∙ omega (arith, r .counted (t .others) (t .later))
 
     sent-first : InTurn (suc m) k b bytes a f (oneMore q) left
     unfolding accountAfter
@@ -139,14 +151,14 @@ module _ (m k b : ℕ) (bytes : List ℕ) (a : Account) where
       all = λ h. r .all (omega arith);
       account = r .account ∙ sym (account-next (q .sent)) ∙ ap (accountAt (suc m) k b bytes a) (sym next);
       refused = r .refused ∙ ap (accountAfter a) (sym (made-next q));
-      counted = ap length made ∙ omega (arith, r .counted);
+      counted = all-counted;
       history = each-counted;
     }
 
 -- THE QUEUE, message by message
 pub in-order : (m k b : ℕ) (bytes : List ℕ) (a : Account) (f : List ℤ) → length f ≡ 2 ^ k * m
     → InTurn m k b bytes a f (inTurn a (callsFor m k b bytes)) (framesInTurn a (callsFor m k b bytes) f)
-unfolding inTurn framesInTurn callsFor accountAfter sentBy
+unfolding inTurn framesInTurn callsFor accountAfter
 in-order zero k b bytes a f l = record {
   some = omega arith;
   accepted = λ i h. absurd (omega arith);
@@ -157,8 +169,8 @@ in-order zero k b bytes a f l = record {
   all = λ h. refl;
   account = refl;
   refused = refl;
-  counted = refl;
-  history = λ i h. absurd (omega arith);
+  counted = λ fs s. ap length s;
+  history = λ fs s i h. absurd (omega arith);
 }
 in-order (suc m) k b bytes a f l = go (eqb (answer a c) 0) refl (in-order m k b (drop (messageBytes k b) bytes) (after a c) (drop (2 ^ k) f) fewer)
   where
@@ -186,7 +198,7 @@ each-least : {m k b : ℕ} {bytes : List ℕ} {a : Account} {f₀ : List ℤ} {q
 each-least {m} {k} {b} {bytes} {a} {f₀} {q} {f} r = record {
   each = λ i h.
       let message = piece (messageBytes k b) i bytes in
-      let p = tests (accountAt m k b bytes a i) (record { kind = k; grade = b; message = message; n = 2 ^ k }) (r .accepted i h) in
+      let p = tests (accountAt m k b bytes a i) (record { kind = k; grade = b; free = 0; message = message; n = 2 ^ k }) (r .accepted i h) in
       least-energy k b (p .kind) (grade-low b (p .grade)) _ message _ _ (r .written i h) (ap energy (r .written i h));
 }
 
@@ -218,10 +230,9 @@ module _ (k b : ℕ) (bytes : List ℕ) (f : List ℤ) (a : Account) where
     queue-continues a₀ cs e = queue-in-turn .refused ∙ sym (calls-after a₀ cs made-by ∙ ap (λ (x : Account). accountAfter x made-by) e)
 
     pub queue-history : (changeover : ℕ) (cs : List Call) → accountAfter (begun changeover) cs ≡ a
-        → Holds (queueOutcome k b bytes (length f) a .account) (sentBy (begun changeover) (cs ++ made-by))
-    queue-history changeover cs e =
-        subst (λ (x : Account). Holds x (sentBy (begun changeover) (cs ++ made-by))) (sym (queue-continues (begun changeover) cs e))
-        (history changeover (cs ++ made-by))
+        → (fs : List (List ℤ)) → SentBy (begun changeover) (cs ++ made-by) fs → Holds (queueOutcome k b bytes (length f) a .account) fs
+    queue-history changeover cs e fs s =
+        subst (λ (x : Account). Holds x fs) (sym (queue-continues (begun changeover) cs e)) (history changeover (cs ++ made-by) fs s)
 
     -- and each frame written has the least energy
     pub queue-least : {q : Queued} {g : List ℤ} → q ≡ queueOutcome k b bytes (length f) a → g ≡ queueFrames k b bytes f a → EachLeast k b (q .sent) g

@@ -8,7 +8,7 @@ use Rattle.frames.specs.Kind.{messageBytes}
 use Rattle.frames.specs.Frame.{numberedFrame}
 use Rattle.power_account.specs.declared.Account.{Account}
 use Rattle.power_account.specs.Counted.{numberAt, countedRefusal}
-use Rattle.power_account.specs.History.{Call, accountAfter, sentBy}
+use Rattle.power_account.specs.History.{Call, accountAfter, SentBy}
 use Rattle.queue_turns.specs.declared.Queued.{Queued}
 use Rattle.queue_turns.specs.Queue.{callsFor, piece}
 
@@ -18,7 +18,7 @@ accountAt m k b bytes a i = accountAfter a (take i (callsFor m k b bytes))
 
 -- what sending message i answers with that account
 abbrev pub answerAt : ℕ → ℕ → ℕ → List ℕ → Account → ℕ → ℕ
-answerAt m k b bytes a i = countedRefusal k b (piece (messageBytes k b) i bytes) (2 ^ k) (accountAt m k b bytes a i)
+answerAt m k b bytes a i = countedRefusal k b 0 (piece (messageBytes k b) i bytes) (2 ^ k) (accountAt m k b bytes a i)
 
 -- the calls that a queue of m messages makes which answers q: those that are sent, and the refused one where there is one
 abbrev pub callsMade : ℕ → ℕ → ℕ → List ℕ → Queued → List Call
@@ -42,5 +42,5 @@ pub record InTurn (m k b : ℕ) (bytes : List ℕ) (a : Account) (f₀ : List �
   pub account : q .account ≡ accountAt m k b bytes a (q .sent)
   pub refused : q .account ≡ accountAfter a (callsMade m k b bytes q)
   -- and their history has the frames that were written, and no other
-  pub counted : length (sentBy a (callsMade m k b bytes q)) ≡ q .sent
-  pub history : (i : ℕ) → i < q .sent → getD (sentBy a (callsMade m k b bytes q)) i [] ≡ piece (2 ^ k) i f
+  pub counted : (fs : List (List ℤ)) → SentBy a (callsMade m k b bytes q) fs → length fs ≡ q .sent
+  pub history : (fs : List (List ℤ)) → SentBy a (callsMade m k b bytes q) fs → (i : ℕ) → i < q .sent → getD fs i [] ≡ piece (2 ^ k) i f

@@ -26,11 +26,11 @@ queueRefusal k b bytes n =
 abbrev pub messagesIn : ℕ → ℕ → List ℕ → ℕ
 messagesIn k b bytes = length bytes / messageBytes k b
 
--- the first q messages in the bytes, each as a call of sending that lends a frame's length of coordinates
+-- the first q messages in the bytes, each as a call of sending that leaves no bit free and lends a frame's length of coordinates
 unfoldable pub callsFor : ℕ → ℕ → ℕ → List ℕ → List Call
 callsFor zero k b bytes = []
 callsFor (suc q) k b bytes =
-    record { kind = k; grade = b; message = take (messageBytes k b) bytes; n = 2 ^ k } ∷ callsFor q k b (drop (messageBytes k b) bytes)
+    record { kind = k; grade = b; free = 0; message = take (messageBytes k b) bytes; n = 2 ^ k } ∷ callsFor q k b (drop (messageBytes k b) bytes)
 
 -- all of them
 abbrev pub callsOf : ℕ → ℕ → List ℕ → List Call
@@ -47,7 +47,7 @@ unfoldable pub inTurn : Account → List Call → Queued
 inTurn a [] = record { number = 0; sent = 0; account = a }
 inTurn a (c ∷ cs) = cond (eqb (answer a c) 0) (oneMore (inTurn (after a c) cs)) (record { number = answer a c; sent = 0; account = after a c })
 
--- the lent coordinates f afterwards: each call is lent the next of them
+-- the lent coordinates f afterwards: each call, which leaves no bit free, is lent the next of them
 unfoldable pub framesInTurn : Account → List Call → List ℤ → List ℤ
 unfolding frameAfter
 framesInTurn a [] f = f

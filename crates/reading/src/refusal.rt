@@ -25,15 +25,19 @@ fn refused(number: u8) -> Tested
 }
 
 // The tests of the open reading; n message bytes are lent.
-fn open_tests(kind: u8, grade: u8, frame: &[i32], n: usize) -> Tested
-    ensures number { λ t. ⌜ t .number ≡ openRefusal kind grade (now (frame .entry)) n ⌝ }
+fn open_tests(kind: u8, grade: u8, free: u8, frame: &[i32], n: usize) -> Tested
+    ensures number { λ t. ⌜ t .number ≡ openRefusal kind grade free (now (frame .entry)) n ⌝ }
     ensures words { λ t. ⌜ t .words ≡ wordsAfter (t .number) kind (now (frame .entry)) ⌝ }
 {
     let no = kind_table::refusal(kind, grade);
     if no != 0 {
         return refused(no);
     }
-    if frame.len() != kind_table::positions(kind) {
+    let positions = kind_table::positions(kind);
+    if 4 < free {
+        return refused(17);
+    }
+    if frame.len() != positions {
         return refused(4);
     }
     if n != kind_table::message_bytes(kind, grade as usize) {
@@ -53,12 +57,12 @@ fn open_tests(kind: u8, grade: u8, frame: &[i32], n: usize) -> Tested
     }
 }
 
-// The tests of a reading, the open one where `which` is 0 and else the strict one under number which − 1; n message bytes are lent.
-pub fn tests(which: u8, kind: u8, grade: u8, frame: &[i32], n: usize) -> Tested
-    ensures number { λ t. ⌜ t .number ≡ refusalOf which kind grade (now (frame .entry)) n ⌝ }
+// The tests of a reading, the open one where `which` is 0 and else the strict one under number which − 1, no filling compared; n message bytes are lent.
+pub fn tests(which: u8, kind: u8, grade: u8, free: u8, frame: &[i32], n: usize) -> Tested
+    ensures number { λ t. ⌜ t .number ≡ refusalOf which kind grade free (now (frame .entry)) n ⌝ }
     ensures words { λ t. ⌜ t .words ≡ wordsAfter (t .number) kind (now (frame .entry)) ⌝ }
 {
-    let t = open_tests(kind, grade, frame, n);
+    let t = open_tests(kind, grade, free, frame, n);
     let refusal = t.number;
     if refusal != 0 {
         return t;

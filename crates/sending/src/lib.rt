@@ -6,9 +6,10 @@ ghost use lib.ListN.{length};
 ghost use Rattle.e8.specs.Energy.{energy as energyOf, Within};
 ghost use Rattle.e8.specs.Largest.{largestBlock};
 ghost use Rattle.e8.specs.Ties.{leastFrameBy};
-ghost use Rattle.frames.specs.Kind.{isKind, blocks, messageBytes};
-ghost use Rattle.frames.specs.Frame.{half, isOdd, numberedFrame};
-ghost use Rattle.frames.specs.Sending.{sendRefusal, frameAfter, energySent, LeastEnergy};
+ghost use Rattle.frames.specs.Kind.{isKind, blocks};
+ghost use Rattle.frames.specs.Frame.{half, isOdd};
+ghost use Rattle.frames.specs.Free.{FreeMessage, Quiet, quietEnergy, quietLargest};
+ghost use Rattle.frames.specs.Sending.{sendRefusal, QuietAfter, energySent, LeastOfFillings};
 
 // What sending answers: the refusal number, 0 for success, and the energy of the frame sent.
 pub struct Outcome {
@@ -55,48 +56,58 @@ pub fn shape_leader(kind: u8, grade: usize, number: u32, frame: &mut [i32]) -> E
     shaped_energies(frame)
 }
 
-// Writes the frame of a number for a message of a good kind, grade and length, and gives its energy and its largest block's: the leader is written,
-// and shaped.
+// Writes a quiet frame of a number for a message of a good kind and grade whose free bits are 0, and gives its energy and its largest block's: the
+// leader is written, the filling that is taken is put into its last block, and it is shaped.
 pub fn write_sent(
     kind: u8,
     grade: usize,
     number: u32,
+    free: usize,
     message: &[u8],
     frame: &mut [i32],
 ) -> Energies
-    requires { ⌜ (isKind kind ≡ true) × (1 ≤ grade) × (grade ≤ 4)
-        × (length (now message) ≡ messageBytes kind grade) × (length (now frame) ≡ 2 ^ kind) ⌝ }
-    ensures frame { λ _. ⌜ now (frame .exit) ≡ numberedFrame kind grade number (now (message .entry)) ⌝ }
-    ensures energy { λ r. ⌜ r .energy ≡ energyOf (numberedFrame kind grade number (now (message .entry))) ⌝ }
-    ensures largest { λ r. ⌜ r .largest ≡ largestBlock (numberedFrame kind grade number (now (message .entry))) ⌝ }
+    requires { ⌜ (isKind kind ≡ true) × (1 ≤ grade) × (grade ≤ 4) × (free ≤ 4)
+        × FreeMessage kind grade free (now message) × (length (now frame) ≡ 2 ^ kind) ⌝ }
+    ensures frame { λ _. ⌜ Quiet kind grade free number (now (message .entry)) (now (frame .exit)) ⌝ }
+    ensures energy { λ r. ⌜ r .energy ≡ quietEnergy kind grade free number (now (message .entry)) ⌝ }
+    ensures largest { λ r. ⌜ r .largest ≡ quietLargest kind grade free number (now (message .entry)) ⌝ }
 {
     leader::write_leader(kind, grade, message, frame);
+    filling_search::fill_last(kind_table::levels(kind), grade, free, frame);
     shape_leader(kind, grade, number, frame)
 }
 
 // The tests alone, for a caller that has a test of its own to make before anything is written; n coordinates are lent.
-pub fn test(kind: u8, grade: u8, message: &[u8], n: usize) -> u8
-    ensures { λ r. ⌜ r ≡ sendRefusal kind grade (now (message .entry)) n ⌝ }
+pub fn test(kind: u8, grade: u8, free: u8, message: &[u8], n: usize) -> u8
+    ensures { λ r. ⌜ r ≡ sendRefusal kind grade free (now (message .entry)) n ⌝ }
 {
-    accepting::refusal(kind, grade, message, n)
+    accepting::refusal(kind, grade, free, message, n)
 }
 
-// Sends a message under a number: tests 1, 2, 3, 4, 5, and then writes the frame of the number and gives its energy. A refusal writes nothing.
-pub fn send(kind: u8, grade: u8, number: u32, message: &[u8], frame: &mut [i32]) -> Outcome
-    ensures number { λ r. ⌜ r .number ≡ sendRefusal kind grade (now (message .entry)) (length (now (frame .entry))) ⌝ }
-    ensures frame { λ r. ⌜ now (frame .exit) ≡ frameAfter (r .number) kind grade number (now (message .entry)) (now (frame .entry)) ⌝ }
-    ensures energy { λ r. ⌜ r .energy ≡ energySent (r .number) kind grade number (now (message .entry)) ⌝ }
-    ensures least { λ r. ⌜ (r .number ≡ 0 → LeastEnergy kind grade (now (frame .exit)) (r .energy)) ⌝ }
+// Sends a message with a free count under a number: tests 1, 2, 17, 3, 4, 5, and then writes a quiet frame of the number and gives its energy. A refusal
+// writes nothing.
+pub fn send(
+    kind: u8,
+    grade: u8,
+    number: u32,
+    free: u8,
+    message: &[u8],
+    frame: &mut [i32],
+) -> Outcome
+    ensures number { λ r. ⌜ r .number ≡ sendRefusal kind grade free (now (message .entry)) (length (now (frame .entry))) ⌝ }
+    ensures frame { λ r. ⌜ QuietAfter (r .number) kind grade free number (now (message .entry)) (now (frame .entry)) (now (frame .exit)) ⌝ }
+    ensures energy { λ r. ⌜ r .energy ≡ energySent (r .number) kind grade free number (now (message .entry)) ⌝ }
+    ensures least { λ r. ⌜ (r .number ≡ 0 → LeastOfFillings kind grade free number (now (message .entry)) (now (frame .exit)) (r .energy)) ⌝ }
 {
     let n = frame.len();
-    let refusal = accepting::refusal(kind, grade, message, n);
+    let refusal = accepting::refusal(kind, grade, free, message, n);
     if refusal != 0 {
         return Outcome {
             number: refusal,
             energy: 0,
         };
     }
-    let sent = write_sent(kind, grade as usize, number, message, frame);
+    let sent = write_sent(kind, grade as usize, number, free as usize, message, frame);
     Outcome {
         number: refusal,
         energy: sent.energy,

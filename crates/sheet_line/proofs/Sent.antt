@@ -5,8 +5,9 @@ use mathlib.Core.List.{List}
 use lib.IntN.{ℤ}
 use Rattle.e8.specs.Energy.{energy}
 use Rattle.frames.specs.Frame.{numberedFrame}
-use Rattle.frames.specs.Sending.{frameAfter, energySent}
+use Rattle.frames.specs.Sending.{QuietAfter, energySent}
 use Rattle.frames.proofs.Accepted.{sent-leaves}
+use Rattle.free_bits.proofs.ReadBack.{none-free}
 use Rattle.text.specs.Line.{lineOf}
 use Rattle.sheet_line.specs.Sent.{sentLine}
 
@@ -15,8 +16,9 @@ module _ (k b number : ℕ) (m : List ℕ) (f : List ℤ) where
   unfolding sentLine
   is = refl
 
-  pub sent-shown : (refusal : ℕ) → refusal ≡ 0 → (g : List ℤ) (e : ℕ) → g ≡ frameAfter refusal k b number m f → e ≡ energySent refusal k b number m
+  pub sent-shown : (refusal : ℕ) → refusal ≡ 0 → (g : List ℤ) (e : ℕ) → QuietAfter refusal k b 0 number m f g → e ≡ energySent refusal k b 0 number m
       → (g ≡ numberedFrame k b number m) × (lineOf k b e g ≡ sentLine k b number m)
   sent-shown refusal z g e qg qe =
-      let r = sent-leaves refusal k b number m f z in
-      (qg ∙ r .0, ap₂ (λ (x : ℕ) (y : List ℤ). lineOf k b x y) (qe ∙ r .1) (qg ∙ r .0) ∙ is)
+      let w = none-free k b number m 0 in
+      let frame = w .only g (qg .sent z) in
+      (frame, ap₂ (λ (x : ℕ) (y : List ℤ). lineOf k b x y) (qe ∙ sent-leaves refusal k b 0 number m z ∙ w .least) frame ∙ is)

@@ -18,14 +18,14 @@ pub struct Answer {
 // The line of a message: that of its frame under the number, or the refusal of it for a spare bit.
 pub fn put_message(kind: u8, grade: u8, number: u32, message: &[u8], out: &mut [u8]) -> Answer
     requires { ⌜ (isKind kind ≡ true) × (1024 ≤ length (now out)) ⌝ }
-    ensures number { λ r. ⌜ r .number ≡ sendRefusal kind grade (now (message .entry)) (2 ^ kind) ⌝ }
+    ensures number { λ r. ⌜ r .number ≡ sendRefusal kind grade 0 (now (message .entry)) (2 ^ kind) ⌝ }
     ensures sent { λ r. ⌜ (r .number ≡ 0 → Put (now (out .entry)) 0 (sentLine kind grade number (now (message .entry))) (r .length) (now (out .exit))) ⌝ }
     ensures refused { λ r. ⌜ ((r .number ≡ 0 → ⊥) → Put (now (out .entry)) 0 (refusedText (r .number)) (r .length) (now (out .exit))) ⌝ }
     ensures short { λ r. ⌜ r .length ≤ 1024 ⌝ }
 {
     let n = kind_table::positions(kind);
     let mut frame = [0i32; 64];
-    let sent = sending::send(kind, grade, number, message, &mut frame[..n]);
+    let sent = sending::send(kind, grade, number, 0, message, &mut frame[..n]);
     if sent.number != 0 {
         return Answer {
             number: sent.number,

@@ -83,7 +83,7 @@ module _ (s : List ℕ) (p : ℕ) where
   unfolding recordNumber
   number-refused n = let e : eqb (recordRefusal s p) 0 ≡ false = ne-eqb _ _ n in simp e
 
-  pub number-sent : recordRefusal s p ≡ 0 → recordNumber s p ≡ sendRefusal (kindAt s p) (gradeAt s p) (messageAt s p) (2 ^ kindAt s p)
+  pub number-sent : recordRefusal s p ≡ 0 → recordNumber s p ≡ sendRefusal (kindAt s p) (gradeAt s p) 0 (messageAt s p) (2 ^ kindAt s p)
   unfolding recordNumber
   number-sent z = let e : eqb (recordRefusal s p) 0 ≡ true = eq-eqb _ _ z in simp e
 

@@ -40,4 +40,4 @@ recordRefusal s p =
 -- the record's number: its refusal, and for a whole record what sending its message answers
 unfoldable pub recordNumber : List ℕ → ℕ → ℕ
 unfolding recordRefusal sendRefusal
-recordNumber s p = cond (eqb (recordRefusal s p) 0) (sendRefusal (kindAt s p) (gradeAt s p) (messageAt s p) (2 ^ kindAt s p)) (recordRefusal s p)
+recordNumber s p = cond (eqb (recordRefusal s p) 0) (sendRefusal (kindAt s p) (gradeAt s p) 0 (messageAt s p) (2 ^ kindAt s p)) (recordRefusal s p)

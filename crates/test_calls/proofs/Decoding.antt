@@ -13,8 +13,9 @@ use Rattle.integers.proofs.Zed.{neg-sign}
 use Rattle.reed_muller.specs.Level.{belongs}
 use Rattle.frames.specs.Kind.{isKind, isGrade, degrees, messageBytes, brokenNumber}
 use Rattle.frames.specs.Frame.{levelWord}
-use Rattle.frames.specs.Sending.{unless, spareSet, sendRefusal, energySent}
-use Rattle.frames.specs.Reading.{inRange, broken, openRefusal, isSent, strictRefusal, energyRead}
+use Rattle.frames.specs.Free.{isFreeCount}
+use Rattle.frames.specs.Sending.{unless, freeSet, sendRefusal, energySent}
+use Rattle.frames.specs.Reading.{inRange, broken, openRefusal, isQuiet, strictRefusal, energyRead}
 use Rattle.power_account.specs.declared.Account.{Account}
 use Rattle.account.specs.declared.Counted.{Counted}
 use Rattle.power_account.specs.Power.{full}
@@ -45,28 +46,31 @@ unfolding broken
 small-broken k i [] f = omega arith
 small-broken k i (r ∷ rs) f = either (belongs r k (levelWord i f)) (brokenNumber i) (broken k (suc i) rs f) (small-number i) (small-broken k (suc i) rs f)
 
-small-sending : (k b : ℕ) (m : List ℕ) (n : ℕ) → sendRefusal k b m n ≤ 255
+small-sending : (k b f : ℕ) (m : List ℕ) (n : ℕ) → sendRefusal k b f m n ≤ 255
 unfolding sendRefusal
-small-sending k b m n =
-    either (isKind k) 1 _ (omega arith) (either (isGrade b) 2 _ (omega arith)
-    (either (eqb (length m) (messageBytes k b)) 3 _ (omega arith) (either (eqb n (2 ^ k)) 4 _ (omega arith) (either (spareSet k b m) 0 5 (omega arith) (omega arith)))))
+small-sending k b f m n =
+    either (isKind k) 1 _ (omega arith) (either (isGrade b) 2 _ (omega arith) (either (isFreeCount f) 17 _ (omega arith)
+    (either (eqb (length m) (messageBytes k b)) 3 _ (omega arith) (either (eqb n (2 ^ k)) 4 _ (omega arith)
+    (either (freeSet k b f m) 0 5 (omega arith) (omega arith))))))
 
-small-open : (k b : ℕ) (f : List ℤ) (n : ℕ) → openRefusal k b f n ≤ 255
+small-open : (k b f : ℕ) (x : List ℤ) (n : ℕ) → openRefusal k b f x n ≤ 255
 unfolding openRefusal
-small-open k b f n =
-    either (isKind k) 1 _ (omega arith) (either (isGrade b) 2 _ (omega arith)
-    (either (eqb (length f) (2 ^ k)) 4 _ (omega arith) (either (eqb n (messageBytes k b)) 3 _ (omega arith) (either (inRange f) 6 _ (omega arith) (small-broken k 0 (degrees k) f)))))
+small-open k b f x n =
+    either (isKind k) 1 _ (omega arith) (either (isGrade b) 2 _ (omega arith) (either (isFreeCount f) 17 _ (omega arith)
+    (either (eqb (length x) (2 ^ k)) 4 _ (omega arith) (either (eqb n (messageBytes k b)) 3 _ (omega arith)
+    (either (inRange x) 6 _ (omega arith) (small-broken k 0 (degrees k) x))))))
 
-small-strict : (k b number : ℕ) (f : List ℤ) (n : ℕ) → strictRefusal k b number f n ≤ 255
+small-strict : (k b f number : ℕ) (x : List ℤ) (n : ℕ) → strictRefusal k b f number x n ≤ 255
 unfolding strictRefusal
-small-strict k b number f n =
-    either (eqb (openRefusal k b f n) 0) (openRefusal k b f n) (unless (isSent k b number f) 9 0) (small-open k b f n)
-    (either (isSent k b number f) 9 0 (omega arith) (omega arith))
+small-strict k b f number x n =
+    either (eqb (openRefusal k b f x n) 0) (openRefusal k b f x n) (unless (isQuiet k b f number x) 9 0) (small-open k b f x n)
+    (either (isQuiet k b f number x) 9 0 (omega arith) (omega arith))
 
-small-counted : (k b : ℕ) (m : List ℕ) (n : ℕ) (a : Account) → countedRefusal k b m n a ≤ 255
+small-counted : (k b f : ℕ) (m : List ℕ) (n : ℕ) (a : Account) → countedRefusal k b f m n a ≤ 255
 unfolding countedRefusal
-small-counted k b m n a =
-    either (eqb (sendRefusal k b m n) 0) (sendRefusal k b m n) (cond (full a) 11 0) (small-sending k b m n) (either (full a) 0 11 (omega arith) (omega arith))
+small-counted k b f m n a =
+    either (eqb (sendRefusal k b f m n) 0) (sendRefusal k b f m n) (cond (full a) 11 0) (small-sending k b f m n)
+    (either (full a) 0 11 (omega arith) (omega arith))
 
 small-opening : (changeover : ℕ) → openingRefusal changeover ≤ 255
 unfolding openingRefusal
@@ -74,31 +78,32 @@ small-opening changeover = either (leb changeover 1000000) 14 0 (omega arith) (o
 
 -- ---- what each exported function's number says
 
-pub decoded-sending : (k b number : ℕ) (m : List ℕ) (n : ℕ) {r : Counted} {z : ℤ} {a : Account} → r ≡ decoded z a → z ≡ sendAnswer k b number m n
-    → r ≡ answered (sendRefusal k b m n) (energySent (sendRefusal k b m n) k b number m) a
+pub decoded-sending : (k b f number : ℕ) (m : List ℕ) (n : ℕ) {r : Counted} {z : ℤ} {a : Account} → r ≡ decoded z a → z ≡ sendAnswer k b f number m n
+    → r ≡ answered (sendRefusal k b f m n) (energySent (sendRefusal k b f m n) k b f number m) a
 unfolding sendAnswer energySent
-decoded-sending k b number m n {a = a} e p = e ∙ ap (λ (z : ℤ). decoded z a) p ∙ decoded-answer (sendRefusal k b m n) _ a (small-sending k b m n)
+decoded-sending k b f number m n {a = a} e p = e ∙ ap (λ (z : ℤ). decoded z a) p ∙ decoded-answer (sendRefusal k b f m n) _ a (small-sending k b f m n)
 
-pub decoded-open : (k b : ℕ) (f : List ℤ) (n : ℕ) {r : Counted} {z : ℤ} {a : Account} → r ≡ decoded z a → z ≡ openAnswer k b f n
-    → r ≡ answered (openRefusal k b f n) (energyRead (openRefusal k b f n) f) a
+pub decoded-open : (k b f : ℕ) (x : List ℤ) (n : ℕ) {r : Counted} {z : ℤ} {a : Account} → r ≡ decoded z a → z ≡ openAnswer k b f x n
+    → r ≡ answered (openRefusal k b f x n) (energyRead (openRefusal k b f x n) x) a
 unfolding openAnswer energyRead
-decoded-open k b f n {a = a} e p = e ∙ ap (λ (z : ℤ). decoded z a) p ∙ decoded-answer (openRefusal k b f n) _ a (small-open k b f n)
+decoded-open k b f x n {a = a} e p = e ∙ ap (λ (z : ℤ). decoded z a) p ∙ decoded-answer (openRefusal k b f x n) _ a (small-open k b f x n)
 
-pub decoded-strict : (k b number : ℕ) (f : List ℤ) (n : ℕ) {r : Counted} {z : ℤ} {a : Account} → r ≡ decoded z a → z ≡ strictAnswer k b number f n
-    → r ≡ answered (strictRefusal k b number f n) (energyRead (strictRefusal k b number f n) f) a
+pub decoded-strict : (k b f number : ℕ) (x : List ℤ) (n : ℕ) {r : Counted} {z : ℤ} {a : Account} → r ≡ decoded z a → z ≡ strictAnswer k b f number x n
+    → r ≡ answered (strictRefusal k b f number x n) (energyRead (strictRefusal k b f number x n) x) a
 unfolding strictAnswer energyRead
-decoded-strict k b number f n {a = a} e p = e ∙ ap (λ (z : ℤ). decoded z a) p ∙ decoded-answer (strictRefusal k b number f n) _ a (small-strict k b number f n)
+decoded-strict k b f number x n {a = a} e p =
+    e ∙ ap (λ (z : ℤ). decoded z a) p ∙ decoded-answer (strictRefusal k b f number x n) _ a (small-strict k b f number x n)
 
 -- the account is another than the one that was sent with
-pub decoded-counted : (k b : ℕ) (m : List ℕ) (n : ℕ) (a : Account) {r : Counted} {z : ℤ} {c : Account} → r ≡ decoded z c → z ≡ countedAnswer k b m n a
-    → c ≡ countedHeld k b m n a
-    → r ≡ answered (countedRefusal k b m n a) (energySent (countedRefusal k b m n a) k b (numberFor a) m) (countedHeld k b m n a)
+pub decoded-counted : (k b f : ℕ) (m : List ℕ) (n : ℕ) (a : Account) {r : Counted} {z : ℤ} {c : Account} → r ≡ decoded z c → z ≡ countedAnswer k b f m n a
+    → c ≡ countedHeld k b f m n a
+    → r ≡ answered (countedRefusal k b f m n a) (energySent (countedRefusal k b f m n a) k b f (numberFor a) m) (countedHeld k b f m n a)
 unfolding countedAnswer energySent
-decoded-counted k b m n a {c = c} e p q =
+decoded-counted k b f m n a {c = c} e p q =
     e
     ∙ ap (λ (z : ℤ). decoded z c) p
-    ∙ decoded-answer (countedRefusal k b m n a) _ c (small-counted k b m n a)
-    ∙ ap (answered (countedRefusal k b m n a) (energySent (countedRefusal k b m n a) k b (numberFor a) m)) q
+    ∙ decoded-answer (countedRefusal k b f m n a) _ c (small-counted k b f m n a)
+    ∙ ap (answered (countedRefusal k b f m n a) (energySent (countedRefusal k b f m n a) k b f (numberFor a) m)) q
 
 none : (t : Bool) → _≡_ {A = ℕ} (cond t 0 0) 0
 none true = refl

@@ -1,4 +1,4 @@
--- What a call has to answer and to leave, by the definitions of the library, and when it does. Assumes nothing.
+-- What a call has to answer and to leave, by the definitions of the library, and when it does; the calls leave no bit free. Assumes nothing.
 use Prim.Native.Nat.{ℕ, suc}
 use mathlib.Core.Bool.{Bool, _&&_, _||_, cond}
 use mathlib.Core.List.{List, _++_}
@@ -28,7 +28,7 @@ pub record Outcome : Type 0 where
 -- sending under a number, where it answers `refusal`
 abbrev pub sendingOutcome : ℕ → ℕ → ℕ → ℕ → List ℕ → List ℤ → Account → Outcome
 sendingOutcome refusal k b number m x a = record {
-  answer = answered refusal (energySent refusal k b number m) a;
+  answer = answered refusal (energySent refusal k b 0 number m) a;
   message = m;
   frame = frameAfter refusal k b number m x;
 }
@@ -37,14 +37,14 @@ sendingOutcome refusal k b number m x a = record {
 abbrev pub readingOutcome : ℕ → ℕ → ℕ → List ℕ → List ℤ → Account → Outcome
 readingOutcome refusal k b m x a = record {
   answer = answered refusal (energyRead refusal x) a;
-  message = messageAfter refusal k b x m;
+  message = messageAfter refusal k b 0 x m;
   frame = x;
 }
 
 -- sending with an account, where it answers `refusal`
 abbrev pub countedOutcome : ℕ → ℕ → ℕ → List ℕ → List ℤ → Account → Outcome
 countedOutcome refusal k b m x a = record {
-  answer = answered refusal (energySent refusal k b (numberFor a) m) (countedAccount refusal k b m a);
+  answer = answered refusal (energySent refusal k b 0 (numberFor a) m) (countedAccount refusal k b 0 m a);
   message = m;
   frame = frameAfter refusal k b (numberFor a) m x;
 }
@@ -61,10 +61,10 @@ openingOutcome changeover m x = record {
 -- the frame, or the changeover that an account is opened with; lent are the message m, the frame x and the account a
 unfoldable pub outcomeOf : ℕ → ℕ → ℕ → ℕ → List ℕ → List ℤ → Account → Outcome
 outcomeOf function k b number m x a =
-    cond (eqb function 0) (sendingOutcome (sendRefusal k b m (length x)) k b number m x a)
-    (cond (eqb function 1) (readingOutcome (openRefusal k b x (length m)) k b m x a)
-    (cond (eqb function 2) (readingOutcome (strictRefusal k b number x (length m)) k b m x a)
-    (cond (eqb function 3) (countedOutcome (countedRefusal k b m (length x) a) k b m x a)
+    cond (eqb function 0) (sendingOutcome (sendRefusal k b 0 m (length x)) k b number m x a)
+    (cond (eqb function 1) (readingOutcome (openRefusal k b 0 x (length m)) k b m x a)
+    (cond (eqb function 2) (readingOutcome (strictRefusal k b 0 number x (length m)) k b m x a)
+    (cond (eqb function 3) (countedOutcome (countedRefusal k b 0 m (length x) a) k b m x a)
     (openingOutcome number m x))))
 
 -- what an exported function's number says: the energy, or minus the refusal number, which is a byte

@@ -57,9 +57,9 @@ fn open(changeover: u32, account: Account) -> Counted
 }
 
 fn send_counted(kind: u8, grade: u8, message: &[u8], frame: &mut [i32], account: Account) -> Counted
-    ensures answer { λ r. ⌜ r ≡ countedOutcome (countedRefusal kind grade (now (message .entry)) (length (now (frame .entry))) account)
+    ensures answer { λ r. ⌜ r ≡ countedOutcome (countedRefusal kind grade 0 (now (message .entry)) (length (now (frame .entry))) account)
         kind grade (now (message .entry)) (now (frame .entry)) account .answer ⌝ }
-    ensures frame { λ _. ⌜ now (frame .exit) ≡ countedOutcome (countedRefusal kind grade (now (message .entry)) (length (now (frame .entry))) account)
+    ensures frame { λ _. ⌜ now (frame .exit) ≡ countedOutcome (countedRefusal kind grade 0 (now (message .entry)) (length (now (frame .entry))) account)
         kind grade (now (message .entry)) (now (frame .entry)) account .frame ⌝ }
 {
     let mut count = account.count;
@@ -68,6 +68,7 @@ fn send_counted(kind: u8, grade: u8, message: &[u8], frame: &mut [i32], account:
     let r = frame_coder::coder_send_counted(
         kind,
         grade,
+        0,
         message,
         frame,
         &mut count,
@@ -101,19 +102,19 @@ pub fn call(
 {
     if function == SEND {
         return answer(
-            frame_coder::coder_send(kind, grade, number, message, frame),
+            frame_coder::coder_send(kind, grade, number, 0, message, frame),
             account,
         );
     }
     if function == READ_OPEN {
         return answer(
-            frame_coder::coder_read_open(kind, grade, frame, message),
+            frame_coder::coder_read_open(kind, grade, 0, frame, message),
             account,
         );
     }
     if function == READ_STRICT {
         return answer(
-            frame_coder::coder_read_strict(kind, grade, number, frame, message),
+            frame_coder::coder_read_strict(kind, grade, number, 0, frame, message),
             account,
         );
     }

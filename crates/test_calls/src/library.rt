@@ -1,4 +1,4 @@
-// A call of the library, by the number of its function.
+// A call of the library, by the number of its function. No bit is free: test_free has the calls with free bits.
 use super::READ_OPEN;
 use super::READ_STRICT;
 use super::SEND;
@@ -43,19 +43,19 @@ pub fn call(
     ensures frame { λ _. ⌜ now (frame .exit) ≡ outcomeOf function kind grade number (now (message .entry)) (now (frame .entry)) account .frame ⌝ }
 {
     if function == SEND {
-        let r = sending::send(kind, grade, number, message, frame);
+        let r = sending::send(kind, grade, number, 0, message, frame);
         return answer(r.number, r.energy, account);
     }
     if function == READ_OPEN {
-        let r = reading::read_open(kind, grade, frame, message);
+        let r = reading::read_open(kind, grade, 0, frame, message);
         return answer(r.number, r.energy, account);
     }
     if function == READ_STRICT {
-        let r = reading::read_strict(kind, grade, number, frame, message);
+        let r = reading::read_strict(kind, grade, number, 0, frame, message);
         return answer(r.number, r.energy, account);
     }
     if function == SEND_COUNTED {
-        return account::send_counted(kind, grade, message, frame, account);
+        return account::send_counted(kind, grade, 0, message, frame, account);
     }
     open(number)
 }

@@ -11,24 +11,24 @@ use lib.Seq.{length-take-le, take-all, take-at, drop-at}
 use borrow.Rule.Slice.PartMut.{postOf, putMid, post-is}
 use borrow.Author.Tests.{eq-eqb, ne-eqb}
 use Rattle.frames.specs.Kind.{messageBytes}
-use Rattle.frames.specs.Sending.{frameAfter}
+use Rattle.frames.specs.Sending.{QuietAfter, frameAfter}
+use Rattle.free_bits.proofs.ReadBack.{whole-frame}
 use Rattle.power_account.specs.declared.Account.{Account}
 use Rattle.power_account.specs.Counted.{numberFor, countedRefusal, countedAccount}
 use Rattle.power_account.specs.History.{Call, answer, after}
-use Rattle.power_account.proofs.History.{frame-of}
 use Rattle.queue_turns.specs.declared.Queued.{Queued}
 use Rattle.queue_turns.specs.Queue.{callsFor, oneMore, inTurn, framesInTurn}
-use Rattle.queue_turns.proofs.Turns.{sent-answer, sent-frames, refused-answer, refused-frames}
+use Rattle.queue_turns.proofs.Turns.{frame-of, sent-answer, sent-frames, refused-answer, refused-frames}
 
 -- the first call, and the others
 calls-first : (k b count : ℕ) (bytes : List ℕ) → (count ≡ 0 → ⊥)
     → callsFor count k b bytes
-    ≡ record { kind = k; grade = b; message = take (messageBytes k b) bytes; n = 2 ^ k } ∷ callsFor (count - 1) k b (drop (messageBytes k b) bytes)
+    ≡ record { kind = k; grade = b; free = 0; message = take (messageBytes k b) bytes; n = 2 ^ k } ∷ callsFor (count - 1) k b (drop (messageBytes k b) bytes)
 unfolding callsFor
 calls-first k b zero bytes s = absurd (s refl)
 calls-first k b (suc q) bytes s =
     let e : q ≡ suc q - 1 = omega arith in
-    ap (λ (x : ℕ). record { kind = k; grade = b; message = take (messageBytes k b) bytes; n = 2 ^ k } ∷ callsFor x k b (drop (messageBytes k b) bytes)) e
+    ap (λ (x : ℕ). record { kind = k; grade = b; free = 0; message = take (messageBytes k b) bytes; n = 2 ^ k } ∷ callsFor x k b (drop (messageBytes k b) bytes)) e
 
 -- no message
 pub none : (k b count : ℕ) (bytes : List ℕ) (f : List ℤ) (a : Account) → count ≡ 0
@@ -59,7 +59,7 @@ module _ (k b : ℕ) (bytes : List ℕ) (f : List ℤ) (a : Account) {m n count 
   frames-room = omega (arith, long, one-piece n count some)
 
   abbrev the-call : Call
-  the-call = record { kind = k; grade = b; message = take m bytes; n = n }
+  the-call = record { kind = k; grade = b; free = 0; message = take m bytes; n = n }
 
   abbrev others : List Call
   others = callsFor (count - 1) k b (drop m bytes)
@@ -67,15 +67,15 @@ module _ (k b : ℕ) (bytes : List ℕ) (f : List ℤ) (a : Account) {m n count 
   calls : callsFor count k b bytes ≡ the-call ∷ others
   calls =
       calls-first k b count bytes some
-      ∙ ap₂ (λ (x y : ℕ). record { kind = k; grade = b; message = take x bytes; n = y } ∷ callsFor (count - 1) k b (drop x bytes)) (sym message) (sym frame)
+      ∙ ap₂ (λ (x y : ℕ). record { kind = k; grade = b; free = 0; message = take x bytes; n = y } ∷ callsFor (count - 1) k b (drop x bytes)) (sym message) (sym frame)
 
   -- what is left for the others
   pub bytes-left : length (take (length bytes - m) (drop m bytes)) ≡ m * (count - 1)
   bytes-left = ap (λ (l : List ℕ). length l) (to-the-end m bytes) ∙ omega (arith, length-drop m bytes, long-bytes, one-piece m count some)
 
   -- the first is sent with the number z, and leaves x in its coordinates
-  module _ {z : ℕ} {x : List ℤ} (number : z ≡ countedRefusal k b (take (m - 0) bytes) (length (take (n - 0) f)) a)
-      (written : x ≡ frameAfter z k b (numberFor a) (take (m - 0) bytes) (take (n - 0) f)) where
+  module _ {z : ℕ} {x : List ℤ} (number : z ≡ countedRefusal k b 0 (take (m - 0) bytes) (length (take (n - 0) f)) a)
+      (written : QuietAfter z k b 0 (numberFor a) (take (m - 0) bytes) (take (n - 0) f) x) where
     first-bytes : take (m - 0) bytes ≡ take m bytes
     first-bytes = ap (λ (i : ℕ). take i bytes) (sub-zero m)
 
@@ -85,11 +85,11 @@ module _ (k b : ℕ) (bytes : List ℕ) (f : List ℤ) (a : Account) {m n count 
     answer-is : z ≡ answer a the-call
     answer-is =
         number
-        ∙ ap₂ (λ (l : List ℕ) (i : ℕ). countedRefusal k b l i a) first-bytes (ap (λ (l : List ℤ). length l) first-frame ∙ length-take-le n f frames-room)
+        ∙ ap₂ (λ (l : List ℕ) (i : ℕ). countedRefusal k b 0 l i a) first-bytes (ap (λ (l : List ℤ). length l) first-frame ∙ length-take-le n f frames-room)
 
     x-is : x ≡ frameAfter (answer a the-call) k b (numberFor a) (take m bytes) (take n f)
     x-is =
-        written
+        whole-frame z k b (numberFor a) (take (m - 0) bytes) (take (n - 0) f) x written
         ∙ ap₂ (λ (l : List ℕ) (y : List ℤ). frameAfter z k b (numberFor a) l y) first-bytes first-frame
         ∙ ap (λ (i : ℕ). frameAfter i k b (numberFor a) (take m bytes) (take n f)) answer-is
 
@@ -119,7 +119,7 @@ module _ (k b : ℕ) (bytes : List ℕ) (f : List ℤ) (a : Account) {m n count 
         ∙ ap (λ (cs : List Call). framesInTurn a cs f) (sym calls)
 
     -- it is accepted, and leaves the account g; x has as many coordinates as a frame
-    module _ {g : Account} (grown : g ≡ countedAccount z k b (take (m - 0) bytes) a) (accepted : z ≡ 0) (as-long : length x ≡ n) where
+    module _ {g : Account} (grown : g ≡ countedAccount z k b 0 (take (m - 0) bytes) a) (accepted : z ≡ 0) (as-long : length x ≡ n) where
       abbrev whole : List ℤ
       whole = x ++ postOf 0 (n - 0) f
 
@@ -136,8 +136,8 @@ module _ (k b : ℕ) (bytes : List ℕ) (f : List ℤ) (a : Account) {m n count 
       grown-is : g ≡ after a the-call
       grown-is =
           grown
-          ∙ ap (λ (l : List ℕ). countedAccount z k b l a) first-bytes
-          ∙ ap (λ (i : ℕ). countedAccount i k b (take m bytes) a) answer-is
+          ∙ ap (λ (l : List ℕ). countedAccount z k b 0 l a) first-bytes
+          ∙ ap (λ (i : ℕ). countedAccount i k b 0 (take m bytes) a) answer-is
 
       pub further : {r : Queued} → r ≡ inTurn g (callsFor (count - 1) k b (take (length bytes - m) (drop m bytes))) → oneMore r ≡ inTurn a (callsFor count k b bytes)
       further e =

@@ -31,7 +31,7 @@ fn in_turn(
             account,
         };
     }
-    let r = account::send_counted(kind, grade, &messages[0..m], &mut frames[0..n], account);
+    let r = account::send_counted(kind, grade, 0, &messages[0..m], &mut frames[0..n], account);
     if r.number != 0 {
         return Queued {
             number: r.number,

@@ -18,9 +18,9 @@ pub no-energy : (r : ℕ) (f : List ℤ) → (r ≡ 0 → ⊥) → energyRead r 
 unfolding energyRead
 no-energy r f n = rw (ne-eqb r 0 n) refl
 
-pub as-lent : (r k b : ℕ) (f : List ℤ) (lent : List ℕ) → (r ≡ 0 → ⊥) → messageAfter r k b f lent ≡ lent
+pub as-lent : (r k b f : ℕ) (frame : List ℤ) (lent : List ℕ) → (r ≡ 0 → ⊥) → messageAfter r k b f frame lent ≡ lent
 unfolding messageAfter
-as-lent r k b f lent n = rw (ne-eqb r 0 n) refl
+as-lent r k b f frame lent n = rw (ne-eqb r 0 n) refl
 
 module _ (strict : Bool) (u : Under) (f : List ℤ) where
   module _ (m : List ℕ) (e : ℕ) where
@@ -47,7 +47,7 @@ module _ (strict : Bool) (u : Under) (f : List ℤ) where
               ne-eqb (energy f) e (λ z. n (read-energy ∙ z)),
             ) refl
 
-        pub compared : g ≡ e → (t : Bool) (x lent : List ℕ) → x ≡ messageAfter r (u .kind) (u .grade) f lent → t ≡ sameBytes x m → t ≡ isReadAs strict u f m e
+        pub compared : g ≡ e → (t : Bool) (x lent : List ℕ) → x ≡ messageAfter r (u .kind) (u .grade) 0 f lent → t ≡ sameBytes x m → t ≡ isReadAs strict u f m e
         unfolding isReadAs messageAfter
         compared p t x lent message-is q =
             rw (

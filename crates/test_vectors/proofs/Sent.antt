@@ -9,7 +9,9 @@ use lib.ListN.{length}
 use borrow.Author.Tests.{le-leb, lt-leb, eq-eqb, ne-eqb}
 use Rattle.e8.specs.Energy.{energy}
 use Rattle.frames.specs.Frame.{numberedFrame}
-use Rattle.frames.specs.Sending.{sendRefusal, frameAfter, energySent}
+use Rattle.frames.specs.Sending.{sendRefusal, QuietAfter, energySent}
+use Rattle.frames.proofs.Accepted.{sent-leaves}
+use Rattle.free_bits.proofs.ReadBack.{none-free}
 use Rattle.frames.specs.Reading.{sameFrame}
 use Rattle.test_vectors.specs.declared.checks.Under.{Under}
 use Rattle.test_vectors.specs.Vector.{isSentAs}
@@ -19,30 +21,30 @@ module _ (u : Under) (m : List ℕ) (f : List ℤ) (e : ℕ) where
   unfolding isSentAs
   too-long h = rw (lt-leb (length f) 64 h) refl
 
-  module _ (room : length f ≤ 64) (r : ℕ) (is : r ≡ sendRefusal (u .kind) (u .grade) m (length f)) where
+  module _ (room : length f ≤ 64) (r : ℕ) (is : r ≡ sendRefusal (u .kind) (u .grade) 0 m (length f)) where
     pub refused : (r ≡ 0 → ⊥) → false ≡ isSentAs u m f e
     unfolding isSentAs
-    refused n = rw (le-leb (length f) 64 room, ne-eqb (sendRefusal (u .kind) (u .grade) m (length f)) 0 (λ z. n (is ∙ z))) refl
+    refused n = rw (le-leb (length f) 64 room, ne-eqb (sendRefusal (u .kind) (u .grade) 0 m (length f)) 0 (λ z. n (is ∙ z))) refl
 
-    module _ (accepted : r ≡ 0) (g : ℕ) (energy-is : g ≡ energySent r (u .kind) (u .grade) (u .number) m) where
+    module _ (accepted : r ≡ 0) (g : ℕ) (energy-is : g ≡ energySent r (u .kind) (u .grade) 0 (u .number) m) where
       sent-energy : g ≡ energy (numberedFrame (u .kind) (u .grade) (u .number) m)
-      unfolding energySent
-      sent-energy = energy-is ∙ rw (eq-eqb r 0 accepted) refl
+      sent-energy =
+          energy-is ∙ sent-leaves r (u .kind) (u .grade) 0 (u .number) m accepted ∙ none-free (u .kind) (u .grade) (u .number) m 0 .least
 
       pub other-energy : (g ≡ e → ⊥) → false ≡ isSentAs u m f e
       unfolding isSentAs
       other-energy n =
           rw (
             le-leb (length f) 64 room,
-            eq-eqb (sendRefusal (u .kind) (u .grade) m (length f)) 0 (sym is ∙ accepted),
+            eq-eqb (sendRefusal (u .kind) (u .grade) 0 m (length f)) 0 (sym is ∙ accepted),
             ne-eqb (energy (numberedFrame (u .kind) (u .grade) (u .number) m)) e (λ z. n (sent-energy ∙ z)),
           ) refl
 
-      pub compared : g ≡ e → (t : Bool) (x lent : List ℤ) → x ≡ frameAfter r (u .kind) (u .grade) (u .number) m lent → t ≡ sameFrame x f → t ≡ isSentAs u m f e
-      unfolding isSentAs frameAfter
+      pub compared : g ≡ e → (t : Bool) (x lent : List ℤ) → QuietAfter r (u .kind) (u .grade) 0 (u .number) m lent x → t ≡ sameFrame x f → t ≡ isSentAs u m f e
+      unfolding isSentAs
       compared p t x lent frame-is q =
           rw (
             le-leb (length f) 64 room,
-            eq-eqb (sendRefusal (u .kind) (u .grade) m (length f)) 0 (sym is ∙ accepted),
+            eq-eqb (sendRefusal (u .kind) (u .grade) 0 m (length f)) 0 (sym is ∙ accepted),
             eq-eqb (energy (numberedFrame (u .kind) (u .grade) (u .number) m)) e (sym sent-energy ∙ p),
-          ) (q ∙ ap (λ (y : List ℤ). sameFrame y f) (frame-is ∙ rw (eq-eqb r 0 accepted) refl))
+          ) (q ∙ ap (λ (y : List ℤ). sameFrame y f) (none-free (u .kind) (u .grade) (u .number) m 0 .only x (frame-is .sent accepted)))

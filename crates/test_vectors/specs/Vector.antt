@@ -1,4 +1,4 @@
--- The judgements that a vector is put to, by the definitions of the library. Assumes nothing.
+-- The judgements that a vector is put to, by the definitions of the library; a vector leaves no bit free. Assumes nothing.
 use Prim.Native.Nat.{ℕ, suc, _-_, _*_, _/_}
 use mathlib.Core.Bool.{Bool, true, false, _&&_, cond}
 use mathlib.Core.List.{List, [], _∷_, _++_}
@@ -10,7 +10,7 @@ use lib.Signed.{ltZ}
 use Rattle.e8.specs.Energy.{energy}
 use Rattle.frames.specs.Frame.{numberedFrame}
 use Rattle.frames.specs.Sending.{sendRefusal}
-use Rattle.frames.specs.Reading.{openMessage, openRefusal, strictRefusal, sameFrame}
+use Rattle.frames.specs.Reading.{fixedMessage, openRefusal, strictRefusal, sameFrame}
 use Rattle.test_data.specs.Alike.{sameBytes}
 use Rattle.test_tally.specs.Tally.{Judgement}
 use Rattle.test_vectors.specs.declared.checks.Under.{Under}
@@ -22,17 +22,17 @@ use Rattle.test_vectors.specs.declared.checks.Energies.{Energies}
 unfoldable pub isSentAs : Under → List ℕ → List ℤ → ℕ → Bool
 isSentAs u m f e =
     let sent = numberedFrame (u .kind) (u .grade) (u .number) m in
-    leb (length f) 64 && (eqb (sendRefusal (u .kind) (u .grade) m (length f)) 0 && (eqb (energy sent) e && sameFrame sent f))
+    leb (length f) 64 && (eqb (sendRefusal (u .kind) (u .grade) 0 m (length f)) 0 && (eqb (energy sent) e && sameFrame sent f))
 
 -- what the strict reading or the open one answers of a frame; n message bytes are lent
 abbrev pub readRefusal : Bool → Under → List ℤ → ℕ → ℕ
-readRefusal strict u f n = cond strict (strictRefusal (u .kind) (u .grade) (u .number) f n) (openRefusal (u .kind) (u .grade) f n)
+readRefusal strict u f n = cond strict (strictRefusal (u .kind) (u .grade) 0 (u .number) f n) (openRefusal (u .kind) (u .grade) 0 f n)
 
 -- the frame f is read as the message m, with the energy e; there is room for 48 bytes
 unfoldable pub isReadAs : Bool → Under → List ℤ → List ℕ → ℕ → Bool
 isReadAs strict u f m e =
     leb (length m) 48
-    && (eqb (readRefusal strict u f (length m)) 0 && (eqb (energy f) e && sameBytes (openMessage (u .kind) (u .grade) f) m))
+    && (eqb (readRefusal strict u f (length m)) 0 && (eqb (energy f) e && sameBytes (fixedMessage (u .kind) (u .grade) 0 f) m))
 
 -- the reading of the frame f answers the number, where n bytes are lent; that a refusal leaves them, and answers no energy, is the library's contract
 unfoldable pub isAnswered : Bool → Under → List ℤ → ℕ → ℕ → Bool

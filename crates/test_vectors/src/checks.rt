@@ -90,7 +90,7 @@ fn sends(u: Under, message: &[u8], frame: &[i32], energy: u64) -> bool
     if 64 < n {
         return false;
     }
-    let r = sending::send(u.kind, u.grade, u.number, message, &mut out[0..n]);
+    let r = sending::send(u.kind, u.grade, u.number, 0, message, &mut out[0..n]);
     if r.number != 0 {
         return false;
     }
@@ -102,13 +102,13 @@ fn sends(u: Under, message: &[u8], frame: &[i32], energy: u64) -> bool
 
 fn read(strict: bool, u: Under, frame: &[i32], message: &mut [u8]) -> reading::Reading
     ensures number { λ r. ⌜ r .number ≡ readRefusal strict u (now (frame .entry)) (length (now (message .entry))) ⌝ }
-    ensures message { λ r. ⌜ now (message .exit) ≡ messageAfter (r .number) (u .kind) (u .grade) (now (frame .entry)) (now (message .entry)) ⌝ }
+    ensures message { λ r. ⌜ now (message .exit) ≡ messageAfter (r .number) (u .kind) (u .grade) 0 (now (frame .entry)) (now (message .entry)) ⌝ }
     ensures energy { λ r. ⌜ r .energy ≡ energyRead (r .number) (now (frame .entry)) ⌝ }
 {
     if strict {
-        return reading::read_strict(u.kind, u.grade, u.number, frame, message);
+        return reading::read_strict(u.kind, u.grade, u.number, 0, frame, message);
     }
-    reading::read_open(u.kind, u.grade, frame, message)
+    reading::read_open(u.kind, u.grade, 0, frame, message)
 }
 
 // The frame is read as the message, with the energy.

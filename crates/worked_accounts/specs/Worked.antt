@@ -2,15 +2,19 @@
 -- elsewhere; the frames before and after a changeover; opening. Assumes nothing.
 use Prim.Native.Nat.{ℕ, _^_, _-_}
 use mathlib.Core.Path.{_≡_}
+use mathlib.Core.Bool.{cond}
 use mathlib.Core.List.{List, [], _∷_, map}
 use lib.IntN.{ℤ, pos, negsuc}
+use lib.Dec.{eqb}
 use lib.ListN.{getD}
 use lib.Ieee.{binary64, ofInt}
+use Rattle.frames.specs.Frame.{numberedFrame}
 use Rattle.power_account.specs.declared.Account.{Account}
 use Rattle.power_account.specs.declared.Opened.{Opened}
-use Rattle.power_account.specs.Power.{begun}
+use Rattle.power_account.specs.Power.{powerOf, begun}
 use Rattle.power_account.specs.Opening.{openedWith}
-use Rattle.power_account.specs.History.{Call, after, sentBy}
+use Rattle.power_account.specs.Counted.{numberFor}
+use Rattle.power_account.specs.History.{Call, answer, after, SentBy}
 
 -- an account of these figures, the sum being a whole number, and of a changeover
 abbrev pub heldWith : ℕ → ℕ → ℕ → ℕ → Account
@@ -20,9 +24,17 @@ heldWith changeover count sum largest = record { count = count; sum = ofInt bina
 abbrev pub held : ℕ → ℕ → ℕ → Account
 held = heldWith 1000000
 
+-- the same, the sum being so many halves
+abbrev pub heldIn2 : ℕ → ℕ → ℕ → Account
+heldIn2 count sum largest = record { count = count; sum = powerOf sum 2; largest = largest; changeover = 1000000 }
+
 -- a call at grade 1 that lends as many coordinates as the kind has
+abbrev pub freeCall : ℕ → ℕ → List ℕ → Call
+freeCall kind free message = record { kind = kind; grade = 1; free = free; message = message; n = 2 ^ kind }
+
+-- and leaves no bit free
 abbrev pub callOf : ℕ → List ℕ → Call
-callOf kind message = record { kind = kind; grade = 1; message = message; n = 2 ^ kind }
+callOf kind message = freeCall kind 0 message
 
 -- a call, and the account after it
 pub record Case : Type 0 where
@@ -38,6 +50,18 @@ steps =
     ∷ record { call = callOf 4 (32 ∷ 0 ∷ 0 ∷ 0 ∷ 0 ∷ []); left = held 3 7 32 }
     ∷ record { call = callOf 3 (0 ∷ 16 ∷ []); left = held 3 7 32 }
     ∷ record { call = callOf 3 (0 ∷ 8 ∷ []); left = held 4 9 32 }
+    ∷ []
+
+-- with free bits. Kind 3, 12 00: 2 bits free, the fillings have 12, 4, 4 and 12, a power of 1/2; twice. None free: 12, a power of 3/2. A free bit set, five
+-- free bits: refused
+abbrev pub freeSteps : List Case
+freeSteps =
+    record { call = freeCall 3 2 (18 ∷ 0 ∷ []); left = heldIn2 1 1 4 }
+    ∷ record { call = freeCall 3 2 (18 ∷ 0 ∷ []); left = held 2 1 4 }
+    ∷ record { call = freeCall 3 2 (18 ∷ 4 ∷ []); left = held 2 1 4 }
+    ∷ record { call = freeCall 3 5 (18 ∷ 0 ∷ []); left = held 2 1 4 }
+    ∷ record { call = freeCall 3 2 (18 ∷ 0 ∷ []); left = heldIn2 3 3 4 }
+    ∷ record { call = callOf 3 (18 ∷ 0 ∷ []); left = held 4 3 12 }
     ∷ []
 
 -- the accounts after the calls, each made with the account that the call before it left
@@ -67,9 +91,20 @@ leftBy e = after (held 5 0 (e .before)) (callOf 4 (32 ∷ 0 ∷ 0 ∷ 0 ∷ 0 �
 abbrev pub tied : Call
 tied = callOf 3 (0 ∷ 8 ∷ [])
 
+-- the frames of calls without free bits, one after the other
+unfoldable pub framesOf : Account → List Call → List (List ℤ)
+framesOf a [] = []
+framesOf a (c ∷ cs) =
+    cond (eqb (answer a c) 0) (numberedFrame (c .kind) (c .grade) (numberFor a) (c .message) ∷ framesOf (after a c) cs) (framesOf (after a c) cs)
+
+-- each of the calls leaves no bit free
+abbrev pub AllWhole : List Call → Type 0
+AllWhole [] = Unit {0}
+AllWhole (c ∷ cs) = (c .free ≡ 0) × AllWhole cs
+
 -- the first coordinates of the frames that five such calls send with an account
 abbrev pub firsts : Account → List ℤ
-firsts a = map (λ (f : List ℤ). getD f 0 (pos 0)) (sentBy a (tied ∷ tied ∷ tied ∷ tied ∷ tied ∷ []))
+firsts a = map (λ (f : List ℤ). getD f 0 (pos 0)) (framesOf a (tied ∷ tied ∷ tied ∷ tied ∷ tied ∷ []))
 
 -- changeovers, with the count at the start, and these coordinates: 0 is the new rule throughout, 3 makes frame 3 the first one by the new rule, 4 the
 -- fourth; past the count it changes nothing until it is reached
@@ -124,6 +159,11 @@ handedOut o = record { number = o .number; account = heldWith (o .kept) 0 0 0 }
 -- the definitions give what is worked by hand
 pub record AsWorked : Type 0 where
   pub grown : lefts (begun 1000000) steps ≡ map (λ (c : Case). c .left) steps
+  pub with-free : lefts (begun 1000000) freeSteps ≡ map (λ (c : Case). c .left) freeSteps
   pub taken : map leftBy elsewhere ≡ map (λ (e : Elsewhere). e .left) elsewhere
   pub changed : map firstsBy changes ≡ map (λ (e : Change). e .firsts) changes
   pub opened : map (λ (o : Opening). openedWith (o .changeover)) openings ≡ map handedOut openings
+
+-- and calls without free bits have the frames above as their history
+pub record NoneFreeHistory (a : Account) (cs : List Call) : Type 0 where
+  pub sent : AllWhole cs → SentBy a cs (framesOf a cs)

@@ -3,7 +3,7 @@ use mathlib.Core.Path.{refl}
 use lib.Count.{ones}
 use lib.Ieee.{add, sum, div, ofInt}
 use Rattle.bits.specs.Number.{sumTo, table}
-use Rattle.bits.specs.Message.{messageBit}
+use Rattle.bits.specs.Message.{messageBit, byteOf, bytesOf, withBits}
 use Rattle.reed_muller.specs.Level.{ofWeight, masks, order, dimension, codeword}
 use Rattle.e8.specs.Energy.{sq, energy}
 use Rattle.e8.specs.Order.{before}
@@ -13,7 +13,8 @@ use Rattle.e8.specs.Ties.{leastFrameBy}
 use Rattle.frames.specs.Kind.{kinds, isKind, isGrade, degrees, levels, levelBits, messageBits, messageBytes}
 use Rattle.frames.specs.Message.{numbers, blockNumbers, stacked, coordinate, leader}
 use Rattle.frames.specs.Frame.{half, isOdd, numberedFrame}
-use Rattle.frames.specs.Sending.{anySet, spareSet, sendRefusal, frameAfter}
+use Rattle.frames.specs.Free.{isFreeCount, freeFrom, filled, filledFrame, leastOf, quietEnergy, quietLargest}
+use Rattle.frames.specs.Sending.{anySet, freeSet, sendRefusal, frameAfter}
 use Rattle.power_account.specs.Power.{powerOf}
 use Rattle.power_account.specs.Counted.{countedRefusal, countedAccount}
 use Rattle.queue_turns.specs.Queue.{queueRefusal, callsFor, inTurn, framesInTurn, queueOutcome, queueFrames}
@@ -21,7 +22,7 @@ use Rattle.worked_queues.specs.Worked.{AsWorked}
 
 pub as-worked : AsWorked
 unfolding queueOutcome queueFrames queueRefusal callsFor inTurn framesInTurn frameAfter countedRefusal countedAccount sendRefusal isGrade
-    isKind kinds spareSet anySet messageBytes messageBits levelBits numberedFrame isOdd half leastFrameBy leastFrame leastBlock best better cent
+    isKind isFreeCount kinds freeSet freeFrom filled withBits bytesOf byteOf filledFrame leastOf quietEnergy quietLargest anySet messageBytes messageBits levelBits numberedFrame isOdd half leastFrameBy leastFrame leastBlock best better cent
     before energy sq leader coordinate stacked blockNumbers numbers degrees levels sumTo codeword order dimension masks ofWeight table messageBit ones
     largestTo powerOf add sum div ofInt
 as-worked = record { answers = refl; frames = refl }

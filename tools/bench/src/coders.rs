@@ -1,20 +1,21 @@
 //! The coders that are compared, with one form of call: each fills what it is lent and gives the
 //! energy, or gives the number of a refusal and leaves what it is lent as it was. Of a queue each gives
-//! how many are sent, and the number of the refusal, 0 where all are. A near reading gives 0 for the energy.
+//! how many are sent, and the number of the refusal, 0 where all are. A near reading gives 0 for the energy. With free bits
+//! each may send another frame.
 
 use bench::{exported, hand};
 use frame_coder::{by_number, Account, Refusal};
-use second_coder::{account, frame, near};
+use second_coder::{account, free, near};
 
 pub use bench::exported::Figures;
 
 type Answer = Result<u64, u8>;
-type Sending = fn(u8, u8, u32, &[u8], &mut [i32]) -> Answer;
+type Sending = fn(u8, u8, u32, u8, &[u8], &mut [i32]) -> Answer;
 type Opening = fn(u32, &mut Figures) -> Answer;
-type Counting = fn(u8, u8, &[u8], &mut [i32], &mut Figures) -> Answer;
+type Counting = fn(u8, u8, u8, &[u8], &mut [i32], &mut Figures) -> Answer;
 type Queueing = fn(u8, u8, &[u8], &mut [i32], &mut Figures) -> (usize, u8);
-type Reading = fn(u8, u8, &[i32], &mut [u8]) -> Answer;
-type Judging = fn(u8, u8, u32, &[i32], &mut [u8]) -> Answer;
+type Reading = fn(u8, u8, u8, &[i32], &mut [u8]) -> Answer;
+type Judging = fn(u8, u8, u32, u8, &[i32], &mut [u8]) -> Answer;
 type Nearing = fn(u8, u8, &[f32], &mut [u8], &mut f64) -> Answer;
 
 pub struct Coder {
@@ -32,14 +33,14 @@ pub struct Coder {
 pub const CODERS: [Coder; 3] = [
     Coder {
         name: "library",
-        send: |kind, grade, number, message, frame| {
-            by_number::send(kind, grade, number, message, frame).map_err(Refusal::number)
+        send: |kind, grade, number, free, message, frame| {
+            by_number::send_free(kind, grade, number, free, message, frame).map_err(Refusal::number)
         },
         // The exported function, which leaves an account also where it refuses.
         open: |changeover, figures| answered(exported::open(changeover, figures)),
-        send_counted: |kind, grade, message, frame, figures| {
+        send_counted: |kind, grade, free, message, frame, figures| {
             let mut account = Account::from_parts(figures.0, figures.1, figures.2, figures.3);
-            let answer = by_number::send_counted(kind, grade, message, frame, &mut account);
+            let answer = by_number::send_counted_free(kind, grade, free, message, frame, &mut account);
             *figures = (account.count(), account.sum(), account.largest(), account.changeover());
             answer.map_err(Refusal::number)
         },
@@ -49,11 +50,11 @@ pub const CODERS: [Coder; 3] = [
             *figures = (account.count(), account.sum(), account.largest(), account.changeover());
             queued.map_or_else(|stopped| (stopped.sent, stopped.refusal.number()), |sent| (sent, 0))
         },
-        read_open: |kind, grade, frame, message| {
-            by_number::read_open(kind, grade, frame, message).map_err(Refusal::number)
+        read_open: |kind, grade, free, frame, message| {
+            by_number::read_open_free(kind, grade, free, frame, message).map_err(Refusal::number)
         },
-        read_strict: |kind, grade, number, frame, message| {
-            by_number::read_strict(kind, grade, number, frame, message).map_err(Refusal::number)
+        read_strict: |kind, grade, number, free, frame, message| {
+            by_number::read_strict_free(kind, grade, number, free, frame, message).map_err(Refusal::number)
         },
         // The exported function, whose distance is to be left where it refuses.
         read_near: |kind, grade, samples, message, distance| {
@@ -62,15 +63,15 @@ pub const CODERS: [Coder; 3] = [
     },
     Coder {
         name: "by hand",
-        send: hand::send,
+        send: hand::send_free,
         open: |changeover, figures| {
             let (account, number) = hand::open(changeover);
             *figures = by_hand_figures(account);
             opened(number)
         },
-        send_counted: |kind, grade, message, frame, figures| {
+        send_counted: |kind, grade, free, message, frame, figures| {
             let mut account = by_hand(figures);
-            let answer = hand::send_counted(kind, grade, message, frame, &mut account);
+            let answer = hand::send_counted_free(kind, grade, free, message, frame, &mut account);
             *figures = by_hand_figures(account);
             answer
         },
@@ -80,8 +81,8 @@ pub const CODERS: [Coder; 3] = [
             *figures = by_hand_figures(account);
             queued
         },
-        read_open: hand::read_open,
-        read_strict: hand::read_strict,
+        read_open: hand::read_open_free,
+        read_strict: hand::read_strict_free,
         read_near: |kind, grade, samples, message, distance| {
             *distance = hand::read_near(kind, grade, samples, message)?;
             Ok(0)
@@ -89,21 +90,22 @@ pub const CODERS: [Coder; 3] = [
     },
     Coder {
         name: "second coder",
-        send: |kind, grade, number, message, frame| {
-            let sent = frame::send_into(kind, grade, number, message, frame.len())?;
-            narrow(&sent.frame, frame);
-            Ok(sent.energy)
+        // Any filling that may be sent: the last, where the hand-tuned coder takes the first.
+        send: |kind, grade, number, free, message, frame| {
+            let fillings = free::send_into(kind, grade, number, free, message, frame.len())?;
+            narrow(last(&fillings), frame);
+            Ok(fillings.energy())
         },
         open: |changeover, figures| {
             let (number, account) = account::open(changeover);
             *figures = second_figures(account);
             opened(number)
         },
-        send_counted: |kind, grade, message, frame, figures| {
-            let (sent, account) = account::send_counted(kind, grade, message, frame.len(), second(figures))?;
-            narrow(&sent.frame, frame);
+        send_counted: |kind, grade, free, message, frame, figures| {
+            let (fillings, account) = free::send_counted(kind, grade, free, message, frame.len(), second(figures))?;
+            narrow(last(&fillings), frame);
             *figures = second_figures(account);
-            Ok(sent.energy)
+            Ok(fillings.energy())
         },
         send_queue: |kind, grade, messages, frames, figures| {
             let mut left = wide(frames);
@@ -112,13 +114,13 @@ pub const CODERS: [Coder; 3] = [
             *figures = second_figures(queued.account);
             (queued.sent, queued.number)
         },
-        read_open: |kind, grade, frame, message| {
-            let (read, energy) = frame::read_open_into(kind, grade, &wide(frame), message.len())?;
+        read_open: |kind, grade, free, frame, message| {
+            let (read, energy) = free::read_open(kind, grade, free, &wide(frame), message.len())?;
             message.copy_from_slice(&read);
             Ok(energy)
         },
-        read_strict: |kind, grade, number, frame, message| {
-            let (read, energy) = frame::read_strict_into(kind, grade, number, &wide(frame), message.len())?;
+        read_strict: |kind, grade, number, free, frame, message| {
+            let (read, energy) = free::read_strict(kind, grade, number, free, &wide(frame), message.len())?;
             message.copy_from_slice(&read);
             Ok(energy)
         },
@@ -161,6 +163,11 @@ fn second(&(count, sum, largest, changeover): &Figures) -> account::Account {
 
 fn second_figures(account: account::Account) -> Figures {
     (account.count, account.sum, account.largest, account.changeover)
+}
+
+/// The frame of the last of the least fillings.
+fn last(fillings: &free::Fillings) -> &[i64] {
+    fillings.permitted().pop().expect("a filling is least")
 }
 
 fn wide(frame: &[i32]) -> Vec<i64> {

@@ -1,5 +1,6 @@
 //! Compares every answer of the library with the hand-tuned coder's, and with the second coder's.
 
+use std::cell::RefCell;
 use std::fmt::Debug;
 use std::ops::RangeInclusive;
 use std::sync::atomic::{AtomicU64, Ordering};
@@ -18,11 +19,12 @@ pub struct Plan {
     pub all: bool,
 }
 
-/// The comparisons made, by answer (0 for success; for a block alone, refused and shaped), those of near readings and of
-/// queues among them and the messages sent in these, those of sending both ways, and those that differ.
+/// The comparisons made, by answer (0 for success; for a block alone, refused and shaped), those of frames sent with free bits, of near
+/// readings and of queues among them and the messages sent in these, those of sending both ways, and those that differ.
 struct Tally {
     coders: &'static [Coder],
-    answers: [u64; 17],
+    answers: [u64; 18],
+    free: u64,
     near: u64,
     queues: u64,
     queued: u64,
@@ -62,6 +64,7 @@ impl Tally {
     fn add(&mut self, other: &Tally) {
         self.answers.iter_mut().zip(other.answers).for_each(|(sum, count)| *sum += count);
         self.blocks.iter_mut().zip(other.blocks).for_each(|(sum, count)| *sum += count);
+        self.free += other.free;
         self.near += other.near;
         self.queues += other.queues;
         self.queued += other.queued;
@@ -191,21 +194,65 @@ fn by_bits((count, sum, largest, changeover): Figures) -> (u32, u64, u64, u32) {
     (count, sum.to_bits(), largest, changeover)
 }
 
-/// A message sent under a number, and with an account.
-fn sendings(kind: u8, grade: u8, number: u32, message: &[u8], length: usize, random: &mut Random, tally: &mut Tally) {
-    tally.ask("send", &(kind, grade, number, message), |coder| {
+/// A message with so many bits free, sent by each coder: gives every frame that is sent. Compared are the answers and what `left` says; and
+/// the frame where it has to be the same, which without free bits is always, and with them where the message is refused.
+fn sent<T: PartialEq + Debug>(
+    what: &str,
+    input: &dyn Debug,
+    free: u8,
+    length: usize,
+    tally: &mut Tally,
+    send: impl Fn(&Coder, &mut [i32]) -> (Result<u64, u8>, T),
+) -> Vec<Vec<i32>> {
+    let frames = RefCell::new(Vec::new());
+    tally.ask(what, input, |coder| {
         let mut frame = vec![77; length];
-        ((coder.send)(kind, grade, number, message, &mut frame), frame)
+        let (answer, left) = send(coder, &mut frame);
+        let same = (answer.is_err() || free == 0).then(|| frame.clone());
+        if answer.is_ok() && !frames.borrow().contains(&frame) {
+            frames.borrow_mut().push(frame);
+        }
+        (answer, (same, left))
     });
+    frames.into_inner()
+}
+
+/// A call of sending: kind, grade, number, free count and message.
+type Sending<'a> = (u8, u8, u32, u8, &'a [u8]);
+
+/// A frame that is sent for the message under the number, with free bits: every coder reads it back, openly and strictly.
+fn quiet((kind, grade, number, free, message): Sending, frame: &[i32], tally: &mut Tally) {
+    tally.free += 1;
+    readings(kind, grade, free, &[number, number ^ 1], frame, message.len(), tally);
+    // The readings are the same by all coders; so one is enough to see that the frame may be sent, and has this energy.
+    let mut back = vec![0xA5; message.len()];
+    let own = frame.iter().map(|&x| (x * x) as u64).sum();
+    let answer = hand::read_strict_free(kind, grade, number, free, frame, &mut back);
+    tally.compare("quiet", &(kind, grade, number, free, message, frame), &[(answer, &back[..]), (Ok(own), message)]);
+}
+
+/// A message sent under a number, and with an account.
+fn sendings((kind, grade, number, free, message): Sending, length: usize, random: &mut Random, tally: &mut Tally) {
+    let input = (kind, grade, number, free, message);
+    let frames = sent("send", &input, free, length, tally, |coder, frame| {
+        ((coder.send)(kind, grade, number, free, message, frame), ())
+    });
+    if free > 0 {
+        frames.iter().for_each(|frame| quiet(input, frame, tally));
+    }
     let count = [0, 5, 999_998, 999_999, 1_000_000, 1_000_001, u32::MAX][random.below(7) as usize];
     let sum = sum(random);
     let largest = largest(kind, grade, message, length, random);
     let account = (count, sum, largest, changeover(count, 1, random));
-    tally.ask("send_counted", &(kind, grade, message, account), |coder| {
-        let (mut frame, mut figures) = (vec![77; length], account);
-        let answer = (coder.send_counted)(kind, grade, message, &mut frame, &mut figures);
-        (answer, (frame, by_bits(figures)))
+    let frames = sent("send_counted", &(kind, grade, free, message, account), free, length, tally, |coder, frame| {
+        let mut figures = account;
+        let answer = (coder.send_counted)(kind, grade, free, message, frame, &mut figures);
+        (answer, by_bits(figures))
     });
+    if free > 0 {
+        let number = if count < account.3 { 0 } else { count };
+        frames.iter().for_each(|frame| quiet((kind, grade, number, free, message), frame, tally));
+    }
 }
 
 /// An account opened over other figures.
@@ -223,15 +270,15 @@ fn opening(random: &mut Random, tally: &mut Tally) {
 }
 
 /// A frame read openly, and strictly under each of these numbers.
-fn readings(kind: u8, grade: u8, numbers: &[u32], frame: &[i32], bytes: usize, tally: &mut Tally) {
-    tally.ask("read_open", &(kind, grade, frame, bytes), |coder| {
+fn readings(kind: u8, grade: u8, free: u8, numbers: &[u32], frame: &[i32], bytes: usize, tally: &mut Tally) {
+    tally.ask("read_open", &(kind, grade, free, frame, bytes), |coder| {
         let mut message = vec![0xA5; bytes];
-        ((coder.read_open)(kind, grade, frame, &mut message), message)
+        ((coder.read_open)(kind, grade, free, frame, &mut message), message)
     });
     for &number in numbers {
-        tally.ask("read_strict", &(kind, grade, number, frame, bytes), |coder| {
+        tally.ask("read_strict", &(kind, grade, number, free, frame, bytes), |coder| {
             let mut message = vec![0xA5; bytes];
-            ((coder.read_strict)(kind, grade, number, frame, &mut message), message)
+            ((coder.read_strict)(kind, grade, number, free, frame, &mut message), message)
         });
     }
 }
@@ -299,7 +346,7 @@ fn near_readings(kind: u8, grade: u8, frame: &[i32], bytes: usize, random: &mut 
     }
 }
 
-/// Wrong kinds, grades and lengths, with something in every buffer.
+/// Wrong kinds, grades, free counts and lengths, with something in every buffer.
 fn misfits(random: &mut Random, tally: &mut Tally) {
     let (kind, grade) = match random.below(3) {
         0 => (random.below(256) as u8, random.below(256) as u8),
@@ -311,9 +358,14 @@ fn misfits(random: &mut Random, tally: &mut Tally) {
     let mut message = vec![0; bytes];
     random.fill(&mut message);
     let number = number(random);
-    sendings(kind, grade, number, &message, length, random, tally);
+    let free = match random.below(4) {
+        0 => random.below(256) as u8,
+        1 => random.below(8) as u8,
+        _ => 0,
+    };
+    sendings((kind, grade, number, free, &message), length, random, tally);
     let frame: Vec<i32> = (0..length).map(|_| random.below(9) as i32 - 4).collect();
-    readings(kind, grade, &[number], &frame, bytes, tally);
+    readings(kind, grade, free, &[number], &frame, bytes, tally);
     let mut samples: Vec<f32> = frame.iter().map(|&x| x as f32).collect();
     if length > 0 && random.below(4) == 0 {
         samples[random.below(length as u64) as usize] = strange(random);
@@ -361,7 +413,9 @@ fn shaping(random: &mut Random, tally: &mut Tally) {
 
 /// A message sent by whole words of the levels, and by the mask test at every position.
 fn both_ways(kind: u8, grade: u8, number: u32, message: &[u8], length: usize, tally: &mut Tally) {
-    let answers = [exported::send, exported::plain_send].map(|send| {
+    let words: fn(u8, u8, u32, &[u8], &mut [i32]) -> i64 =
+        |kind, grade, number, message, frame| exported::send(kind, grade, number, 0, message, frame);
+    let answers = [words, exported::plain_send].map(|send| {
         let mut frame = vec![77; length];
         (send(kind, grade, number, message, &mut frame), frame)
     });
@@ -423,18 +477,46 @@ fn queue(plan: &Plan, random: &mut Random, tally: &mut Tally) {
     tally.queued += sent as u64;
 }
 
+/// How many bits of a message are free: none as often as some. The second coder searches for each filling: with it three in four have none.
+fn free_count(plan: &Plan, random: &mut Random) -> u8 {
+    match random.below(if plan.all { 4 } else { 2 }) {
+        0 => 1 + random.below(4) as u8,
+        _ => 0,
+    }
+}
+
+/// Clears the free bits of a message, which lie in its last byte; but at times they stay as they are, and it is refused.
+fn clear_free(kind: u8, free: u8, message: &mut [u8], random: &mut Random) {
+    let bits = if kind < 5 { 4 } else { 8 };
+    if random.below(8) > 0 {
+        let last = message.last_mut().expect("no message is empty");
+        *last &= !((0xFFu32 >> (8 - free) << (bits - free)) as u8);
+    }
+}
+
 /// One message, its frame under a number, judged by it and by the other rule, the frame damaged in three ways, and noisy samples
 /// of it; at times an unfit sample, calls that do not fit, an account opened, and a queue.
 fn frame(plan: &Plan, random: &mut Random, tally: &mut Tally) {
     let (kind, grade) = format(plan, random);
     let (length, bytes) = lengths(kind, grade);
-    let (number, message) = (number(random), message(kind, grade, random));
-    sendings(kind, grade, number, &message, length, random, tally);
+    let (number, free, mut message) = (number(random), free_count(plan, random), message(kind, grade, random));
+    clear_free(kind, free, &mut message, random);
+    sendings((kind, grade, number, free, &message), length, random, tally);
     let mut frame = vec![0; length];
-    if hand::send(kind, grade, number, &message, &mut frame).is_ok() {
-        readings(kind, grade, &[number, number ^ 1], &frame, bytes, tally);
+    if hand::send_free(kind, grade, number, free, &message, &mut frame).is_ok() {
+        readings(kind, grade, free, &[number, number ^ 1], &frame, bytes, tally);
         for _ in 0..3 {
-            readings(kind, grade, &[number], &damaged(kind, grade, &frame, random), bytes, tally);
+            readings(kind, grade, free, &[number], &damaged(kind, grade, &frame, random), bytes, tally);
+        }
+        // The frame of a filling, which may be sent or not.
+        if free > 0 {
+            let mut filled = message.clone();
+            let from = 8 * bytes - if kind < 5 { 4 } else { 0 } - free as usize;
+            for k in (from..from + free as usize).filter(|_| random.below(2) == 0) {
+                filled[k / 8] |= 1 << (k % 8);
+            }
+            hand::send(kind, grade, number, &filled, &mut frame).expect("the message is good");
+            readings(kind, grade, free, &[number, number ^ 1], &frame, bytes, tally);
         }
         // Kind 6 is refused, and at kind 5 the second coder takes milliseconds.
         if kind < 5 || kind == 5 && !plan.all || random.below(16) == 0 {
@@ -477,7 +559,17 @@ fn take_parts(plan: &Plan, next: &AtomicU64, tally: &mut Tally) {
 pub fn run(plan: &Plan) -> u64 {
     let tally = || {
         let coders = if plan.all { &CODERS[..] } else { &CODERS[..2] };
-        Tally { coders, answers: [0; 17], near: 0, queues: 0, queued: 0, blocks: [0; 2], ways: 0, different: 0 }
+        Tally {
+            coders,
+            answers: [0; 18],
+            free: 0,
+            near: 0,
+            queues: 0,
+            queued: 0,
+            blocks: [0; 2],
+            ways: 0,
+            different: 0,
+        }
     };
     let next = AtomicU64::new(0);
     let mut sum = tally();
@@ -500,6 +592,7 @@ pub fn run(plan: &Plan) -> u64 {
             (_, Err(unknown)) => println!("{unknown}: {count}"),
         }
     }
+    println!("frames sent with free bits: {}", sum.free);
     println!("near readings: {}", sum.near);
     println!("queues: {}, with {} messages sent", sum.queues, sum.queued);
     let [refused, shaped] = sum.blocks;

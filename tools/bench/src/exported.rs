@@ -9,16 +9,26 @@ mod archive {
             k: u8,
             b: u8,
             number: u32,
+            free: u8,
             message: *const u8,
             bytes: usize,
             frame: *mut i32,
             length: usize,
         ) -> i64;
-        pub fn coder_read_open(k: u8, b: u8, frame: *const i32, length: usize, message: *mut u8, bytes: usize) -> i64;
+        pub fn coder_read_open(
+            k: u8,
+            b: u8,
+            free: u8,
+            frame: *const i32,
+            length: usize,
+            message: *mut u8,
+            bytes: usize,
+        ) -> i64;
         pub fn coder_read_strict(
             k: u8,
             b: u8,
             number: u32,
+            free: u8,
             frame: *const i32,
             length: usize,
             message: *mut u8,
@@ -37,6 +47,7 @@ mod archive {
         pub fn coder_send_counted(
             k: u8,
             b: u8,
+            free: u8,
             message: *const u8,
             bytes: usize,
             frame: *mut i32,
@@ -72,15 +83,15 @@ mod archive {
     }
 }
 
-/// Sends under a number: the energy, or minus the number of a refusal.
+/// Sends under a number, the last bits of the message left free: the energy, or minus the number of a refusal.
 #[inline(always)]
-pub fn send(kind: u8, grade: u8, number: u32, message: &[u8], frame: &mut [i32]) -> i64 {
+pub fn send(kind: u8, grade: u8, number: u32, free: u8, message: &[u8], frame: &mut [i32]) -> i64 {
     let (message, bytes, frame, length) = (message.as_ptr(), message.len(), frame.as_mut_ptr(), frame.len());
     // SAFETY: both slices are lent for the call, the frame alone; the lengths are theirs.
-    unsafe { archive::coder_send(kind, grade, number, message, bytes, frame, length) }
+    unsafe { archive::coder_send(kind, grade, number, free, message, bytes, frame, length) }
 }
 
-/// The same by the mask test at every position.
+/// The same without free bits, by the mask test at every position.
 #[inline(always)]
 pub fn plain_send(kind: u8, grade: u8, number: u32, message: &[u8], frame: &mut [i32]) -> i64 {
     let (message, bytes, frame, length) = (message.as_ptr(), message.len(), frame.as_mut_ptr(), frame.len());
@@ -103,13 +114,16 @@ pub fn open(changeover: u32, (count, sum, largest, kept): &mut Figures) -> i64 {
 pub fn send_counted(
     kind: u8,
     grade: u8,
+    free: u8,
     message: &[u8],
     frame: &mut [i32],
     (count, sum, largest, changeover): &mut Figures,
 ) -> i64 {
     let (message, bytes, frame, length) = (message.as_ptr(), message.len(), frame.as_mut_ptr(), frame.len());
     // SAFETY: as in `send`; the three numbers are lent for the call alone.
-    unsafe { archive::coder_send_counted(kind, grade, message, bytes, frame, length, count, sum, largest, *changeover) }
+    unsafe {
+        archive::coder_send_counted(kind, grade, free, message, bytes, frame, length, count, sum, largest, *changeover)
+    }
 }
 
 /// Sends a queue with the same: 0, or minus the number of a refusal; `sent` is how many are sent.
@@ -131,17 +145,18 @@ pub fn send_queue(
 
 /// Reads openly: the energy, or minus the number of a refusal.
 #[inline(always)]
-pub fn read_open(kind: u8, grade: u8, frame: &[i32], message: &mut [u8]) -> i64 {
+pub fn read_open(kind: u8, grade: u8, free: u8, frame: &[i32], message: &mut [u8]) -> i64 {
+    let (frame, length, message, bytes) = (frame.as_ptr(), frame.len(), message.as_mut_ptr(), message.len());
     // SAFETY: both slices are lent for the call, the message alone; the lengths are theirs.
-    unsafe { archive::coder_read_open(kind, grade, frame.as_ptr(), frame.len(), message.as_mut_ptr(), message.len()) }
+    unsafe { archive::coder_read_open(kind, grade, free, frame, length, message, bytes) }
 }
 
 /// Reads strictly under a number.
 #[inline(always)]
-pub fn read_strict(kind: u8, grade: u8, number: u32, frame: &[i32], message: &mut [u8]) -> i64 {
+pub fn read_strict(kind: u8, grade: u8, number: u32, free: u8, frame: &[i32], message: &mut [u8]) -> i64 {
     let (frame, length, message, bytes) = (frame.as_ptr(), frame.len(), message.as_mut_ptr(), message.len());
     // SAFETY: as in `read_open`.
-    unsafe { archive::coder_read_strict(kind, grade, number, frame, length, message, bytes) }
+    unsafe { archive::coder_read_strict(kind, grade, number, free, frame, length, message, bytes) }
 }
 
 /// Reads samples: 0, or minus the number; the squared distance goes to `distance`.

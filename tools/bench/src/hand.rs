@@ -46,6 +46,12 @@
 //! The class of −x is that of x with every sign changed, since the points of the lattice come in pairs ±. The
 //! energies are the same, and the reading order is turned round: the last of the least members of x's class
 //! is the first of those of −x's, with every sign changed.
+//!
+//! # Free bits
+//!
+//! The last bits of a message are those of the last block: fillings differ in that block alone, and a filling of least energy is one
+//! whose last block is least. What a filling adds to the block's leader is the same for every message, so any member of the class
+//! of one filling gives a member of each: the block that is sent for one, or that is read, and what the other filling has more.
 
 #![forbid(unsafe_code)]
 
@@ -69,6 +75,7 @@ pub mod refusal {
     pub const CHANGEOVER: u8 = 14;
     pub const UNFIT_SAMPLE: u8 = 15;
     pub const TOO_FAR: u8 = 16;
+    pub const FREE_COUNT: u8 = 17;
 }
 
 /// What is asked of a block, each compiled by itself: nothing, as in the open reading; to be the first of the least members
@@ -86,6 +93,7 @@ fn odd(number: u32) -> bool {
 
 const FURTHEST: i32 = 1_048_576;
 const FULL: u32 = 1_000_000;
+const MOST_FREE: u8 = 4;
 
 /// The masks of N positions, by number of set bits, then by value.
 const fn order<const N: usize>() -> [u32; N] {
@@ -238,6 +246,8 @@ impl<const KIND: usize, const B: usize> Format<KIND, B> {
     /// Message bits of the levels in whole bytes, and those left over, which begin the next byte.
     const WHOLE: usize = Self::LEVELS / 8;
     const OVER: usize = Self::LEVELS % 8;
+    /// Message bits in the last byte.
+    const LAST: usize = if Self::OVER == 0 { 8 } else { Self::OVER };
     /// The scale is 2^K.
     const K: u32 = (Self::A + B) as u32;
 
@@ -302,6 +312,15 @@ impl<const KIND: usize, const B: usize> Format<KIND, B> {
         bits | ((odd & (2 * h)) as u32) << Self::place(7)
     }
 
+    /// What a filling adds to the leader of the last block, where so many bits are free: four bits lie in the last three numbers.
+    #[inline(always)]
+    fn added(free: u8, filling: u32) -> [i32; 8] {
+        let bits = filling << (8 * B - free as usize);
+        let [six, seven, eight] = [(5, B), (6, B), (7, B + 1)]
+            .map(|(i, width)| ((bits >> Self::place(i)) as i32 & ((1 << width) - 1)) << Self::A);
+        [0, 0, 0, 0, 0, six, seven, eight]
+    }
+
     /// The tests of sending, with so many coordinates lent.
     #[inline(always)]
     fn test(message: &[u8], length: usize) -> Result<(), u8> {
@@ -312,6 +331,19 @@ impl<const KIND: usize, const B: usize> Format<KIND, B> {
             return Err(refusal::FRAME_LENGTH);
         }
         if Self::OVER != 0 && message[Self::BYTES - 1] >> Self::OVER != 0 {
+            return Err(refusal::SPARE_BITS);
+        }
+        Ok(())
+    }
+
+    /// The same with free bits, which lie in the last byte too.
+    #[inline(always)]
+    fn test_free(free: u8, message: &[u8], length: usize) -> Result<(), u8> {
+        if free > MOST_FREE {
+            return Err(refusal::FREE_COUNT);
+        }
+        Self::test(message, length)?;
+        if message[Self::BYTES - 1] >> (Self::LAST - free as usize) != 0 {
             return Err(refusal::SPARE_BITS);
         }
         Ok(())
@@ -338,11 +370,38 @@ impl<const KIND: usize, const B: usize> Format<KIND, B> {
         energy as u64
     }
 
+    /// Puts in place of the last block, which is that of filling 0, the least of all fillings; gives by how much the energy is less.
+    #[inline(always)]
+    fn quiet<const RULE: u8>(free: u8, frame: &mut [i32]) -> u64 {
+        let last = &mut frame.as_chunks_mut::<8>().0[Self::BLOCKS - 1];
+        let (first, loud) = (*last, square(last));
+        let mut least = loud;
+        for filling in 1..1 << free {
+            let added = Self::added(free, filling);
+            let block = shaped::<RULE>(Self::K, &from_fn(|i| first[i] + added[i]));
+            let energy = square(&block);
+            if energy < least {
+                (*last, least) = (block, energy);
+            }
+        }
+        (loud - least) as u64
+    }
+
     fn send(number: u32, message: &[u8], frame: &mut [i32]) -> Result<u64, u8> {
         Self::test(message, frame.len())?;
         Ok(match odd(number) {
             false => Self::fill::<{ rule::FIRST }>(message, frame, |_| ()),
             true => Self::fill::<{ rule::LAST }>(message, frame, |_| ()),
+        })
+    }
+
+    /// With free bits: as without, and then the last block for the other fillings.
+    fn send_free(number: u32, free: u8, message: &[u8], frame: &mut [i32]) -> Result<u64, u8> {
+        Self::test_free(free, message, frame.len())?;
+        let energy = send(KIND as u8, B as u8, number, message, frame)?;
+        Ok(match odd(number) {
+            false => energy - Self::quiet::<{ rule::FIRST }>(free, frame),
+            true => energy - Self::quiet::<{ rule::LAST }>(free, frame),
         })
     }
 
@@ -358,6 +417,19 @@ impl<const KIND: usize, const B: usize> Format<KIND, B> {
             false => Self::fill::<{ rule::FIRST }>(message, frame, each),
             true => Self::fill::<{ rule::LAST }>(message, frame, each),
         };
+        account.count += 1;
+        account.sum += energy as f64 / Self::N as f64;
+        account.largest = account.largest.max(largest as u64);
+        Ok(energy)
+    }
+
+    fn send_counted_free(free: u8, message: &[u8], frame: &mut [i32], account: &mut Account) -> Result<u64, u8> {
+        Self::test_free(free, message, frame.len())?;
+        if account.count >= FULL {
+            return Err(refusal::ACCOUNT_FULL);
+        }
+        let energy = Self::send_free(account.number(), free, message, frame)?;
+        let largest = frame.as_chunks::<8>().0.iter().map(square).max().unwrap_or(0);
         account.count += 1;
         account.sum += energy as f64 / Self::N as f64;
         account.largest = account.largest.max(largest as u64);
@@ -381,7 +453,31 @@ impl<const KIND: usize, const B: usize> Format<KIND, B> {
         Ok((count, 0))
     }
 
+    /// Whether a filling's last block is less than this one, which is that of the filling whose message bits it reduces to.
+    #[inline(never)]
+    fn louder<const RULE: u8>(free: u8, block: &[i32; 8], bits: u32) -> bool {
+        let (own, energy) = (Self::added(free, bits >> (8 * B - free as usize)), square(block));
+        (0..1 << free).any(|filling| {
+            let added = Self::added(free, filling);
+            square(&shaped::<RULE>(Self::K, &from_fn(|i| block[i] - own[i] + added[i]))) < energy
+        })
+    }
+
+    #[inline(always)]
     fn read<const RULE: u8>(frame: &[i32], message: &mut [u8]) -> Result<u64, u8> {
+        Self::read_with::<RULE, false>(0, frame, message)
+    }
+
+    fn read_free<const RULE: u8>(free: u8, frame: &[i32], message: &mut [u8]) -> Result<u64, u8> {
+        if free > MOST_FREE {
+            return Err(refusal::FREE_COUNT);
+        }
+        Self::read_with::<RULE, true>(free, frame, message)
+    }
+
+    /// Compiled for free bits, and for none.
+    #[inline(always)]
+    fn read_with<const RULE: u8, const FREE: bool>(free: u8, frame: &[i32], message: &mut [u8]) -> Result<u64, u8> {
         if frame.len() != Self::N {
             return Err(refusal::FRAME_LENGTH);
         }
@@ -425,6 +521,13 @@ impl<const KIND: usize, const B: usize> Format<KIND, B> {
         if unlike {
             return Err(refusal::UNSHAPED);
         }
+        if FREE {
+            let (last, bits) = (&frame.as_chunks::<8>().0[Self::BLOCKS - 1], &mut packed[Self::BLOCKS - 1]);
+            if RULE != rule::NONE && Self::louder::<RULE>(free, last, *bits) {
+                return Err(refusal::UNSHAPED);
+            }
+            *bits &= u32::MAX >> (32 - 8 * B) >> free;
+        }
         // Bits of the levels, then of each block; those that fill no byte go on to the next.
         let bits = level_0 | level_1 << Self::LEVEL_0;
         let bits = bits as u128 | (level_2 as u128) << (Self::LEVEL_0 + Self::LEVEL_1);
@@ -461,6 +564,12 @@ fn store(bits: u128, bytes: &mut [u8]) {
 fn fold(x: [i32; 8], f: impl Fn(i32, i32) -> i32) -> i32 {
     let x: [i32; 4] = from_fn(|i| f(x[i], x[i + 4]));
     f(f(x[0], x[2]), f(x[1], x[3]))
+}
+
+/// The energy of a block that is sent.
+#[inline(always)]
+fn square(block: &[i32; 8]) -> i32 {
+    block.iter().map(|z| z * z).sum()
 }
 
 /// The block that is sent by a rule.
@@ -556,10 +665,29 @@ pub fn send(kind: u8, grade: u8, number: u32, message: &[u8], frame: &mut [i32])
     by_format!(kind, grade, send(number, message, frame))
 }
 
+/// The same with the last bits of the message free. This and the like are functions by themselves: so those without free bits are
+/// compiled as if there were none.
+#[inline(never)]
+pub fn send_free(kind: u8, grade: u8, number: u32, free: u8, message: &[u8], frame: &mut [i32]) -> Result<u64, u8> {
+    match free {
+        0 => send(kind, grade, number, message, frame),
+        _ => by_format!(kind, grade, send_free(number, free, message, frame)),
+    }
+}
+
 /// Reads openly: fills the message and gives the frame's energy, or refuses and leaves the message.
 #[inline(never)]
 pub fn read_open(kind: u8, grade: u8, frame: &[i32], message: &mut [u8]) -> Result<u64, u8> {
     by_format!(kind, grade, read::<NONE>(frame, message))
+}
+
+/// The same with the last bits of the message free, which are filled as 0.
+#[inline(never)]
+pub fn read_open_free(kind: u8, grade: u8, free: u8, frame: &[i32], message: &mut [u8]) -> Result<u64, u8> {
+    match free {
+        0 => read_open(kind, grade, frame, message),
+        _ => by_format!(kind, grade, read_free::<NONE>(free, frame, message)),
+    }
 }
 
 /// Reads strictly, as `read_open` but only the frame that is sent under the number.
@@ -568,6 +696,23 @@ pub fn read_strict(kind: u8, grade: u8, number: u32, frame: &[i32], message: &mu
     match odd(number) {
         false => by_format!(kind, grade, read::<FIRST>(frame, message)),
         true => by_format!(kind, grade, read::<LAST>(frame, message)),
+    }
+}
+
+/// The same with the last bits of the message free: only the frames of the least fillings.
+#[inline(never)]
+pub fn read_strict_free(
+    kind: u8,
+    grade: u8,
+    number: u32,
+    free: u8,
+    frame: &[i32],
+    message: &mut [u8],
+) -> Result<u64, u8> {
+    match (free, odd(number)) {
+        (0, _) => read_strict(kind, grade, number, frame, message),
+        (_, false) => by_format!(kind, grade, read_free::<FIRST>(free, frame, message)),
+        (_, true) => by_format!(kind, grade, read_free::<LAST>(free, frame, message)),
     }
 }
 
@@ -626,6 +771,22 @@ pub fn open(changeover: u32) -> (Account, u8) {
 #[inline(never)]
 pub fn send_counted(kind: u8, grade: u8, message: &[u8], frame: &mut [i32], account: &mut Account) -> Result<u64, u8> {
     by_format!(kind, grade, send_counted(message, frame, account))
+}
+
+/// The same with the last bits of the message free.
+#[inline(never)]
+pub fn send_counted_free(
+    kind: u8,
+    grade: u8,
+    free: u8,
+    message: &[u8],
+    frame: &mut [i32],
+    account: &mut Account,
+) -> Result<u64, u8> {
+    match free {
+        0 => send_counted(kind, grade, message, frame, account),
+        _ => by_format!(kind, grade, send_counted_free(free, message, frame, account)),
+    }
 }
 
 /// Sends messages that stand end to end with an account, each in its turn, up to the first refused. Gives how many are sent, and

@@ -1,8 +1,9 @@
 //! Measures the library beside the hand-tuned coder, and compares their answers.
 //!
-//!     bench                                   the tables of times, per frame, under even and odd numbers, per queue,
-//!                                             per block and of noisy samples, and as `compare` 200000 frames from a
-//!                                             seed of the moment
+//!     bench                                   the tables of times, per frame, under even and odd numbers, with free
+//!                                             bits, per queue, per block and of noisy samples, and as `compare`
+//!                                             200000 frames from a seed of the moment
+//!     bench free                              the table of free bits alone
 //!     bench near                              the tables of noisy samples alone
 //!     bench compare FRAMES [SEED]             compares all answers on fresh messages, frames, samples, queues and blocks
 //!     bench compare-all FRAMES [SEED] [KIND]  the same with the second coder as a third, without the
@@ -73,12 +74,16 @@ fn plan(words: &[&str]) -> Option<Plan> {
 fn main() -> ExitCode {
     let arguments: Vec<String> = std::env::args().skip(1).collect();
     let words: Vec<&str> = arguments.iter().map(String::as_str).collect();
+    if words == ["free"] {
+        table::print_free();
+        return ExitCode::SUCCESS;
+    }
     if words == ["near"] {
         table::near::print();
         return ExitCode::SUCCESS;
     }
     let Some(plan) = plan(&words) else {
-        eprintln!("usage: bench | bench near | bench compare FRAMES [SEED] | bench compare-all FRAMES [SEED] [KIND]");
+        eprintln!("usage: bench | bench free | bench near | bench compare FRAMES [SEED] | bench compare-all FRAMES [SEED] [KIND]");
         return ExitCode::FAILURE;
     };
     if words.is_empty() {

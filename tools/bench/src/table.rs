@@ -73,13 +73,13 @@ macro_rules! pass {
 
 pub mod near;
 
-/// The functions that take a number, under number 0.
+/// The functions without free bits, and those that take a number under number 0.
 mod zero {
     use bench::{exported, hand};
 
     #[inline(always)]
     pub fn send(kind: u8, grade: u8, message: &[u8], frame: &mut [i32]) -> i64 {
-        exported::send(kind, grade, 0, message, frame)
+        exported::send(kind, grade, 0, 0, message, frame)
     }
 
     #[inline(always)]
@@ -89,7 +89,7 @@ mod zero {
 
     #[inline(always)]
     pub fn read_strict(kind: u8, grade: u8, frame: &[i32], message: &mut [u8]) -> i64 {
-        exported::read_strict(kind, grade, 0, frame, message)
+        exported::read_strict(kind, grade, 0, 0, frame, message)
     }
 
     #[inline(always)]
@@ -100,6 +100,22 @@ mod zero {
     #[inline(always)]
     pub fn read_strict_by_hand(kind: u8, grade: u8, frame: &[i32], message: &mut [u8]) -> Result<u64, u8> {
         hand::read_strict(kind, grade, 0, frame, message)
+    }
+
+    #[inline(always)]
+    pub fn read_open(kind: u8, grade: u8, frame: &[i32], message: &mut [u8]) -> i64 {
+        exported::read_open(kind, grade, 0, frame, message)
+    }
+
+    #[inline(always)]
+    pub fn send_counted(
+        kind: u8,
+        grade: u8,
+        message: &[u8],
+        frame: &mut [i32],
+        account: &mut exported::Figures,
+    ) -> i64 {
+        exported::send_counted(kind, grade, 0, message, frame, account)
     }
 }
 
@@ -112,11 +128,11 @@ fn begun_by_hand(changeover: u32) -> hand::Account {
     hand::open(changeover).0
 }
 
-/// The frames of messages under a number.
-fn under(number: u32, kind: u8, grade: u8, messages: &[Vec<u8>]) -> Vec<Vec<i32>> {
+/// The frames of messages under a number, with so many bits free.
+fn under(number: u32, free: u8, kind: u8, grade: u8, messages: &[Vec<u8>]) -> Vec<Vec<i32>> {
     let frame = |message: &Vec<u8>| {
         let mut frame = vec![0; lengths(kind, grade).0];
-        hand::send(kind, grade, number, message, &mut frame).expect("the message is good");
+        hand::send_free(kind, grade, number, free, message, &mut frame).expect("the message is good");
         frame
     };
     messages.iter().map(frame).collect()
@@ -125,7 +141,7 @@ fn under(number: u32, kind: u8, grade: u8, messages: &[Vec<u8>]) -> Vec<Vec<i32>
 /// Frames of random messages under number 0, and their messages.
 fn sent(kind: u8, grade: u8, random: &mut Random) -> (Vec<Vec<u8>>, Vec<Vec<i32>>) {
     let messages: Vec<Vec<u8>> = (0..FRAMES).map(|_| dense(kind, grade, random)).collect();
-    let frames = under(0, kind, grade, &messages);
+    let frames = under(0, 0, kind, grade, &messages);
     (messages, frames)
 }
 
@@ -143,12 +159,12 @@ fn frames(random: &mut Random) {
             ]);
             line(&format!("{kind} | {grade} | send"), library, hand);
             let [library, hand] = measure([
-                &mut pass!(exported::send_counted, kind, grade, &messages, vec![0; length], a = begun(FULL)),
+                &mut pass!(zero::send_counted, kind, grade, &messages, vec![0; length], a = begun(FULL)),
                 &mut pass!(hand::send_counted, kind, grade, &messages, vec![0; length], a = begun_by_hand(FULL)),
             ]);
             line(&format!("{kind} | {grade} | send with an account"), library, hand);
             let [library, hand] = measure([
-                &mut pass!(exported::read_open, kind, grade, &frames, vec![0; bytes]),
+                &mut pass!(zero::read_open, kind, grade, &frames, vec![0; bytes]),
                 &mut pass!(hand::read_open, kind, grade, &frames, vec![0; bytes]),
             ]);
             line(&format!("{kind} | {grade} | read openly"), library, hand);
@@ -185,7 +201,7 @@ fn numbers(random: &mut Random) {
         for grade in 1..=4 {
             let (length, bytes) = lengths(kind, grade);
             let (messages, even) = sent(kind, grade, random);
-            let frames = [even, under(1, kind, grade, &messages)];
+            let frames = [even, under(1, 0, kind, grade, &messages)];
             let (frame, message) = (RefCell::new(Room([0; 64])), RefCell::new(Room([0; 64])));
             // Kind, grade, and number or changeover, which the compiler is not to know.
             let hidden = |x: u32| black_box((kind, grade, x));
@@ -196,7 +212,7 @@ fn numbers(random: &mut Random) {
 
             let library = |number: u32| {
                 let (k, b, number) = hidden(number);
-                each(&messages, &frame, length, |message, frame| exported::send(k, b, number, message, frame));
+                each(&messages, &frame, length, |message, frame| exported::send(k, b, number, 0, message, frame));
             };
             let hand = |number: u32| {
                 let (k, b, number) = hidden(number);
@@ -207,7 +223,7 @@ fn numbers(random: &mut Random) {
             let library = |changeover: u32| {
                 let (k, b, changeover) = hidden(changeover);
                 let mut a = begun(changeover);
-                each(&messages, &frame, length, |message, frame| exported::send_counted(k, b, message, frame, &mut a));
+                each(&messages, &frame, length, |message, frame| zero::send_counted(k, b, message, frame, &mut a));
             };
             let hand = |changeover: u32| {
                 let (k, b, changeover) = hidden(changeover);
@@ -220,7 +236,7 @@ fn numbers(random: &mut Random) {
             let library = |number: u32| {
                 let (k, b, number) = hidden(number);
                 let frames = &frames[number as usize];
-                each(frames, &message, bytes, |frame, message| exported::read_strict(k, b, number, frame, message));
+                each(frames, &message, bytes, |frame, message| exported::read_strict(k, b, number, 0, frame, message));
             };
             let hand = |number: u32| {
                 let (k, b, number) = hidden(number);
@@ -228,6 +244,53 @@ fn numbers(random: &mut Random) {
                 each(frames, &message, bytes, |frame, message| hand::read_strict(k, b, number, frame, message));
             };
             line("read strictly", measure([&mut || library(0), &mut || library(1), &mut || hand(0), &mut || hand(1)]));
+        }
+    }
+}
+
+/// Sending and reading with no bit free and with one to four, under number 0. The same messages have their last four bits 0 throughout.
+fn free_bits(random: &mut Random) {
+    println!("| kind | grade | function | free bits | library, ns a frame | by hand, ns a frame | ratio |");
+    println!("|---|---|---|---|---|---|---|");
+    for kind in 3..=6 {
+        for grade in GRADES {
+            let (length, bytes) = lengths(kind, grade);
+            let mut messages: Vec<Vec<u8>> = (0..FRAMES).map(|_| dense(kind, grade, random)).collect();
+            let fixed = if kind < 5 { 0x00 } else { 0x0F };
+            messages.iter_mut().for_each(|message| message[bytes - 1] &= fixed);
+            let (frame, message) = (RefCell::new(Room([0; 64])), RefCell::new(Room([0; 64])));
+            let line = |function: &str, free: u8, [library, hand]: [f64; 2]| {
+                line(&format!("{kind} | {grade} | {function} | {free}"), library, hand);
+            };
+            for free in 0..=4 {
+                let hidden = || black_box((kind, grade, free));
+                let times = measure([
+                    &mut || {
+                        let (k, b, f) = hidden();
+                        each(&messages, &frame, length, |message, frame| exported::send(k, b, 0, f, message, frame));
+                    },
+                    &mut || {
+                        let (k, b, f) = hidden();
+                        each(&messages, &frame, length, |message, frame| hand::send_free(k, b, 0, f, message, frame));
+                    },
+                ]);
+                line("send", free, times);
+            }
+            for free in 0..=4 {
+                let hidden = || black_box((kind, grade, free));
+                let frames = under(0, free, kind, grade, &messages);
+                let times = measure([
+                    &mut || {
+                        let (k, b, f) = hidden();
+                        each(&frames, &message, bytes, |frame, bytes| exported::read_strict(k, b, 0, f, frame, bytes));
+                    },
+                    &mut || {
+                        let (k, b, f) = hidden();
+                        each(&frames, &message, bytes, |frame, bytes| hand::read_strict_free(k, b, 0, f, frame, bytes));
+                    },
+                ]);
+                line("read strictly", free, times);
+            }
         }
     }
 }
@@ -268,7 +331,7 @@ fn queues(random: &mut Random) {
                     let (kind, grade, mut account) = (black_box(kind), black_box(grade), begun(0));
                     let mut frames = buffer.borrow_mut();
                     for (message, frame) in messages.chunks_exact(bytes).zip(frames.chunks_exact_mut(length)) {
-                        exported::send_counted(kind, grade, message, frame, &mut account);
+                        zero::send_counted(kind, grade, message, frame, &mut account);
                     }
                     black_box(account);
                 },
@@ -314,11 +377,17 @@ fn blocks(random: &mut Random) {
     }
 }
 
+pub fn print_free() {
+    free_bits(&mut Random(1));
+}
+
 pub fn print() {
     let mut random = Random(1);
     frames(&mut random);
     println!();
     numbers(&mut random);
+    println!();
+    free_bits(&mut random);
     println!();
     ways(&mut random);
     println!();

@@ -1,5 +1,5 @@
 //! Sends a message and prints its energy and its frame, then reads the frame back both ways, and at kinds 3 to 5
-//! from noisy samples too. By itself it sends 00 08 at kind 3, grade 1, under number 0; a kind, a grade, a number
+//! from noisy samples too; and says what energy it has with its last bits free, as many as are 0. By itself it sends 00 08 at kind 3, grade 1, under number 0; a kind, a grade, a number
 //! and bytes in hexadecimal can be given:
 //!
 //!     cargo run --offline --example send -- 4 1 7 20 00 00 00 00
@@ -7,7 +7,10 @@
 use std::error::Error;
 use std::process::ExitCode;
 
-use frame_coder::{read_near_to_vec, read_open_to_vec, read_strict_to_vec, send_to_vec, Grade, Kind};
+use frame_coder::{
+    read_near_to_vec, read_open_to_vec, read_strict_free_to_vec, read_strict_to_vec, send_free_to_vec, send_to_vec,
+    Grade, Kind, Refusal, MAX_FREE,
+};
 
 fn hexadecimal(message: &[u8]) -> String {
     message.iter().map(|byte| format!(" {byte:02x}")).collect()
@@ -35,6 +38,18 @@ fn run(words: &[&str]) -> Result<(), Box<dyn Error>> {
             frame.iter().zip([0.25, -0.25].iter().cycle()).map(|(&x, off)| x as f32 + off).collect();
         let (nearly, distance) = read_near_to_vec(kind, grade, &samples)?;
         println!("read from noisy samples:{}; squared distance {distance}, below {limit}", hexadecimal(&nearly));
+    }
+
+    // Each of the last bits that is 0 can be left to the sender.
+    for free in 1..=MAX_FREE {
+        match send_free_to_vec(kind, grade, number, free, &message) {
+            Ok((frame, energy)) => {
+                let (fixed, _) = read_strict_free_to_vec(kind, grade, number, free, &frame)?;
+                println!("with {free} free bits: energy {energy}, read strictly:{}", hexadecimal(&fixed));
+            }
+            Err(Refusal::SpareBits) => break,
+            Err(refusal) => return Err(refusal.into()),
+        }
     }
     Ok(())
 }

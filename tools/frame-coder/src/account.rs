@@ -154,6 +154,51 @@ impl Account {
         Ok((frame, energy))
     }
 
+    /// Sends as [`crate::send_free`] does, with the last bits of the message free, under [`Account::number`]; the account grows by the
+    /// frame as by any other, and alike whichever filling is sent.
+    ///
+    /// ```
+    /// use frame_coder::{Account, Grade, Kind, Refusal};
+    ///
+    /// let mut account = Account::open(0)?;
+    /// let mut frame = [0; 8];
+    /// assert_eq!(account.send(Kind::Three, Grade::One, &[0x12, 0x00], &mut frame), Ok(12));
+    /// assert_eq!(account.send_free(Kind::Three, Grade::One, 2, &[0x12, 0x00], &mut frame), Ok(4));
+    /// assert_eq!(account, Account::from_parts(2, 1.5 + 0.5, 12, 0));
+    /// # Ok::<(), Refusal>(())
+    /// ```
+    ///
+    /// # Errors
+    ///
+    /// As [`crate::send_free`], and last [`Refusal::AccountFull`].
+    pub fn send_free(
+        &mut self,
+        kind: Kind,
+        grade: Grade,
+        free: u8,
+        message: &[u8],
+        frame: &mut [i32],
+    ) -> Result<u64, Refusal> {
+        by_number::send_counted_free(kind.number(), grade.number(), free, message, frame, self)
+    }
+
+    /// The same with a frame of its own.
+    ///
+    /// # Errors
+    ///
+    /// As [`Account::send_free`], but for the frame's length.
+    pub fn send_free_to_vec(
+        &mut self,
+        kind: Kind,
+        grade: Grade,
+        free: u8,
+        message: &[u8],
+    ) -> Result<(Vec<i32>, u64), Refusal> {
+        let mut frame = vec![0; kind.frame_length()];
+        let energy = self.send_free(kind, grade, free, message, &mut frame)?;
+        Ok((frame, energy))
+    }
+
     /// Sends a queue: messages of one kind and grade that stand end to end, whose frames go end to end into
     /// `frames`. It gives the number of messages, which are then all sent.
     ///
@@ -211,7 +256,7 @@ impl Account {
     /// let frames: Vec<&[i32]> = frames.chunks_exact(kind.frame_length()).collect();
     /// assert_eq!(frames, [[0, -3, 0, 1, 0, 1, 0, 1], [1; 8]]);
     /// let stopped = queued.unwrap_err();
-    /// assert_eq!(stopped.to_string(), "2 sent, then refused 5: a spare bit of the message is set");
+    /// assert_eq!(stopped.to_string(), "2 sent, then refused 5: a spare or free bit of the message is set");
     ///
     /// // Each is judged by the number of its count.
     /// for (count, frame) in (0..).zip(frames) {

@@ -6,6 +6,7 @@ extern "C" {
         kind: u8,
         grade: u8,
         number: u32,
+        free: u8,
         message: *const u8,
         message_len: usize,
         frame: *mut i32,
@@ -14,6 +15,7 @@ extern "C" {
     pub fn coder_read_open(
         kind: u8,
         grade: u8,
+        free: u8,
         frame: *const i32,
         frame_len: usize,
         message: *mut u8,
@@ -23,6 +25,7 @@ extern "C" {
         kind: u8,
         grade: u8,
         number: u32,
+        free: u8,
         frame: *const i32,
         frame_len: usize,
         message: *mut u8,
@@ -41,6 +44,7 @@ extern "C" {
     pub fn coder_send_counted(
         kind: u8,
         grade: u8,
+        free: u8,
         message: *const u8,
         message_len: usize,
         frame: *mut i32,

@@ -32,9 +32,26 @@ pub(crate) fn answer(answer: i64) -> Result<u64, Refusal> {
 ///
 /// In this order: kind, grade, the message's length, the frame's length, spare bits.
 pub fn send(kind: u8, grade: u8, number: u32, message: &[u8], frame: &mut [i32]) -> Result<u64, Refusal> {
+    send_free(kind, grade, number, 0, message, frame)
+}
+
+/// As [`crate::send_free`].
+///
+/// # Errors
+///
+/// In this order: kind, grade, the free count, the message's length, the frame's length, spare and free bits.
+pub fn send_free(
+    kind: u8,
+    grade: u8,
+    number: u32,
+    free: u8,
+    message: &[u8],
+    frame: &mut [i32],
+) -> Result<u64, Refusal> {
+    let (bytes, coordinates) = (message.len(), frame.len());
     // SAFETY: both slices are lent for the call, the frame alone; the lengths are theirs.
     answer(unsafe {
-        archive::coder_send(kind, grade, number, message.as_ptr(), message.len(), frame.as_mut_ptr(), frame.len())
+        archive::coder_send(kind, grade, number, free, message.as_ptr(), bytes, frame.as_mut_ptr(), coordinates)
     })
 }
 
@@ -45,9 +62,19 @@ pub fn send(kind: u8, grade: u8, number: u32, message: &[u8], frame: &mut [i32])
 /// In this order: kind, grade, the frame's length, the message's length, a coordinate over range, a
 /// broken level, the lowest first.
 pub fn read_open(kind: u8, grade: u8, frame: &[i32], message: &mut [u8]) -> Result<u64, Refusal> {
+    read_open_free(kind, grade, 0, frame, message)
+}
+
+/// As [`crate::read_open_free`].
+///
+/// # Errors
+///
+/// As [`read_open`], and the free count after the grade.
+pub fn read_open_free(kind: u8, grade: u8, free: u8, frame: &[i32], message: &mut [u8]) -> Result<u64, Refusal> {
+    let (coordinates, bytes) = (frame.len(), message.len());
     // SAFETY: both slices are lent for the call, the message alone; the lengths are theirs.
     answer(unsafe {
-        archive::coder_read_open(kind, grade, frame.as_ptr(), frame.len(), message.as_mut_ptr(), message.len())
+        archive::coder_read_open(kind, grade, free, frame.as_ptr(), coordinates, message.as_mut_ptr(), bytes)
     })
 }
 
@@ -57,10 +84,26 @@ pub fn read_open(kind: u8, grade: u8, frame: &[i32], message: &mut [u8]) -> Resu
 ///
 /// As [`read_open`], and last a frame that is not the one that is sent under the number.
 pub fn read_strict(kind: u8, grade: u8, number: u32, frame: &[i32], message: &mut [u8]) -> Result<u64, Refusal> {
+    read_strict_free(kind, grade, number, 0, frame, message)
+}
+
+/// As [`crate::read_strict_free`].
+///
+/// # Errors
+///
+/// As [`read_open_free`], and last a frame that is not one of those that may be sent under the number.
+pub fn read_strict_free(
+    kind: u8,
+    grade: u8,
+    number: u32,
+    free: u8,
+    frame: &[i32],
+    message: &mut [u8],
+) -> Result<u64, Refusal> {
     let (coordinates, bytes) = (frame.len(), message.len());
     // SAFETY: both slices are lent for the call, the message alone; the lengths are theirs.
     answer(unsafe {
-        archive::coder_read_strict(kind, grade, number, frame.as_ptr(), coordinates, message.as_mut_ptr(), bytes)
+        archive::coder_read_strict(kind, grade, number, free, frame.as_ptr(), coordinates, message.as_mut_ptr(), bytes)
     })
 }
 
@@ -92,12 +135,29 @@ pub fn send_counted(
     frame: &mut [i32],
     account: &mut Account,
 ) -> Result<u64, Refusal> {
+    send_counted_free(kind, grade, 0, message, frame, account)
+}
+
+/// As [`Account::send_free`].
+///
+/// # Errors
+///
+/// As [`send_free`], and last an account that is full.
+pub fn send_counted_free(
+    kind: u8,
+    grade: u8,
+    free: u8,
+    message: &[u8],
+    frame: &mut [i32],
+    account: &mut Account,
+) -> Result<u64, Refusal> {
     // SAFETY: all is lent for the call, the frame and the account's three figures each alone; the lengths
     // are the slices'.
     answer(unsafe {
         archive::coder_send_counted(
             kind,
             grade,
+            free,
             message.as_ptr(),
             message.len(),
             frame.as_mut_ptr(),

@@ -32,6 +32,9 @@
 //! first in reading order, an odd one as the last: at the first coordinate where two differ, the smaller comes
 //! first. With an account the count before the send is the number, from the account's changeover on.
 //!
+//! The last bits of a message, up to four, can be left to the sender, who makes the frame quieter by them: [`send_free`] sends a
+//! filling whose frame has the least energy, and [`read_open_free`] and [`read_strict_free`] give the other bits.
+//!
 //! What a receiver has of a frame is noisy samples. Of kinds 3 to 5 [`read_near`] finds the frame of the coding set
 //! that is near to them, of which there is never a second one, and gives its message and how far it is.
 //!
@@ -55,6 +58,9 @@ pub use refusal::{Refusal, Stopped, UnknownNumber};
 
 /// The version, which `frame_coder.h` has too.
 pub const VERSION: &str = env!("CARGO_PKG_VERSION");
+
+/// The most bits of a message that may be free.
+pub const MAX_FREE: u8 = 4;
 
 /// A reading takes coordinates from minus this to this.
 pub const MAX_COORDINATE: i32 = 1_048_576;
@@ -81,6 +87,47 @@ pub const MAX_COORDINATE: i32 = 1_048_576;
 /// In this order: the message's length, the frame's length, spare bits.
 pub fn send(kind: Kind, grade: Grade, number: u32, message: &[u8], frame: &mut [i32]) -> Result<u64, Refusal> {
     by_number::send(kind.number(), grade.number(), number, message, frame)
+}
+
+/// Sends under a number with the last bits of the message free, `free` of them, from 0 to [`MAX_FREE`]: they are left to the sender,
+/// and must be given as 0.
+///
+/// Each way to set them is a filling of the message. The frame of some filling is sent whose frame has the least energy of all, never
+/// more than without free bits; which of several it is, where several have that energy, is open. The energy is the same for each.
+///
+/// ```
+/// use frame_coder::{read_open_free_to_vec, read_strict_free_to_vec, send, send_free, Grade, Kind, Refusal};
+///
+/// let (kind, grade, message) = (Kind::Three, Grade::One, [0x12, 0x00]);
+/// let mut frame = [0; 8];
+/// assert_eq!(send(kind, grade, 0, &message, &mut frame), Ok(12));
+/// assert_eq!(send_free(kind, grade, 0, 2, &message, &mut frame), Ok(4));
+///
+/// // Two of the four fillings have the least energy: either frame may be sent, and both are read as the message.
+/// let (one, other) = ([0, -1, 0, 1, 0, 1, 0, -1], [0, -1, 0, 1, 0, 1, 0, 1]);
+/// assert!(frame == one || frame == other);
+/// for frame in [one, other] {
+///     assert_eq!(read_open_free_to_vec(kind, grade, 2, &frame), Ok((message.to_vec(), 4)));
+///     assert_eq!(read_strict_free_to_vec(kind, grade, 0, 2, &frame), Ok((message.to_vec(), 4)));
+/// }
+///
+/// // A free bit that is 1, and too many free bits.
+/// assert_eq!(send_free(kind, grade, 0, 2, &[0x12, 0x04], &mut frame), Err(Refusal::SpareBits));
+/// assert_eq!(send_free(kind, grade, 0, 5, &message, &mut frame), Err(Refusal::FreeCount));
+/// ```
+///
+/// # Errors
+///
+/// In this order: the free count, the message's length, the frame's length, spare and free bits.
+pub fn send_free(
+    kind: Kind,
+    grade: Grade,
+    number: u32,
+    free: u8,
+    message: &[u8],
+    frame: &mut [i32],
+) -> Result<u64, Refusal> {
+    by_number::send_free(kind.number(), grade.number(), number, free, message, frame)
 }
 
 /// Reads any frame of the coding set, under whatever number it was sent: fills its message, and gives the
@@ -122,6 +169,48 @@ pub fn read_open(kind: Kind, grade: Grade, frame: &[i32], message: &mut [u8]) ->
 /// number.
 pub fn read_strict(kind: Kind, grade: Grade, number: u32, frame: &[i32], message: &mut [u8]) -> Result<u64, Refusal> {
     by_number::read_strict(kind.number(), grade.number(), number, frame, message)
+}
+
+/// Reads as [`read_open`] does, with the last bits of the message free: fills them as 0. The frames of all fillings of a message are
+/// read as the message.
+///
+/// # Errors
+///
+/// As [`read_open`], and before that [`Refusal::FreeCount`].
+pub fn read_open_free(kind: Kind, grade: Grade, free: u8, frame: &[i32], message: &mut [u8]) -> Result<u64, Refusal> {
+    by_number::read_open_free(kind.number(), grade.number(), free, frame, message)
+}
+
+/// Reads the frames alone that [`send_free`] may send under the number, those of the fillings of least energy: fills the message, its
+/// free bits as 0, and gives the frame's energy.
+///
+/// ```
+/// use frame_coder::{read_open_free, read_strict_free, send_to_vec, Grade, Kind, Refusal};
+///
+/// let (kind, grade, mut message) = (Kind::Three, Grade::One, [0; 2]);
+/// // The fillings of 12 00 with two bits free: 12 00, 12 04, 12 08 and 12 0C.
+/// for (last, judged) in [(0x00, false), (0x04, true), (0x08, true), (0x0C, false)] {
+///     let (frame, energy) = send_to_vec(kind, grade, 0, &[0x12, last])?;
+///     let answer = read_strict_free(kind, grade, 0, 2, &frame, &mut message);
+///     assert_eq!(answer, if judged { Ok(energy) } else { Err(Refusal::Unshaped) });
+///     assert_eq!(read_open_free(kind, grade, 2, &frame, &mut message), Ok(energy));
+///     assert_eq!(message, [0x12, 0x00]);
+/// }
+/// # Ok::<(), Refusal>(())
+/// ```
+///
+/// # Errors
+///
+/// As [`read_open_free`], and last [`Refusal::Unshaped`] for a frame that is none of a filling of least energy under the number.
+pub fn read_strict_free(
+    kind: Kind,
+    grade: Grade,
+    number: u32,
+    free: u8,
+    frame: &[i32],
+    message: &mut [u8],
+) -> Result<u64, Refusal> {
+    by_number::read_strict_free(kind.number(), grade.number(), number, free, frame, message)
 }
 
 /// Reads noisy samples: fills the message of the frame of the coding set that is near to them, and gives the
@@ -172,6 +261,51 @@ pub fn send_to_vec(kind: Kind, grade: Grade, number: u32, message: &[u8]) -> Res
     let mut frame = vec![0; kind.frame_length()];
     let energy = send(kind, grade, number, message, &mut frame)?;
     Ok((frame, energy))
+}
+
+/// Sends under a number with the last bits free: the frame of a filling of least energy, and its energy.
+///
+/// # Errors
+///
+/// As [`send_free`], but for the frame's length.
+pub fn send_free_to_vec(
+    kind: Kind,
+    grade: Grade,
+    number: u32,
+    free: u8,
+    message: &[u8],
+) -> Result<(Vec<i32>, u64), Refusal> {
+    let mut frame = vec![0; kind.frame_length()];
+    let energy = send_free(kind, grade, number, free, message, &mut frame)?;
+    Ok((frame, energy))
+}
+
+/// Reads any frame of the coding set with the last bits free: its message, and the frame's energy.
+///
+/// # Errors
+///
+/// As [`read_open_free`], but for the message's length.
+pub fn read_open_free_to_vec(kind: Kind, grade: Grade, free: u8, frame: &[i32]) -> Result<(Vec<u8>, u64), Refusal> {
+    let mut message = vec![0; message_length(kind, grade)];
+    let energy = read_open_free(kind, grade, free, frame, &mut message)?;
+    Ok((message, energy))
+}
+
+/// Reads a frame of a filling of least energy under the number: its message, and the frame's energy.
+///
+/// # Errors
+///
+/// As [`read_strict_free`], but for the message's length.
+pub fn read_strict_free_to_vec(
+    kind: Kind,
+    grade: Grade,
+    number: u32,
+    free: u8,
+    frame: &[i32],
+) -> Result<(Vec<u8>, u64), Refusal> {
+    let mut message = vec![0; message_length(kind, grade)];
+    let energy = read_strict_free(kind, grade, number, free, frame, &mut message)?;
+    Ok((message, energy))
 }
 
 /// Reads any frame of the coding set: its message, and the frame's energy.

@@ -10,7 +10,7 @@ use std::fmt::{Display, Formatter};
 /// use frame_coder::Refusal;
 ///
 /// assert_eq!(Refusal::SpareBits.number(), 5);
-/// assert_eq!(Refusal::SpareBits.to_string(), "refused 5: a spare bit of the message is set");
+/// assert_eq!(Refusal::SpareBits.to_string(), "refused 5: a spare or free bit of the message is set");
 /// assert_eq!(Refusal::try_from(5), Ok(Refusal::SpareBits));
 /// assert_eq!(Refusal::try_from(10).unwrap_err().to_string(), "10 is the number of no refusal here");
 /// ```
@@ -28,7 +28,7 @@ pub enum Refusal {
     /// The coordinates, or the samples, differ from [`Kind::frame_length`](crate::Kind::frame_length); the
     /// coordinates of a queue from that times its messages.
     FrameLength = 4,
-    /// Sending: a spare bit of the message is set.
+    /// Sending: a spare bit of the message is set, or a free one.
     SpareBits = 5,
     /// Reading: a coordinate is over [`MAX_COORDINATE`](crate::MAX_COORDINATE) in size.
     OverRange = 6,
@@ -36,7 +36,7 @@ pub enum Refusal {
     BrokenLevel0 = 7,
     /// Reading at kinds 4 to 6: the coordinates' bits of weight 2 are not a codeword.
     BrokenLevel1 = 8,
-    /// Strict reading: the frame is not the one that is sent for its message under the number.
+    /// Strict reading: the frame is not one that may be sent for its message under the number.
     Unshaped = 9,
     /// Sending with an account: it has 1,000,000 frames or more.
     AccountFull = 11,
@@ -49,6 +49,8 @@ pub enum Refusal {
     UnfitSample = 15,
     /// Near reading: no frame of the coding set is nearer than [`Kind::near_limit`](crate::Kind::near_limit).
     TooFar = 16,
+    /// More than [`MAX_FREE`](crate::MAX_FREE) bits are to be free.
+    FreeCount = 17,
 }
 
 impl Refusal {
@@ -68,6 +70,7 @@ impl Refusal {
         Refusal::Changeover,
         Refusal::UnfitSample,
         Refusal::TooFar,
+        Refusal::FreeCount,
     ];
 
     /// Its number.
@@ -84,16 +87,17 @@ impl Refusal {
             Refusal::Grade => "the grade is not 1 to 4",
             Refusal::MessageLength => "the message bytes are too few or too many for the kind and grade",
             Refusal::FrameLength => "the coordinates or samples are too few or too many",
-            Refusal::SpareBits => "a spare bit of the message is set",
+            Refusal::SpareBits => "a spare or free bit of the message is set",
             Refusal::OverRange => "a coordinate is outside -1048576 to 1048576",
             Refusal::BrokenLevel0 => "level 0 of the frame is not a codeword",
             Refusal::BrokenLevel1 => "level 1 of the frame is not a codeword",
-            Refusal::Unshaped => "the frame is not the one that is sent for its message under the number",
+            Refusal::Unshaped => "the frame is not one that may be sent for its message under the number",
             Refusal::AccountFull => "the account is full",
             Refusal::BrokenLevel2 => "level 2 of the frame is not a codeword",
             Refusal::Changeover => "the changeover is above 1000000",
             Refusal::UnfitSample => "a sample is not a whole number of 256ths from -128 to 128",
             Refusal::TooFar => "no frame of the coding set is near to the samples",
+            Refusal::FreeCount => "more than 4 bits are to be free",
         }
     }
 }

@@ -1,8 +1,9 @@
 //! The cases of document 01 and of the requests of document 02, through the static library.
 
 use frame_coder::{
-    by_number, message_bits, message_length, read_near, read_near_to_vec, read_open, read_open_to_vec, read_strict,
-    read_strict_to_vec, send, send_to_vec, Account, Grade, Kind, Refusal, Stopped, MAX_COORDINATE, MAX_FRAME_LENGTH,
+    by_number, message_bits, message_length, read_near, read_near_to_vec, read_open, read_open_free_to_vec,
+    read_open_to_vec, read_strict, read_strict_free, read_strict_free_to_vec, read_strict_to_vec, send, send_free,
+    send_free_to_vec, send_to_vec, Account, Grade, Kind, Refusal, Stopped, MAX_COORDINATE, MAX_FRAME_LENGTH, MAX_FREE,
     MAX_MESSAGE_LENGTH,
 };
 
@@ -155,6 +156,124 @@ fn sixty_four_coordinates() {
     assert_eq!(read_strict_to_vec(Kind::Six, Grade::One, 0, &[4; 64]), Err(Refusal::Unshaped));
     assert_eq!(send_to_vec(Kind::Six, Grade::One, 1, &message), Ok((vec![4; 64], 1024)));
     assert_eq!(read_strict_to_vec(Kind::Six, Grade::One, 1, &[4; 64]), Ok((message, 1024)));
+}
+
+/// 12 00 at kind 3, grade 1, worked by hand: with two bits free the energies of its fillings are 12, 4, 4 and 12, and both frames of
+/// energy 4 may be sent, the same under every number.
+#[test]
+fn free_bits_by_hand() {
+    let (kind, grade, message) = (Kind::Three, Grade::One, [0x12, 0x00]);
+    let (one, other) = (vec![0, -1, 0, 1, 0, 1, 0, -1], vec![0, -1, 0, 1, 0, 1, 0, 1]);
+    for number in [EVEN, ODD].concat() {
+        let (sent, energy) = send_free_to_vec(kind, grade, number, 2, &message).unwrap();
+        assert!(energy == 4 && (sent == one || sent == other));
+        for (last, energy) in [(0x00, 12), (0x04, 4), (0x08, 4), (0x0C, 12)] {
+            let (frame, own) = send_to_vec(kind, grade, number, &[0x12, last]).unwrap();
+            assert_eq!(own, energy);
+            assert_eq!(frame == one || frame == other, energy == 4);
+            let read = Ok((message.to_vec(), energy));
+            assert_eq!(read_open_free_to_vec(kind, grade, 2, &frame), read);
+            let judged = if energy == 4 { read } else { Err(Refusal::Unshaped) };
+            assert_eq!(read_strict_free_to_vec(kind, grade, number, 2, &frame), judged);
+        }
+    }
+}
+
+/// A message with every bit by its place, with so many free at the end, and its fillings.
+fn filled(kind: Kind, grade: Grade, seed: usize, free: u8) -> (Vec<u8>, Vec<Vec<u8>>) {
+    let bits = message_bits(kind, grade);
+    let with = |filling: usize| {
+        let mut message = vec![0; message_length(kind, grade)];
+        for k in 0..bits {
+            let fixed = bits - free as usize;
+            let bit = if k < fixed { (seed * (k + 3) / 5) % 3 == 1 } else { filling >> (k - fixed) & 1 == 1 };
+            message[k / 8] |= u8::from(bit) << (k % 8);
+        }
+        message
+    };
+    (with(0), (0..1 << free).map(with).collect())
+}
+
+/// The least energy of all fillings is sent; a frame of a least filling is read strictly, and no other; free bits are read as 0.
+#[test]
+fn free_bits() {
+    for (&kind, &grade) in Kind::ALL.iter().flat_map(|kind| Grade::ALL.iter().map(move |grade| (kind, grade))) {
+        for (seed, free) in (0..20).flat_map(|seed| (0..=MAX_FREE).map(move |free| (seed, free))) {
+            let (message, fillings) = filled(kind, grade, seed, free);
+            let number = [EVEN, ODD].concat()[seed % 10];
+            let frames: Vec<(Vec<i32>, u64)> =
+                fillings.iter().map(|filling| send_to_vec(kind, grade, number, filling).unwrap()).collect();
+            let least = frames.iter().map(|(_, energy)| *energy).min().unwrap();
+            let (sent, energy) = send_free_to_vec(kind, grade, number, free, &message).unwrap();
+            assert_eq!(energy, least);
+            assert!(frames.contains(&(sent.clone(), energy)));
+            for (frame, own) in &frames {
+                let read = Ok((message.clone(), *own));
+                assert_eq!(read_open_free_to_vec(kind, grade, free, frame), read);
+                let judged = if *own == least { read } else { Err(Refusal::Unshaped) };
+                assert_eq!(read_strict_free_to_vec(kind, grade, number, free, frame), judged);
+            }
+            // With an account it grows by the frame as by any other.
+            let mut account = Account::from_parts(number, 0.25, 3, 0);
+            match account.send_free_to_vec(kind, grade, free, &message) {
+                Ok((frame, energy)) => {
+                    assert!(energy == least && frames.contains(&(frame.clone(), energy)));
+                    let blocks = frame.chunks_exact(8).map(|block| block.iter().map(|x| (x * x) as u64).sum::<u64>());
+                    let sum = 0.25 + energy as f64 / kind.frame_length() as f64;
+                    assert_eq!(account, Account::from_parts(number + 1, sum, blocks.max().unwrap().max(3), 0));
+                }
+                Err(refusal) => {
+                    assert_eq!((refusal, number >= Account::MAX_COUNT), (Refusal::AccountFull, true));
+                    assert_eq!(account, Account::from_parts(number, 0.25, 3, 0));
+                }
+            }
+            // Without free bits it is the call that takes none.
+            if free == 0 {
+                assert_eq!(send_to_vec(kind, grade, number, &message), Ok((sent, energy)));
+            }
+        }
+    }
+}
+
+#[test]
+fn free_counts_and_free_bits_refused() {
+    let mut frame = [77; 9];
+    for free in 5..=255 {
+        assert_eq!(by_number::send_free(2, 0, 1, free, &[0; 9], &mut frame), Err(Refusal::Kind));
+        assert_eq!(by_number::send_free(3, 5, 1, free, &[0; 9], &mut frame), Err(Refusal::Grade));
+        assert_eq!(by_number::send_free(3, 1, 1, free, &[255; 9], &mut frame), Err(Refusal::FreeCount));
+        assert_eq!(by_number::read_open_free(7, 1, free, &[7; 9], &mut [0; 9]), Err(Refusal::Kind));
+        assert_eq!(by_number::read_open_free(3, 0, free, &[7; 9], &mut [0; 9]), Err(Refusal::Grade));
+        assert_eq!(by_number::read_open_free(3, 1, free, &[7; 9], &mut [0; 9]), Err(Refusal::FreeCount));
+        assert_eq!(by_number::read_strict_free(3, 1, 0, free, &[i32::MAX; 8], &mut [0; 2]), Err(Refusal::FreeCount));
+        let mut account = Account::from_parts(Account::MAX_COUNT, 0.25, 3, 0);
+        assert_eq!(account.send_free(Kind::Three, Grade::One, free, &[255; 2], &mut frame), Err(Refusal::FreeCount));
+        assert_eq!(account, Account::from_parts(Account::MAX_COUNT, 0.25, 3, 0));
+    }
+    assert_eq!(frame, [77; 9]);
+    for (&kind, &grade) in Kind::ALL.iter().flat_map(|kind| Grade::ALL.iter().map(move |grade| (kind, grade))) {
+        let (bits, bytes) = (message_bits(kind, grade), message_length(kind, grade));
+        for free in 0..=MAX_FREE {
+            let mut frame = vec![77; kind.frame_length()];
+            let mut back = vec![0xA5; bytes];
+            assert_eq!(send_free(kind, grade, 0, free, &vec![255; bytes + 1], &mut frame), Err(Refusal::MessageLength));
+            let short = &mut frame[1..];
+            assert_eq!(send_free(kind, grade, 0, free, &vec![255; bytes], short), Err(Refusal::FrameLength));
+            assert_eq!(read_strict_free(kind, grade, 0, free, short, &mut back), Err(Refusal::FrameLength));
+            for k in bits - free as usize - 1..8 * bytes {
+                let mut message = vec![0; bytes];
+                message[k / 8] = 1 << (k % 8);
+                let sent = send_free(kind, grade, 1, free, &message, &mut frame);
+                if k == bits - free as usize - 1 {
+                    assert_eq!(read_strict_free_to_vec(kind, grade, 1, free, &frame), Ok((message, sent.unwrap())));
+                    frame.fill(77);
+                } else {
+                    assert_eq!((sent, frame.iter().all(|x| *x == 77)), (Err(Refusal::SpareBits), true));
+                }
+            }
+            assert!(back.iter().all(|byte| *byte == 0xA5));
+        }
+    }
 }
 
 #[test]
@@ -611,12 +730,13 @@ fn refusals() {
         }
     }
     let numbers: Vec<u8> = Refusal::ALL.iter().map(|refusal| refusal.number()).collect();
-    assert_eq!(numbers, [1, 2, 3, 4, 5, 6, 7, 8, 9, 11, 13, 14, 15, 16]);
-    let unshaped = "refused 9: the frame is not the one that is sent for its message under the number";
+    assert_eq!(numbers, [1, 2, 3, 4, 5, 6, 7, 8, 9, 11, 13, 14, 15, 16, 17]);
+    let unshaped = "refused 9: the frame is not one that may be sent for its message under the number";
     assert_eq!(Refusal::Unshaped.to_string(), unshaped);
     assert_eq!(Refusal::BrokenLevel2.to_string(), "refused 13: level 2 of the frame is not a codeword");
     assert_eq!(Refusal::Changeover.to_string(), "refused 14: the changeover is above 1000000");
     let unfit = "refused 15: a sample is not a whole number of 256ths from -128 to 128";
     assert_eq!(Refusal::UnfitSample.to_string(), unfit);
     assert_eq!(Refusal::TooFar.to_string(), "refused 16: no frame of the coding set is near to the samples");
+    assert_eq!(Refusal::FreeCount.to_string(), "refused 17: more than 4 bits are to be free");
 }

@@ -1,6 +1,6 @@
 //! The C header says the same as this crate: its version, its constants, its refusals and its functions.
 
-use frame_coder::{Account, Refusal, MAX_COORDINATE, MAX_FRAME_LENGTH, MAX_MESSAGE_LENGTH, VERSION};
+use frame_coder::{Account, Refusal, MAX_COORDINATE, MAX_FRAME_LENGTH, MAX_FREE, MAX_MESSAGE_LENGTH, VERSION};
 
 const HEADER: &str = include_str!("../../../crates/frame_coder/frame_coder.h");
 const ARCHIVE: &str = include_str!("../src/archive.rs");
@@ -18,6 +18,7 @@ fn constants() {
     assert_eq!(defined("CODER_MAX_MESSAGE_LENGTH"), MAX_MESSAGE_LENGTH.to_string());
     assert_eq!(defined("CODER_MAX_FRAME_LENGTH"), MAX_FRAME_LENGTH.to_string());
     assert_eq!(defined("CODER_MAX_COORDINATE"), MAX_COORDINATE.to_string());
+    assert_eq!(defined("CODER_MAX_FREE"), MAX_FREE.to_string());
     assert_eq!(defined("CODER_MAX_COUNT"), Account::MAX_COUNT.to_string());
 }
 

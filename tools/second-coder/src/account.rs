@@ -21,13 +21,18 @@ impl Account {
         Account { count: 0, sum: 0.0, largest: 0, changeover }
     }
 
-    /// The rule for the next frame: the old one, the first of the least, below the changeover, and that of its number from there on.
-    pub fn tie(&self) -> Tie {
+    /// The number under which the next frame is sent: the count, and below the changeover 0, whose rule is the old one.
+    pub fn number(&self) -> u32 {
         if self.count >= self.changeover {
-            Tie::of(self.count)
+            self.count
         } else {
-            Tie::First
+            0
         }
+    }
+
+    /// The rule for the next frame.
+    pub fn tie(&self) -> Tie {
+        Tie::of(self.number())
     }
 }
 
@@ -53,12 +58,18 @@ pub fn send_counted(
     account: Account,
 ) -> Result<(Sent, Account), u8> {
     let sent = send_by(kind, grade, account.tie(), message, coordinates)?;
+    let account = grown(account, &sent.frame)?;
+    Ok((sent, account))
+}
+
+/// The account grown by a frame.
+pub fn grown(account: Account, frame: &[i64]) -> Result<Account, u8> {
     if account.count >= FULL {
         return Err(refusal::ACCOUNT_FULL);
     }
-    let power = sent.energy as f64 / coordinates as f64;
-    let largest = account.largest.max(largest_block(&sent.frame));
-    Ok((sent, Account { count: account.count + 1, sum: account.sum + power, largest, ..account }))
+    let power = class::energy(frame) as f64 / frame.len() as f64;
+    let largest = account.largest.max(largest_block(frame));
+    Ok(Account { count: account.count + 1, sum: account.sum + power, largest, ..account })
 }
 
 /// What sending a queue gives: the refusal number, 0 where no message is refused, the number of messages sent, and the account.

@@ -60,7 +60,7 @@ impl Format {
     }
 }
 
-fn bit(message: &[u8], k: usize) -> bool {
+pub fn bit(message: &[u8], k: usize) -> bool {
     message[k / 8] >> (k % 8) & 1 == 1
 }
 
@@ -82,12 +82,32 @@ impl Bits<'_> {
     }
 }
 
-fn check_message(format: &Format, message: &[u8]) -> Result<(), u8> {
-    let bits = format.message_bits();
-    if (bits..message.len() * 8).any(|k| bit(message, k)) {
-        return Err(refusal::SPARE_BITS);
+/// The most bits that may be free.
+pub const MOST_FREE: u8 = 4;
+
+pub fn test_free(free: u8) -> Result<(), u8> {
+    if free > MOST_FREE {
+        return Err(refusal::FREE_COUNT);
     }
     Ok(())
+}
+
+/// The tests of sending, with so many bits of the message free, and the number of coordinates that the caller lends: gives the format.
+pub fn test(kind: u8, grade: u8, free: u8, message: &[u8], coordinates: usize) -> Result<Format, u8> {
+    let format = Format::new(kind, grade)?;
+    test_free(free)?;
+    if message.len() != format.message_bytes() {
+        return Err(refusal::MESSAGE_LENGTH);
+    }
+    if coordinates != format.length() {
+        return Err(refusal::FRAME_LENGTH);
+    }
+    // Free bits and spare bits are 0.
+    let fixed = format.message_bits() - free as usize;
+    if (fixed..message.len() * 8).any(|k| bit(message, k)) {
+        return Err(refusal::SPARE_BITS);
+    }
+    Ok(format)
 }
 
 /// The coset leader of a message.
@@ -158,14 +178,7 @@ pub fn shaped(format: &Format, tie: Tie, leader: &[i64]) -> Sent {
 
 /// Sending by one rule for ties, with the number of coordinates that the caller lends for the frame.
 pub fn send_by(kind: u8, grade: u8, tie: Tie, message: &[u8], coordinates: usize) -> Result<Sent, u8> {
-    let format = Format::new(kind, grade)?;
-    if message.len() != format.message_bytes() {
-        return Err(refusal::MESSAGE_LENGTH);
-    }
-    if coordinates != format.length() {
-        return Err(refusal::FRAME_LENGTH);
-    }
-    check_message(&format, message)?;
+    let format = test(kind, grade, 0, message, coordinates)?;
     Ok(shaped(&format, tie, &leader(&format, message)))
 }
 

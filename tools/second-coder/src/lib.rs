@@ -3,13 +3,16 @@
 //! It is slow and plain on purpose: codewords come from the definition by masks, and the sent
 //! frame from a search of the leader's class that keeps every member of least energy. Of these an
 //! even number sends the first in reading order, and an odd one the last. The near reading takes
-//! its frame from a list of all whole frames within reach of the samples.
+//! its frame from a list of all whole frames within reach of the samples. Where bits of the message are
+//! free, the class of each filling is searched, and every filling of least energy is kept.
 
 pub mod account;
 pub mod calls;
 pub mod class;
 pub mod code;
 pub mod frame;
+pub mod free;
+pub mod free_file;
 pub mod near;
 pub mod noisy;
 pub mod queues;
@@ -36,4 +39,5 @@ pub mod refusal {
     pub const CHANGEOVER: u8 = 14;
     pub const UNFIT_SAMPLE: u8 = 15;
     pub const TOO_FAR: u8 = 16;
+    pub const FREE_COUNT: u8 = 17;
 }

@@ -4,7 +4,7 @@ use std::io::{Read, Write};
 use std::path::{Path, PathBuf};
 use std::process::{Command, ExitCode, Stdio};
 
-use second_coder::{calls, noisy, queues, random::Random, sheet, test_file::TestFile, vectors};
+use second_coder::{calls, free_file, noisy, queues, random::Random, sheet, test_file::TestFile, vectors};
 
 /// Where a file for a crate stands: beside the program that holds the library to it.
 fn crates(name: &str) -> PathBuf {
@@ -60,6 +60,16 @@ fn write_files() -> std::io::Result<()> {
     write_test("test_near", "noisy.bin", &file)?;
     let bytes = file.bytes.len();
     println!("noisy.bin: {sorts:?}, {numbers:?} answered by each number, {wrong} with a wrong answer, {bytes} bytes");
+    let (file, free_file::Counts { sorts, sent, counted, open, strict, ties, wrong }) = free_file::free_file();
+    write_test("test_free", "free.bin", &file)?;
+    println!("\n| kind | grade | records, by free count | with several least fillings | most least fillings |");
+    println!("|---|---|---|---|---|");
+    for free_file::Count { kind, grade, records, tied, most } in &ties {
+        let list = |all: &[usize]| all.iter().map(usize::to_string).collect::<Vec<_>>().join(", ");
+        println!("| {kind} | {grade} | {} | {} | {} |", list(records), list(&tied[1..]), list(&most[1..]));
+    }
+    let bytes = file.bytes.len();
+    println!("\nfree.bin: {sorts:?}, {wrong} wrong ones, {bytes} bytes; answered by each number: {sent:?} sent, {counted:?} with an account, {open:?} read openly, {strict:?} strictly");
     let sheet = vectors::program_sheet();
     let listing = sheet::listing(&sheet);
     std::fs::write(crates("sheet/stdin"), &sheet)?;

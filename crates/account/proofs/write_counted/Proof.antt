@@ -1,15 +1,13 @@
--- `write_counted` meets its contract: the frame under the account's number, and the account grown by it. Assumes nothing.
-use Prim.Native.Nat.{ℕ}
-use mathlib.Core.Path.{_≡_, refl, sym, ap, _∙_}
+-- `write_counted` meets its contract: a quiet frame under the account's number, and the account grown by it. Assumes nothing.
+use Prim.Native.Nat.{ℕ, _^_}
+use mathlib.Core.Path.{_≡_, refl, ap, _∙_, subst}
 use lib.ListN.{length}
-use Rattle.e8.specs.Energy.{energy}
-use Rattle.e8.specs.Largest.{largestBlock}
-use Rattle.frames.specs.Frame.{numberedFrame}
+use Rattle.frames.specs.Free.{Quiet, quietEnergy, quietLargest}
 use Rattle.frames.specs.Sending.{sendRefusal}
-use Rattle.frames.proofs.Accepted.{Passed, all-passed}
+use Rattle.frames.proofs.Accepted.{Passed, all-passed, accepted-exactly}
 use Rattle.frames.proofs.Rows.{grade-low, grade-high}
-use Rattle.frames.proofs.Demands.{sent-length}
-use Rattle.power_account.specs.Power.{grown}
+use Rattle.free_bits.proofs.Fillings.{free-few}
+use Rattle.power_account.specs.Power.{grownWith}
 use Rattle.power_account.specs.Counted.{numberFor}
 use Rattle.power_account.proofs.Answers.{passed, room, measured}
 use borrow.Author.Needs.{needs}
@@ -17,11 +15,11 @@ use Rattle.account.proofs.write_counted.Statement.{statement}
 use Rattle.account.proofs.write_counted.Tie as tie
 
 -- sending's own tests are passed
-sends : (s : tie.Start) → let a = s .args in sendRefusal (a .kind) (a .grade) (a .message .now) (length (a .frame .now)) ≡ 0
-sends s = let a = s .args in passed (a .kind) (a .grade) (a .message .now) (length (a .frame .now)) (a .account) 0 (sym (s .pre)) (λ l. refl)
+sends : (s : tie.Start) → let a = s .args in sendRefusal (a .kind) (a .grade) (a .free) (a .message .now) (length (a .frame .now)) ≡ 0
+sends s = let a = s .args in passed (a .kind) (a .grade) (a .free) (a .message .now) (length (a .frame .now)) (a .account) (s .pre)
 
-tests : (s : tie.Start) → let a = s .args in Passed (a .kind) (a .grade) (a .message .now) (length (a .frame .now))
-tests s = let a = s .args in all-passed (a .kind) (a .grade) (a .message .now) (length (a .frame .now)) (sends s)
+tests : (s : tie.Start) → let a = s .args in Passed (a .kind) (a .grade) (a .free) (a .message .now) (length (a .frame .now))
+tests s = let a = s .args in all-passed (a .kind) (a .grade) (a .free) (a .message .now) (length (a .frame .now)) (sends s)
 
 -- the place before it, from the place behind the writing
 abbrev at-start : tie.After-write-sent → tie.Start
@@ -33,52 +31,55 @@ next-number-requires c κs = search needs
 write-sent-requires : tie.Need-write-sent-requires
 write-sent-requires c κs =
     let s = c .before .before .before in
-    let b = s .args .grade in
-    let p = tests s in
-    (p .kind, grade-low b (p .grade), grade-high b (p .grade), p .long, p .coordinates)
+    let a = s .args in
+    let p = accepted-exactly (a .kind) (a .grade) (a .free) (a .message .now) (length (a .frame .now))
+    (λ j. c .before .before .shared-slice-known .given j .fits) .sendable (sends s) in
+    (p .kind, grade-low (a .grade) (p .grade), grade-high (a .grade) (p .grade), free-few (a .free) (p .few), p .message, p .coordinates)
 
--- the number asked for is the account's, and so is its frame
-under : (w : tie.After-write-sent) → let a = at-start w .args in
-    numberedFrame (a .kind) (a .grade) (w .before .before .next-number .result) (a .message .now)
-    ≡ numberedFrame (a .kind) (a .grade) (numberFor (a .account)) (a .message .now)
-under w =
-    let a = at-start w .args in
-    ap (λ (number : ℕ). numberedFrame (a .kind) (a .grade) number (a .message .now)) (w .before .before .next-number .ensures)
+-- the number asked for is the account's, and so are the frame, the energy and the largest block
+module _ (w : tie.After-write-sent) where
+  under : w .before .before .next-number .result ≡ numberFor (at-start w .args .account)
+  under = w .before .before .next-number .ensures
 
--- so are the energy and the largest block that are given
-energy-is : (w : tie.After-write-sent) → let a = at-start w .args in
-    w .write-sent .result .energy ≡ energy (numberedFrame (a .kind) (a .grade) (numberFor (a .account)) (a .message .now))
-energy-is w = w .write-sent .ensures .1 .0 ∙ ap energy (under w)
+  frame-is : let a = at-start w .args in Quiet (a .kind) (a .grade) (a .free) (numberFor (a .account)) (a .message .now) (w .write-sent .last .1 .1 .1 .1 .1 .0)
+  frame-is =
+      let a = at-start w .args in
+      subst (λ (number : ℕ). Quiet (a .kind) (a .grade) (a .free) number (a .message .now) (w .write-sent .last .1 .1 .1 .1 .1 .0)) under (w .write-sent .ensures .0)
 
-largest-is : (w : tie.After-write-sent) → let a = at-start w .args in
-    w .write-sent .result .largest ≡ largestBlock (numberedFrame (a .kind) (a .grade) (numberFor (a .account)) (a .message .now))
-largest-is w = w .write-sent .ensures .1 .1 ∙ ap largestBlock (under w)
+  energy-is : let a = at-start w .args in w .write-sent .result .energy ≡ quietEnergy (a .kind) (a .grade) (a .free) (numberFor (a .account)) (a .message .now)
+  energy-is =
+      let a = at-start w .args in
+      w .write-sent .ensures .1 .0 ∙ ap (λ (number : ℕ). quietEnergy (a .kind) (a .grade) (a .free) number (a .message .now)) under
+
+  largest-is : let a = at-start w .args in w .write-sent .result .largest ≡ quietLargest (a .kind) (a .grade) (a .free) (numberFor (a .account)) (a .message .now)
+  largest-is =
+      let a = at-start w .args in
+      w .write-sent .ensures .1 .1 ∙ ap (λ (number : ℕ). quietLargest (a .kind) (a .grade) (a .free) number (a .message .now)) under
 
 grow-requires : tie.Need-grow-requires
 grow-requires c κs =
     let w = c .before in
     let s = at-start w in
     let a = s .args in
-    measured (a .kind) (a .grade) (numberFor (a .account)) (a .message .now) (length (a .frame .now)) (sends s) _ (energy-is w)
+    measured (a .kind) (a .grade) (a .free) (numberFor (a .account)) (a .message .now) (length (a .frame .now)) (sends s) _ (energy-is w)
 
 same-length : tie.Need-same-length
 same-length c = search needs
 
--- the account grown by the sent frame
+-- the account grown by the figures of the sent frame
 has-grown : (c : tie.After-grow) → let a = at-start (c .before .before) .args in
-    c .grow .result ≡ grown (a .account) (numberedFrame (a .kind) (a .grade) (numberFor (a .account)) (a .message .now))
+    c .grow .result ≡ grownWith (a .account) (quietEnergy (a .kind) (a .grade) (a .free) (numberFor (a .account)) (a .message .now)) (2 ^ a .kind)
+    (quietLargest (a .kind) (a .grade) (a .free) (numberFor (a .account)) (a .message .now))
 has-grown c =
     let w = c .before .before in
     let s = at-start w in
     let a = s .args in
     let p = tests s in
-    let r = room (a .kind) (a .grade) (a .message .now) (length (a .frame .now)) (a .account) (s .pre) in
-    let low = grade-low (a .grade) (p .grade) in
-    let long = p .coordinates ∙ sym (sent-length (a .kind) (a .grade) (p .kind) low (numberFor (a .account)) (a .message .now)) in
-    simp (r, long, energy-is w, largest-is w) at (c .grow .ensures)
+    let r = room (a .kind) (a .grade) (a .free) (a .message .now) (length (a .frame .now)) (a .account) (s .pre) in
+    simp (r, p .coordinates, energy-is w, largest-is w) at (c .grow .ensures)
 
 returns : tie.Need-returns
-returns c = let w = c .before .before in (w .write-sent .ensures .0 ∙ under w, ((refl, energy-is w), has-grown c))
+returns c = let w = c .before .before in (frame-is w, ((refl, energy-is w), has-grown c))
 
 pub write-counted-spec : {M : Type 1} → statement M
 write-counted-spec = tie.close (tie.spec next-number-requires write-sent-requires grow-requires same-length returns)

@@ -6,22 +6,37 @@ use native.Mathlib.Omega.{arith}
 use lib.IntN.{ℤ}
 use lib.ListN.{length}
 use mir.Facts.{toZ-ofZ}
+use borrow.Author.Tests.{ne-eqb}
+use Rattle.e8.specs.Energy.{energy}
+use Rattle.frames.specs.Frame.{numberedFrame}
 use Rattle.frames.specs.Sending.{sendRefusal, frameAfter, energySent}
-use Rattle.frames.proofs.Accepted.{sent-leaves, refused-leaves}
+use Rattle.frames.proofs.Accepted.{Passed, all-passed, sent-leaves, refused-leaves}
 use Rattle.frames.proofs.Rows.{grade-low, grade-high}
-use Rattle.accepting.proofs.Answers.{Fits, fits}
-use Rattle.answers.specs.Answer.{answerOf, sendAnswer, sendFrame}
+use Rattle.free_bits.proofs.ReadBack.{none-free}
+use Rattle.answers.specs.Answer.{answerOf, sendAnswer, wholeFrame}
 use Rattle.answers.proofs.Bounds.{sent-fits, send-answer}
 use borrow.Author.Needs.{needs}
 use Rattle.bench_plain.proofs.plain_send.Statement.{statement}
 use Rattle.bench_plain.proofs.plain_send.Tie as tie
 
 -- what the refusal number and the energy answer, and the frame that stands with them
-answered : (refusal energy k b number : ℕ) (bytes : List ℕ) (f g : List ℤ) → refusal ≡ sendRefusal k b bytes (length f)
-    → energy ≡ energySent refusal k b number bytes → g ≡ frameAfter refusal k b number bytes f
-    → (answerOf refusal energy ≡ sendAnswer k b number bytes (length f)) × (g ≡ sendFrame k b number bytes f)
-answered refusal energy k b number bytes f g is e after =
-    (ap (answerOf refusal) e ∙ send-answer refusal k b number bytes (length f) is, after ∙ ap (λ (n : ℕ). frameAfter n k b number bytes f) is)
+answered : (refusal e k b number : ℕ) (bytes : List ℕ) (f g : List ℤ) → refusal ≡ sendRefusal k b 0 bytes (length f)
+    → e ≡ energySent refusal k b 0 number bytes → g ≡ frameAfter refusal k b number bytes f
+    → (answerOf refusal e ≡ sendAnswer k b 0 number bytes (length f)) × (g ≡ wholeFrame k b number bytes f)
+answered refusal e k b number bytes f g is same after =
+    (ap (answerOf refusal) same ∙ send-answer refusal k b 0 number bytes (length f) is, after ∙ ap (λ (n : ℕ). frameAfter n k b number bytes f) is)
+
+-- a refusal leaves the frame, and past the tests it is that of the number, with its energy
+kept : (refusal k b number : ℕ) (bytes : List ℕ) (f : List ℤ) → (refusal ≡ 0 → ⊥) → f ≡ frameAfter refusal k b number bytes f
+unfolding frameAfter
+kept refusal k b number bytes f h = rw (ne-eqb refusal 0 h)
+
+written : (refusal k b number : ℕ) (bytes : List ℕ) (f : List ℤ) → refusal ≡ 0
+    → (numberedFrame k b number bytes ≡ frameAfter refusal k b number bytes f)
+    × (energy (numberedFrame k b number bytes) ≡ energySent refusal k b 0 number bytes)
+unfolding frameAfter
+written refusal k b number bytes f e =
+    (rw e, sym (sent-leaves refusal k b 0 number bytes e ∙ none-free k b number bytes 0 .least))
 
 test-requires : tie.Need-test-requires
 test-requires c κs = search needs
@@ -34,39 +49,39 @@ returns c =
     let t = c .before in
     let s = t .before .before .before .args in
     let r = t .before .test .result in
-    let n = refused-leaves r (s .kind) (s .grade) (s .number) (s .message .now) (s .frame .now) (λ e. omega (arith, e)) in
-    let a = answered r 0 (s .kind) (s .grade) (s .number) (s .message .now) (s .frame .now) (s .frame .now) (t .before .test .ensures) (sym (n .1)) (sym (n .0)) in
+    let no : r ≡ 0 → ⊥ = λ e. omega (arith, e) in
+    let n = refused-leaves r (s .kind) (s .grade) 0 (s .number) (s .message .now) no in
+    let a = answered r 0 (s .kind) (s .grade) (s .number) (s .message .now) (s .frame .now) (s .frame .now) (t .before .test .ensures) (sym n)
+    (kept r (s .kind) (s .grade) (s .number) (s .message .now) (s .frame .now) no) in
     (toZ-ofZ (record { sfits = c .answer .ok }) ∙ c .answer .ensures ∙ a .0, a .1)
 
 -- past the tests a frame can be written
-passed : (c : tie.Else1) → let s = c .before .before .before .args in Fits (s .kind) (s .grade) (s .message .now) (length (s .frame .now))
+passed : (c : tie.Else1) → let s = c .before .before .before .args in Passed (s .kind) (s .grade) 0 (s .message .now) (length (s .frame .now))
 passed c =
     let s = c .before .before .before .args in
-    let r = c .before .test .ensures in
-    fits (s .kind) (s .grade) (s .message .now) (length (s .frame .now))
-    (λ e. omega (arith, e, r)) (λ e. omega (arith, e, r)) (λ e. omega (arith, e, r)) (λ e. omega (arith, e, r))
+    all-passed (s .kind) (s .grade) 0 (s .message .now) (length (s .frame .now)) (sym (c .before .test .ensures) ∙ omega (arith, c .if1 .left))
 
 write-sent-requires : tie.Need-write-sent-requires
 write-sent-requires c κs =
     let s = c .before .before .before .before .args in
     let a = passed (c .before) in
-    (a .kind, grade-low (s .grade) (a .grade), grade-high (s .grade) (a .grade), a .long, a .positions)
+    (a .kind, grade-low (s .grade) (a .grade), grade-high (s .grade) (a .grade), a .long, a .coordinates)
 
 -- what is sent, where no test refuses
 sent : (w : tie.After-write-sent) → let s = w .before .before .before .before .before .args in
     (w .write-sent .last .1 .1 .1 .1 .0 ≡ frameAfter (w .before .before .before .test .result) (s .kind) (s .grade) (s .number) (s .message .now) (s .frame .now))
-    × (w .write-sent .result ≡ energySent (w .before .before .before .test .result) (s .kind) (s .grade) (s .number) (s .message .now))
+    × (w .write-sent .result ≡ energySent (w .before .before .before .test .result) (s .kind) (s .grade) 0 (s .number) (s .message .now))
 sent w =
     let d = w .before .before in
     let s = d .before .before .before .args in
     let f = w .write-sent .ensures in
-    let t = sent-leaves (d .before .test .result) (s .kind) (s .grade) (s .number) (s .message .now) (s .frame .now) (omega (arith, d .if1 .left)) in
-    (f .0 ∙ sym (t .0), f .1 ∙ sym (t .1))
+    let t = written (d .before .test .result) (s .kind) (s .grade) (s .number) (s .message .now) (s .frame .now) (omega (arith, d .if1 .left)) in
+    (f .0 ∙ t .0, f .1 ∙ t .1)
 
 answer-requires-2 : tie.Need-answer-requires-2
 answer-requires-2 c κs =
     let w = c .before in
-    omega (arith, sent w .1, sent-fits _ _ _ (w .before .before .before .before .before .args .number) _ _ (w .before .before .before .test .ensures))
+    omega (arith, sent w .1, sent-fits _ _ _ _ (w .before .before .before .before .before .args .number) _ _ (w .before .before .before .test .ensures))
 
 same-length : tie.Need-same-length
 same-length c = search needs

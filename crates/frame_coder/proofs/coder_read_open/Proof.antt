@@ -17,7 +17,7 @@ read-open-requires c κs = search needs
 answer-requires : tie.Need-answer-requires
 answer-requires c κs =
     let e = c .before .before .read-open .ensures in
-    let f = open-fits _ _ _ _ _ (e .0) in
+    let f = open-fits _ _ _ _ _ _ (e .0) in
     omega (arith, e .1 .1, f)
 
 same-length : tie.Need-same-length
@@ -28,9 +28,9 @@ returns c =
     let s = c .before .before .before .before .before .before .args in
     let r = c .before .before .before .read-open .result .number in
     let e = c .before .before .before .read-open .ensures in
-    let l = open-answer r (s .kind) (s .grade) (s .frame .now) (length (s .message .now)) (e .0) in (
+    let l = open-answer r (s .kind) (s .grade) (s .free) (s .frame .now) (length (s .message .now)) (e .0) in (
       toZ-ofZ (record { sfits = c .answer .ok }) ∙ c .answer .ensures ∙ ap (answerOf r) (e .1 .1) ∙ l,
-      e .1 .0 ∙ ap (λ (n : ℕ). messageAfter n (s .kind) (s .grade) (s .frame .now) (s .message .now)) (e .0),
+      e .1 .0 ∙ ap (λ (n : ℕ). messageAfter n (s .kind) (s .grade) (s .free) (s .frame .now) (s .message .now)) (e .0),
     )
 
 pub coder-read-open-spec : {M : Type 1} → statement M

@@ -17,7 +17,7 @@ read-strict-requires c κs = search needs
 answer-requires : tie.Need-answer-requires
 answer-requires c κs =
     let e = c .before .before .read-strict .ensures in
-    let f = strict-fits _ _ _ _ _ _ (e .0) in
+    let f = strict-fits _ _ _ _ _ _ _ (e .0) in
     omega (arith, e .1 .1, f)
 
 same-length : tie.Need-same-length
@@ -28,9 +28,9 @@ returns c =
     let s = c .before .before .before .before .before .before .args in
     let r = c .before .before .before .read-strict .result .number in
     let e = c .before .before .before .read-strict .ensures in
-    let l = strict-answer r (s .kind) (s .grade) (s .number) (s .frame .now) (length (s .message .now)) (e .0) in (
+    let l = strict-answer r (s .kind) (s .grade) (s .free) (s .number) (s .frame .now) (length (s .message .now)) (e .0) in (
       toZ-ofZ (record { sfits = c .answer .ok }) ∙ c .answer .ensures ∙ ap (answerOf r) (e .1 .1) ∙ l,
-      e .1 .0 ∙ ap (λ (n : ℕ). messageAfter n (s .kind) (s .grade) (s .frame .now) (s .message .now)) (e .0),
+      e .1 .0 ∙ ap (λ (n : ℕ). messageAfter n (s .kind) (s .grade) (s .free) (s .frame .now) (s .message .now)) (e .0),
     )
 
 pub coder-read-strict-spec : {M : Type 1} → statement M

@@ -1,13 +1,11 @@
 -- `coder_send` meets its contract: what `send` ensures, in one number. Assumes nothing.
-use Prim.Native.Nat.{ℕ}
 use mathlib.Core.Path.{ap, _∙_}
 use native.Mathlib.Omega.{arith}
 use lib.ListN.{length}
 use mir.Facts.{toZ-ofZ}
 use borrow.Author.Needs.{needs}
-use Rattle.frames.specs.Sending.{frameAfter}
 use Rattle.answers.specs.Answer.{answerOf}
-use Rattle.answers.proofs.Bounds.{sent-fits, send-answer, least-answer}
+use Rattle.answers.proofs.Bounds.{sent-fits, send-answer, quiet-as, least-answer}
 use Rattle.frame_coder.proofs.coder_send.Statement.{statement}
 use Rattle.frame_coder.proofs.coder_send.Tie as tie
 
@@ -17,7 +15,7 @@ send-requires c κs = search needs
 answer-requires : tie.Need-answer-requires
 answer-requires c κs =
     let e = c .before .send .ensures in
-    let f = sent-fits _ _ _ (c .before .before .before .before .args .number) _ _ (e .0) in
+    let f = sent-fits _ _ _ _ (c .before .before .before .before .args .number) _ _ (e .0) in
     omega (arith, e .1 .1 .0, f)
 
 same-length : tie.Need-same-length
@@ -29,11 +27,11 @@ returns c =
     let r = c .before .before .send .result .number in
     let e = c .before .before .send .ensures in
     let a = toZ-ofZ (record { sfits = c .answer .ok }) ∙ c .answer .ensures in
-    let l = send-answer r (s .kind) (s .grade) (s .number) (s .message .now) (length (s .frame .now)) (e .0) in (
+    let l = send-answer r (s .kind) (s .grade) (s .free) (s .number) (s .message .now) (length (s .frame .now)) (e .0) in (
       a ∙ ap (answerOf r) (e .1 .1 .0) ∙ l,
       (
-        e .1 .0 ∙ ap (λ (n : ℕ). frameAfter n (s .kind) (s .grade) (s .number) (s .message .now) (s .frame .now)) (e .0),
-        least-answer (s .kind) (s .grade) _ r _ (e .1 .1 .1) _ a,
+        quiet-as (s .kind) (s .grade) (s .free) (s .number) (s .message .now) (s .frame .now) _ (e .0) (e .1 .0),
+        least-answer (s .kind) (s .grade) (s .free) (s .number) (s .message .now) _ r _ (e .1 .1 .1) _ a,
       ),
     )
 

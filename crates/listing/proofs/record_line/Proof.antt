@@ -56,7 +56,7 @@ number c =
     let s = at-start (d .before) in
     let l = sheet s in
     number-sent l (at s) (sym (d .before .test-record .ensures) ∙ d .if1 .left)
-    ∙ sym (c .put-message .ensures .0 ∙ ap (λ (x : List ℕ). sendRefusal (kindAt l (at s)) (gradeAt l (at s)) x (2 ^ kindAt l (at s)))
+    ∙ sym (c .put-message .ensures .0 ∙ ap (λ (x : List ℕ). sendRefusal (kindAt l (at s)) (gradeAt l (at s)) 0 x (2 ^ kindAt l (at s)))
     (message-is l (at s) (b .message-bytes .result) (b .message-bytes .ensures)))
 
 wrapping-add-u32-requires : tie.Need-wrapping-add-u32-requires

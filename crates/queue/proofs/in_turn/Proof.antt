@@ -8,9 +8,10 @@ use lib.ListN.{length, take, drop, length-take, length-drop}
 use borrow.Author.Tests.{eq-eqb}
 use borrow.Author.Needs.{needs}
 use Rattle.frames.specs.Kind.{messageBytes}
-use Rattle.frames.specs.Frame.{numberedFrame}
+use Rattle.frames.specs.Free.{quietEnergy, quietLargest}
 use Rattle.frames.proofs.Rows.{grade-high}
-use Rattle.power_account.specs.Power.{grown}
+use Rattle.free_bits.proofs.ReadBack.{whole-quiet}
+use Rattle.power_account.specs.Power.{grownWith}
 use Rattle.power_account.specs.Counted.{numberFor, countedRefusal}
 use Rattle.power_account.specs.History.{Call, answer}
 use Rattle.power_account.proofs.History.{after-sent}
@@ -90,7 +91,7 @@ answer-is r =
     let s = at-start a .args in
     let t = turn (r .before .before) in
     r .refusal .ensures
-    ∙ ap₂ (λ (m : List ℕ) (n : ℕ). countedRefusal (s .kind) (s .grade) m n (a .loop .grown)) (part-is (a .loop .i) (s .messages .now) (t .message)) (t .frame)
+    ∙ ap₂ (λ (m : List ℕ) (n : ℕ). countedRefusal (s .kind) (s .grade) 0 m n (a .loop .grown)) (part-is (a .loop .i) (s .messages .now) (t .message)) (t .frame)
 
 -- past the test it is accepted
 accepted : (d : tie.Else1 Inv-loop μ-loop) → d .before .refusal .result ≡ 0
@@ -180,7 +181,7 @@ write-counted-requires c κs =
     let s = at-start a .args in
     let m = at-bytes a .message-bytes .result in
     let message = take (m * a .loop .i + m - m * a .loop .i) (drop (m * a .loop .i) (s .messages .now)) in
-    ap (λ (x : ℕ). countedRefusal (s .kind) (s .grade) message x (a .loop .grown))
+    ap (λ (x : ℕ). countedRefusal (s .kind) (s .grade) 0 message x (a .loop .grown))
     (part-long (a .before .positions .result) (a .loop .i) (a .loop .frames) (turn (r .before .before) .coordinates)) ∙ sym (r .refusal .ensures) ∙ accepted d
 
 add-i : tie.Need-add-i Inv-loop μ-loop
@@ -201,11 +202,14 @@ loop-again c =
     let s = at-start a .args in
     let t = turn l in
     let e = w .write-counted .ensures in
-    let sent = ap (numberedFrame (s .kind) (s .grade) (numberFor (a .loop .grown))) (part-is (a .loop .i) (s .messages .now) (t .message)) in
+    let number = numberFor (a .loop .grown) in
+    let message = part-is (a .loop .i) (s .messages .now) (t .message) in
     let z : answer (a .loop .grown) (the-call a) ≡ 0 = sym (answer-is (d .before)) ∙ accepted d in
+    let figures = ap (λ (m : List ℕ).
+    grownWith (a .loop .grown) (quietEnergy (s .kind) (s .grade) 0 number m) (2 ^ s .kind) (quietLargest (s .kind) (s .grade) 0 number m)) message in
     one-further (s .kind) (s .grade) (s .messages .now) (a .loop .inv) (t .inside) z
-    (subst (λ (n : ℕ). n * a .loop .i + n ≤ length (a .loop .frames)) (t .frame) (t .coordinates)) (e .0 ∙ sent) (sym (t .frame))
-    (after-sent (a .loop .grown) (the-call a) (eq-eqb _ _ z) ∙ sym (e .1 .1 ∙ ap (grown (a .loop .grown)) sent))
+    (subst (λ (n : ℕ). n * a .loop .i + n ≤ length (a .loop .frames)) (t .frame) (t .coordinates)) (whole-quiet message (e .0)) (sym (t .frame))
+    (after-sent (a .loop .grown) (the-call a) (eq-eqb _ _ z) ∙ sym (e .1 .1 ∙ figures))
 
 same-length-2 : tie.Need-same-length-2 Inv-loop μ-loop
 same-length-2 c = c .before .loop .inv .long

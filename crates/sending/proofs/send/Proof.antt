@@ -1,12 +1,12 @@
 -- `send` meets its contract: the definitions by its number, and the demands of what is sent. Assumes nothing.
-use mathlib.Core.Path.{sym, _∙_}
+use mathlib.Core.Path.{_≡_, refl, sym, _∙_}
 use native.Mathlib.Omega.{arith}
 use lib.ListN.{length}
-use Rattle.frames.proofs.Accepted.{sent-leaves, refused-leaves}
-use Rattle.frames.proofs.Rows.{grade-low, grade-high}
-use Rattle.frames.proofs.Demands.{least-energy}
-use Rattle.accepting.proofs.Answers.{Fits, fits}
 use borrow.Author.Needs.{needs}
+use Rattle.frames.specs.Demands.{Sendable}
+use Rattle.frames.proofs.Accepted.{accepted-exactly, sent-leaves, refused-leaves}
+use Rattle.frames.proofs.Rows.{grade-low, grade-high}
+use Rattle.free_bits.proofs.Fillings.{free-few, quiet-energy, quiet-least}
 use Rattle.sending.proofs.send.Statement.{statement}
 use Rattle.sending.proofs.send.Tie as tie
 
@@ -17,22 +17,33 @@ refusal-requires c κs = search needs
 returns : tie.Need-returns
 returns c =
     let s = c .before .before .before .args in
-    let n = refused-leaves (c .before .refusal .result) (s .kind) (s .grade) (s .number) (s .message .now) (s .frame .now) (λ e. omega (arith, e)) in
-    (c .before .refusal .ensures, (sym (n .0), (sym (n .1), (λ e. absurd (omega (arith, e))))))
+    let r = c .before .refusal .result in
+    let not-sent : (r ≡ 0 → ⊥) = λ e. omega (arith, e) in (
+      c .before .refusal .ensures,
+      (
+        record { sent = λ e. absurd (not-sent e); kept = λ e. refl },
+        (
+          sym (refused-leaves r (s .kind) (s .grade) (s .free) (s .number) (s .message .now) not-sent),
+          (λ e. absurd (not-sent e)),
+        ),
+      ),
+    )
 
--- past the first four tests a frame can be written
-passed : (c : tie.Else1) → let s = c .before .before .before .args in Fits (s .kind) (s .grade) (s .message .now) (length (s .frame .now))
+-- past the tests it is a message whose free bits are 0
+accepted : (c : tie.Else1) → c .before .refusal .result ≡ 0
+accepted c = omega (arith, c .if1 .left)
+
+passed : (c : tie.Else1) → let s = c .before .before .before .args in Sendable (s .kind) (s .grade) (s .free) (s .message .now) (length (s .frame .now))
 passed c =
     let s = c .before .before .before .args in
-    let r = c .before .refusal .ensures in
-    fits (s .kind) (s .grade) (s .message .now) (length (s .frame .now))
-    (λ e. omega (arith, e, r)) (λ e. omega (arith, e, r)) (λ e. omega (arith, e, r)) (λ e. omega (arith, e, r))
+    accepted-exactly (s .kind) (s .grade) (s .free) (s .message .now) (length (s .frame .now))
+    (λ j. c .before .before .shared-slice-known .given j .fits) .sendable (sym (c .before .refusal .ensures) ∙ accepted c)
 
 write-sent-requires : tie.Need-write-sent-requires
 write-sent-requires c κs =
     let s = c .before .before .before .before .args in
     let a = passed (c .before) in
-    (a .kind, grade-low (s .grade) (a .grade), grade-high (s .grade) (a .grade), a .long, a .positions)
+    (a .kind, grade-low (s .grade) (a .grade), grade-high (s .grade) (a .grade), free-few (s .free) (a .few), a .message, a .coordinates)
 
 same-length : tie.Need-same-length
 same-length c = search needs
@@ -42,14 +53,14 @@ returns-2 c =
     let d = c .before .before .before in
     let s = d .before .before .before .args in
     let a = passed d in
-    let f = c .before .write-sent .ensures in
-    let t = sent-leaves (d .before .refusal .result) (s .kind) (s .grade) (s .number) (s .message .now) (s .frame .now) (omega arith) in (
+    let f = c .before .write-sent .ensures in (
       d .before .refusal .ensures,
       (
-        f .0 ∙ sym (t .0),
+        record { sent = λ e. f .0; kept = λ e. absurd (e (accepted d)) },
         (
-          f .1 .0 ∙ sym (t .1),
-          (λ e. least-energy (s .kind) (s .grade) (a .kind) (grade-low (s .grade) (a .grade)) (s .number) (s .message .now) _ _ (f .0) (f .1 .0)),
+          f .1 .0 ∙ sym (sent-leaves (d .before .refusal .result) (s .kind) (s .grade) (s .free) (s .number) (s .message .now) (accepted d)),
+          (λ e. quiet-least (s .kind) (s .grade) (s .free) (s .number) (a .kind) (grade-low (s .grade) (a .grade)) (s .message .now) _ _ (f .0)
+              (f .1 .0 ∙ sym (quiet-energy (s .kind) (s .grade) (s .free) (s .number) (s .message .now) _ (f .0)))),
         ),
       ),
     )

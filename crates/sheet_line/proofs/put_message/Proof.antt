@@ -35,19 +35,19 @@ room-long : (c : tie.After-positions) → length (take (c .positions .result) ro
 room-long c = length-take-le (c .positions .result) room (few c)
 
 number : (c : tie.After-send)
-    → let s = c .before .before .before .before .before .args in c .send .result .number ≡ sendRefusal (s .kind) (s .grade) (s .message .now) (2 ^ s .kind)
+    → let s = c .before .before .before .before .before .args in c .send .result .number ≡ sendRefusal (s .kind) (s .grade) 0 (s .message .now) (2 ^ s .kind)
 number c =
     let p = c .before .before in
     let s = p .before .before .before .args in
-    c .send .ensures .0 ∙ ap (sendRefusal (s .kind) (s .grade) (s .message .now)) (room-long p ∙ p .positions .ensures)
+    c .send .ensures .0 ∙ ap (sendRefusal (s .kind) (s .grade) 0 (s .message .now)) (room-long p ∙ p .positions .ensures)
 
 -- what sending wrote
 abbrev written : tie.Else1 → List ℤ
-written c = c .before .before .before .send .last .1 .1 .1 .1 .0
+written c = c .before .before .before .send .last .1 .1 .1 .1 .1 .0
 
 no-refusal : (c : tie.Else1)
     → let p = c .before .before .before .before .before in
-    let s = p .before .before .before .args in sendRefusal (s .kind) (s .grade) (s .message .now) (length (take (p .positions .result) room)) ≡ 0
+    let s = p .before .before .before .args in sendRefusal (s .kind) (s .grade) 0 (s .message .now) (length (take (p .positions .result) room)) ≡ 0
 no-refusal c = sym (c .before .before .before .send .ensures .0) ∙ c .if1 .left
 
 sent : (c : tie.Else1)
@@ -65,7 +65,7 @@ written-long : (c : tie.Else1) → length (written c) ≡ c .before .before .bef
 written-long c =
     let p = c .before .before .before .before .before in
     let s = p .before .before .before .args in
-    let a = all-passed (s .kind) (s .grade) (s .message .now) (length (take (p .positions .result) room)) (no-refusal c) in
+    let a = all-passed (s .kind) (s .grade) 0 (s .message .now) (length (take (p .positions .result) room)) (no-refusal c) in
     ap length (sent c .0) ∙ sent-length (s .kind) (s .grade) (a .kind) (grade-low (s .grade) (a .grade)) (s .number) (s .message .now) ∙ sym (p .positions .ensures)
 
 -- and it is read there again

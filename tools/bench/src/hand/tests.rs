@@ -3,7 +3,7 @@
 use super::refusal::{BROKEN_LEVEL_0, BROKEN_LEVEL_1, BROKEN_LEVEL_2};
 use super::*;
 use crate::random::Random;
-use second_coder::{account, class, frame, near, random, vectors};
+use second_coder::{account, class, frame, free, near, random, vectors};
 
 /// The blocks of x that are sent under even and odd numbers, by the hand-tuned coder.
 fn both(x: &[i64; 8], k: u32) -> [[i64; 8]; 2] {
@@ -220,6 +220,106 @@ fn messages() {
 #[ignore]
 fn a_million_messages() {
     check_messages(1_000_000, 2);
+}
+
+/// Compares the readings with a free count of a frame, openly and strictly under a number and one of the other rule.
+fn check_free_readings(kind: u8, grade: u8, number: u32, bits: u8, frame: &[i32], bytes: usize) {
+    let second = free::read_open(kind, grade, bits, &wide(frame), bytes);
+    check_reading(frame, bytes, |message| read_open_free(kind, grade, bits, frame, message), second);
+    for number in [number, number ^ 1] {
+        let second = free::read_strict(kind, grade, number, bits, &wide(frame), bytes);
+        check_reading(frame, bytes, |message| read_strict_free(kind, grade, number, bits, frame, message), second);
+    }
+}
+
+/// Sends with free bits, alone and with an account: one of the frames that may be sent, and no other; reads those of all fillings, and
+/// damaged ones.
+fn check_free(rounds: usize, seed: u64) {
+    let mut own = Random(seed);
+    let mut random = random::Random::new(seed);
+    for round in 0..rounds {
+        let (kind, grade, bits) = (3 + (round % 4) as u8, 1 + (round / 4 % 4) as u8, (round / 16 % 5) as u8);
+        let format = frame::Format::new(kind, grade).unwrap();
+        let message = match own.below(3) {
+            0 => vectors::dense(&format, &mut random),
+            1 => vectors::edge(&format, &mut random),
+            _ => vectors::with_bits(&format, &[own.below(format.message_bits() as u64) as usize]),
+        };
+        // Where a free bit is left as it is, the message may be refused.
+        let message = if own.below(8) == 0 { message } else { free::cleared(&format, bits, &message) };
+        let account =
+            Account { count: own.below(9) as u32, sum: 0.25, largest: own.below(200), changeover: own.below(9) as u32 };
+        let (mut sent, mut counted, mut grown) = (vec![77; format.length()], vec![77; format.length()], account);
+        let number = account.number();
+        let answer = send_free(kind, grade, number, bits, &message, &mut sent);
+        assert_eq!(send_counted_free(kind, grade, bits, &message, &mut counted, &mut grown), answer);
+        let second = account::Account {
+            count: account.count,
+            sum: 0.25,
+            largest: account.largest,
+            changeover: account.changeover,
+        };
+        match free::send_counted(kind, grade, bits, &message, format.length(), second) {
+            Ok((fillings, after)) => {
+                assert_eq!(answer, Ok(fillings.energy()));
+                assert!(
+                    fillings.permits(&wide(&sent)) && fillings.permits(&wide(&counted)),
+                    "{kind} {grade} {bits} {message:?}"
+                );
+                let figures = Account {
+                    count: after.count,
+                    sum: after.sum,
+                    largest: after.largest,
+                    changeover: after.changeover,
+                };
+                assert_eq!(grown, figures);
+                for filling in &fillings.0 {
+                    let frame: Vec<i32> = filling.frame.iter().map(|&x| x as i32).collect();
+                    check_free_readings(kind, grade, number, bits, &frame, message.len());
+                }
+                let frame = damaged(&sent, format.scale() as i32, &mut own);
+                check_free_readings(kind, grade, number, bits, &frame, message.len());
+            }
+            Err(number) => {
+                assert_eq!((answer, grown), (Err(number), account));
+                assert!(sent.iter().chain(&counted).all(|x| *x == 77));
+            }
+        }
+    }
+}
+
+#[test]
+fn free_bits() {
+    check_free(4_000, 6);
+}
+
+/// A few minutes; run with `--ignored`.
+#[test]
+#[ignore]
+fn many_free_bits() {
+    check_free(200_000, 7);
+}
+
+#[test]
+fn lengths_and_free_counts() {
+    let mut random = Random(8);
+    for _ in 0..20_000 {
+        let (kind, grade, bits) =
+            (2 + random.below(6) as u8, random.below(6) as u8, [0, 1, 4, 5, 6, 255][random.below(6) as usize]);
+        let (length, bytes) = (1 << random.below(7), random.below(48) as usize);
+        let mut message = vec![0; bytes];
+        random.fill(&mut message);
+        let number = random.word() as u32;
+        let mut sent = vec![77; length];
+        let answer = send_free(kind, grade, number, bits, &message, &mut sent);
+        match free::send_into(kind, grade, number, bits, &message, length) {
+            Ok(fillings) => assert!(answer == Ok(fillings.energy()) && fillings.permits(&wide(&sent))),
+            Err(number) => assert_eq!((answer, sent), (Err(number), vec![77; length])),
+        }
+        let frame: Vec<i32> = (0..length).map(|_| random.below(2) as i32 * 2_097_154 - 1_048_577).collect();
+        check_free_readings(kind, grade, number, bits, &frame, bytes);
+        check_free_readings(kind, grade, number, bits, &vec![0; length], bytes);
+    }
 }
 
 #[test]

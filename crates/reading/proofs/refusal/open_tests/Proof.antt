@@ -7,13 +7,14 @@ use native.Mathlib.Omega.{arith}
 use lib.IntN.{ℤ}
 use lib.ListN.{length}
 use borrow.Author.Needs.{needs}
-use borrow.Author.Tests.{not-true, not-false}
+use borrow.Author.Tests.{not-true, not-false, le-leb}
 use Rattle.e8.specs.Energy.{isWithin}
 use Rattle.e8.proofs.Within.{within-to, test-within}
 use Rattle.frames.specs.Kind.{isKind, isGrade, degrees, messageBytes}
+use Rattle.frames.specs.Free.{isFreeCount}
 use Rattle.frames.specs.Reading.{inRange, openRefusal}
 use Rattle.frames.proofs.Rows.{grade-high}
-use Rattle.frames.proofs.Refusals.{good-row, wrong-row, within-range, levels-decide}
+use Rattle.frames.proofs.Refusals.{good-row, wrong-row, within-range, levels-decide, many-open}
 use Rattle.reading.specs.Words.{noWords, wordsAfter}
 use Rattle.frame_levels.specs.Words.{brokenIn}
 use Rattle.reading.proofs.Answers.{by-4, by-3, by-6}
@@ -30,45 +31,74 @@ none-by number words k f e n = e ∙ words-none number k f n
 small-enough : (B : ℕ) (f : List ℤ) → isWithin B f ≡ true → B ≤ 1048576 → inRange f ≡ true
 small-enough B f e h = within-range f (within-to B 1048576 f h (test-within B f e))
 
+-- a free count up to 4
+few-enough : (f : ℕ) → f ≤ 4 → isFreeCount f ≡ true
+unfolding isFreeCount
+few-enough f h = le-leb f 4 h
+
 -- ---- the tests that were passed, one after the other
 
-abbrev start1 : tie.Else1 → tie.Start
-start1 c = c .before .before
+-- 1 and 2
+module _ (c : tie.Else1) where
+  abbrev s : tie.Start
+  s = c .before .before
 
-abbrev start2 : tie.Else2 → tie.Start
-start2 c = start1 (c .before .before)
+  abbrev k : ℕ
+  k = s .args .kind
 
-abbrev start3 : tie.Else3 → tie.Start
-start3 c = start2 (c .before .before)
+  abbrev b : ℕ
+  b = s .args .grade
 
-abbrev start4 : tie.Else4 → tie.Start
-start4 c = start3 (c .before .before)
+  abbrev f : ℕ
+  f = s .args .free
 
-good : (c : tie.Else1) → (isKind (start1 c .args .kind) ≡ true) × (isGrade (start1 c .args .grade) ≡ true)
-good c = good-row (start1 c .args .kind) (start1 c .args .grade) (sym (c .before .refusal .ensures) ∙ c .if1 .left)
+  abbrev frame : List ℤ
+  frame = s .args .frame .now
 
-p4 : (c : tie.Else2) → length (start2 c .args .frame .now) ≡ 2 ^ start2 c .args .kind
-p4 c = c .if2 .left ∙ c .before .positions .ensures
+  good : (isKind k ≡ true) × (isGrade b ≡ true)
+  good = good-row k b (sym (c .before .refusal .ensures) ∙ c .if1 .left)
 
-p3 : (c : tie.Else3) → start3 c .args .n ≡ messageBytes (start3 c .args .kind) (start3 c .args .grade)
-p3 c = c .if3 .left ∙ c .before .message-bytes .ensures
+-- 17
+module _ (c : tie.Else2) where
+  abbrev e1 : tie.Else1
+  e1 = c .before .before
 
-p6 : (c : tie.Else4) → inRange (start4 c .args .frame .now) ≡ true
-p6 c = small-enough _ (start4 c .args .frame .now) (sym (c .before .within .ensures) ∙ not-false (c .before .within .result) (c .if4 .left)) (omega arith)
+  p17 : isFreeCount (f e1) ≡ true
+  p17 = few-enough (f e1) (omega (arith, c .if2 .left))
 
--- the number of the levels is the answer
-levels-answer : (c : tie.After-broken-level)
-    → let a = start4 (c .before .before) .args in c .broken-level .result ≡ openRefusal (a .kind) (a .grade) (a .frame .now) (a .n)
+-- 4
+module _ (c : tie.Else3) where
+  abbrev e2 : tie.Else2
+  e2 = c .before
+
+  p4 : length (frame (e1 e2)) ≡ 2 ^ k (e1 e2)
+  p4 = omega (arith, c .if3 .left, e2 .before .positions .ensures)
+
+-- 3
+module _ (c : tie.Else4) where
+  abbrev e3 : tie.Else3
+  e3 = c .before .before
+
+  p3 : s (e1 (e2 e3)) .args .n ≡ messageBytes (k (e1 (e2 e3))) (b (e1 (e2 e3)))
+  p3 = c .if4 .left ∙ c .before .message-bytes .ensures
+
+-- 6
+module _ (c : tie.Else5) where
+  abbrev e4 : tie.Else4
+  e4 = c .before .before
+
+  abbrev at1 : tie.Else1
+  at1 = e1 (e2 (e3 e4))
+
+  p6 : inRange (frame at1) ≡ true
+  p6 = small-enough _ (frame at1) (sym (c .before .within .ensures) ∙ not-false (c .before .within .result) (c .if5 .left)) (omega arith)
+
+levels-answer : (c : tie.After-broken-level) → let a = at1 (c .before .before) in c .broken-level .result ≡ openRefusal (k a) (b a) (f a) (frame a) (s a .args .n)
 levels-answer c =
-    let w = c .before in
-    let g = w .before in
-    let h = g .before .before in
-    let e = h .before .before in
-    let row = good (e .before .before) in
-    let a = start4 g .args in
-    c .broken-level .ensures ∙ ap (brokenIn (a .kind) 0 (degrees (a .kind))) (w .level-words .ensures)
-    ∙ broken-words (a .kind) (row .0) (a .frame .now)
-    ∙ sym (levels-decide (a .kind) (a .grade) (a .frame .now) (a .n) (row .0) (row .1) (p4 e) (p3 h) (p6 g))
+    let g = c .before .before in
+    let a = at1 g in
+    c .broken-level .ensures ∙ ap (brokenIn (k a) 0 (degrees (k a))) (c .before .level-words .ensures) ∙ broken-words (k a) (good a .0) (frame a)
+    ∙ sym (levels-decide (k a) (b a) (f a) (frame a) (s a .args .n) (good a .0) (good a .1) (p17 (e2 (e3 (e4 g)))) (p4 (e3 (e4 g))) (p3 (e4 g)) (p6 g))
 
 refusal-requires : tie.Need-refusal-requires
 refusal-requires c κs = search needs
@@ -96,15 +126,11 @@ refused-requires-2 c κs = search needs
 returns-2 : tie.Need-returns-2
 returns-2 c =
     let t = c .before in
-    let d = t .before .before in
-    let a = start1 d .args in
+    let a = t .before .before in
     let e = c .refused2 .ensures in (
-      e .0 ∙ by-4 (a .kind) (a .grade) (a .n) (a .frame .now) (good d) (λ q. t .if2 .taken (q ∙ sym (t .before .positions .ensures))),
-      none-by (c .refused2 .result .number) (c .refused2 .result .words) (a .kind) (a .frame .now) (e .1) (λ z. omega (arith, e .0, z)),
+      e .0 ∙ sym (many-open (k a) (b a) (f a) (frame a) (s a .args .n) (good a .0) (good a .1) (omega (arith, t .if2 .taken))),
+      none-by (c .refused2 .result .number) (c .refused2 .result .words) (k a) (frame a) (e .1) (λ z. omega (arith, e .0, z)),
     )
-
-message-bytes-requires : tie.Need-message-bytes-requires
-message-bytes-requires c κs = let g = good (c .before .before) in (g .0, grade-high _ (g .1))
 
 refused-requires-3 : tie.Need-refused-requires-3
 refused-requires-3 c κs = search needs
@@ -112,63 +138,70 @@ refused-requires-3 c κs = search needs
 returns-3 : tie.Need-returns-3
 returns-3 c =
     let t = c .before in
-    let h = t .before .before in
-    let d = h .before .before in
-    let a = start2 h .args in
+    let h = t .before in
+    let a = e1 h in
     let e = c .refused3 .ensures in (
-      e .0 ∙ by-3 (a .kind) (a .grade) (a .n) (a .frame .now) (good d) (p4 h) (λ q. t .if3 .taken (q ∙ sym (t .before .message-bytes .ensures))),
-      none-by (c .refused3 .result .number) (c .refused3 .result .words) (a .kind) (a .frame .now) (e .1) (λ z. omega (arith, e .0, z)),
+      e .0 ∙ by-4 (k a) (b a) (f a) (s a .args .n) (frame a) (good a) (p17 h) (λ q. t .if3 .taken (q ∙ sym (h .before .positions .ensures))),
+      none-by (c .refused3 .result .number) (c .refused3 .result .words) (k a) (frame a) (e .1) (λ z. omega (arith, e .0, z)),
     )
 
-within-requires : tie.Need-within-requires
-within-requires c κs = omega arith
+message-bytes-requires : tie.Need-message-bytes-requires
+message-bytes-requires c κs = let g = good (e1 (e2 c)) in (g .0, grade-high _ (g .1))
 
 refused-requires-4 : tie.Need-refused-requires-4
 refused-requires-4 c κs = search needs
 
 returns-4 : tie.Need-returns-4
-unfolding inRange
 returns-4 c =
     let t = c .before in
     let h = t .before .before in
-    let g = h .before .before in
-    let d = g .before .before in
-    let a = start3 h .args in
+    let a = e1 (e2 h) in
     let e = c .refused4 .ensures in (
-      e .0 ∙ by-6 (a .kind) (a .grade) (a .n) (a .frame .now) (good d) (p4 g) (p3 h)
-          (sym (t .before .within .ensures) ∙ not-true (t .before .within .result) (t .if4 .taken)),
-      none-by (c .refused4 .result .number) (c .refused4 .result .words) (a .kind) (a .frame .now) (e .1) (λ z. omega (arith, e .0, z)),
+      e .0 ∙ by-3 (k a) (b a) (f a) (s a .args .n) (frame a) (good a) (p17 (e2 h)) (p4 h) (λ q. t .if4 .taken (q ∙ sym (t .before .message-bytes .ensures))),
+      none-by (c .refused4 .result .number) (c .refused4 .result .words) (k a) (frame a) (e .1) (λ z. omega (arith, e .0, z)),
     )
 
-level-words-requires : tie.Need-level-words-requires
-level-words-requires c κs =
-    let e = c .before .before .before .before in
-    (good (e .before .before) .0, p4 e)
-
-broken-level-requires : tie.Need-broken-level-requires
-broken-level-requires c κs =
-    let e = c .before .before .before .before .before in
-    good (e .before .before) .0
+within-requires : tie.Need-within-requires
+within-requires c κs = omega arith
 
 refused-requires-5 : tie.Need-refused-requires-5
 refused-requires-5 c κs = search needs
 
 returns-5 : tie.Need-returns-5
+unfolding inRange
 returns-5 c =
     let t = c .before in
-    let a = start4 (t .before .before .before) .args in
+    let h = t .before .before in
+    let a = e1 (e2 (e3 h)) in
     let e = c .refused5 .ensures in (
-      e .0 ∙ levels-answer (t .before),
-      none-by (c .refused5 .result .number) (c .refused5 .result .words) (a .kind) (a .frame .now) (e .1) (λ z. t .if5 .taken (sym (e .0) ∙ z)),
+      e .0 ∙ by-6 (k a) (b a) (f a) (s a .args .n) (frame a) (good a) (p17 (e2 (e3 h))) (p4 (e3 h)) (p3 h)
+          (sym (t .before .within .ensures) ∙ not-true (t .before .within .result) (t .if5 .taken)),
+      none-by (c .refused5 .result .number) (c .refused5 .result .words) (k a) (frame a) (e .1) (λ z. omega (arith, e .0, z)),
     )
+
+level-words-requires : tie.Need-level-words-requires
+level-words-requires c κs = (good (at1 c) .0, p4 (e3 (e4 c)))
+
+broken-level-requires : tie.Need-broken-level-requires
+broken-level-requires c κs = good (at1 (c .before)) .0
+
+refused-requires-6 : tie.Need-refused-requires-6
+refused-requires-6 c κs = search needs
 
 returns-6 : tie.Need-returns-6
 returns-6 c =
-    let b = c .before in
-    let a = start4 (b .before .before) .args in (
-      levels-answer b,
-      b .before .level-words .ensures ∙ words-given (b .broken-level .result) (a .kind) (a .frame .now) (c .if5 .left),
+    let t = c .before in
+    let a = at1 (t .before .before .before) in
+    let e = c .refused6 .ensures in (
+      e .0 ∙ levels-answer (t .before),
+      none-by (c .refused6 .result .number) (c .refused6 .result .words) (k a) (frame a) (e .1) (λ z. t .if6 .taken (sym (e .0) ∙ z)),
     )
+
+returns-7 : tie.Need-returns-7
+returns-7 c =
+    let r = c .before in
+    let a = at1 (r .before .before) in
+    (levels-answer r, r .before .level-words .ensures ∙ words-given (r .broken-level .result) (k a) (frame a) (c .if6 .left))
 
 pub open-tests-spec : {M : Type 1} → statement M
 open-tests-spec =
@@ -180,14 +213,16 @@ open-tests-spec =
     positions-requires
     refused-requires-2
     returns-2
-    message-bytes-requires
     refused-requires-3
     returns-3
-    within-requires
+    message-bytes-requires
     refused-requires-4
     returns-4
-    level-words-requires
-    broken-level-requires
+    within-requires
     refused-requires-5
     returns-5
-    returns-6)
+    level-words-requires
+    broken-level-requires
+    refused-requires-6
+    returns-6
+    returns-7)

@@ -11,28 +11,32 @@ use Rattle.e8.proofs.Within.{within-to}
 use Rattle.frames.specs.Kind.{levels, blocks}
 use Rattle.frames.specs.Frame.{half, isOdd}
 use Rattle.frames.specs.Sending.{unless}
-use Rattle.frames.specs.Reading.{sameFrame, openRefusal}
+use Rattle.frames.specs.Reading.{sameFrame, openRefusal, isSent}
 use Rattle.frames.proofs.Rows.{grade-low, grade-high}
 use Rattle.frames.proofs.Limits.{few-levels}
 use Rattle.frames.proofs.Refusals.{range-within, Accepted, accepted}
-use Rattle.frames.proofs.Reading.{strict-by-least}
+use Rattle.frames.proofs.Reading.{sent-is-least, taken-in-set}
 use Rattle.reading.specs.Numbers.{refusalOf}
-use Rattle.reading.proofs.Answers.{as-open}
+use Rattle.reading.proofs.Answers.{as-open, sent-decides}
 use Rattle.reading.proofs.Words.{words-none}
 use Rattle.reading.proofs.refusal.tests.Statement.{statement}
 use Rattle.reading.proofs.refusal.tests.Tie as tie
 
 -- the number of either reading, past the tests of the open one
-module _ (k b : ℕ) (f : List ℤ) (n : ℕ) where
-  open-one : (which : ℕ) → which ≡ 0 → openRefusal k b f n ≡ refusalOf which k b f n
-  open-one which e = ap (λ (x : ℕ). refusalOf x k b f n) (sym e)
+module _ (k b f : ℕ) (frame : List ℤ) (n : ℕ) where
+  open-one : (which : ℕ) → which ≡ 0 → openRefusal k b f frame n ≡ refusalOf which k b f frame n
+  open-one which e = ap (λ (x : ℕ). refusalOf x k b f frame n) (sym e)
 
-  strict-one : (which : ℕ) → (which ≡ 0 → ⊥) → openRefusal k b f n ≡ 0
-      → refusalOf which k b f n ≡ unless (sameFrame f (leastFrameBy (isOdd (which - 1)) (half k b) (blocks k) f)) 9 0
+  strict-one : (which : ℕ) → (which ≡ 0 → ⊥) → openRefusal k b f frame n ≡ 0
+      → refusalOf which k b f frame n ≡ unless (sameFrame frame (leastFrameBy (isOdd (which - 1)) (half k b) (blocks k) frame)) 9 0
+  unfolding isSent
   strict-one zero e h = absurd (e refl)
   strict-one (suc number) e h =
       let p : number ≡ suc number - 1 = omega arith in
-      strict-by-least k b number f n h ∙ ap (λ (m : ℕ). unless (sameFrame f (leastFrameBy (isOdd m) (half k b) (blocks k) f)) 9 0) p
+      let a = accepted k b f frame n h in
+      sent-decides k b f number frame n h
+      ∙ ap (λ (g : List ℤ). unless (sameFrame frame g) 9 0) (sent-is-least k b (a .kind) (a .grade) number frame (taken-in-set k b f frame n h))
+      ∙ ap (λ (m : ℕ). unless (sameFrame frame (leastFrameBy (isOdd m) (half k b) (blocks k) frame)) 9 0) p
 
 -- no refusal by the open reading
 module _ (c : tie.Else1) where
@@ -42,11 +46,11 @@ module _ (c : tie.Else1) where
   abbrev start : tie.Start
   start = called .before
 
-  none : openRefusal (start .args .kind) (start .args .grade) (start .args .frame .now) (start .args .n) ≡ 0
+  none : let s = start .args in openRefusal (s .kind) (s .grade) (s .free) (s .frame .now) (s .n) ≡ 0
   none = sym (called .open-tests .ensures .0) ∙ c .if1 .left
 
-  a : Accepted (start .args .kind) (start .args .grade) (start .args .frame .now) (start .args .n)
-  a = accepted (start .args .kind) (start .args .grade) (start .args .frame .now) (start .args .n) none
+  a : let s = start .args in Accepted (s .kind) (s .grade) (s .free) (s .frame .now) (s .n)
+  a = let s = start .args in accepted (s .kind) (s .grade) (s .free) (s .frame .now) (s .n) none
 
   small : levels (start .args .kind) + start .args .grade ≤ 7
   small = omega (arith, few-levels (start .args .kind) (a .kind), grade-high (start .args .grade) (a .grade))
@@ -64,12 +68,12 @@ tested c =
 
 -- a strict reading's number
 number : (c : tie.After-is-least) → let s = start (c .before .before .before .before) .args in
-    refusalOf (s .which) (s .kind) (s .grade) (s .frame .now) (s .n) ≡ unless (c .is-least .result) 9 0
+    refusalOf (s .which) (s .kind) (s .grade) (s .free) (s .frame .now) (s .n) ≡ unless (c .is-least .result) 9 0
 number c =
     let e = c .before .before .before in
     let d = e .before in
     let s = start d .args in
-    strict-one (s .kind) (s .grade) (s .frame .now) (s .n) (s .which) (e .if2 .left) (none d)
+    strict-one (s .kind) (s .grade) (s .free) (s .frame .now) (s .n) (s .which) (e .if2 .left) (none d)
     ∙ ap (λ (t : Bool). unless t 9 0) (sym (tested c))
 
 open-tests-requires : tie.Need-open-tests-requires
@@ -79,14 +83,14 @@ returns : tie.Need-returns
 returns c =
     let o = c .before .open-tests .ensures in
     let s = c .before .before .args in
-    (o .0 ∙ as-open (s .kind) (s .grade) (s .frame .now) (s .n) (s .which) (λ z. c .if1 .taken (o .0 ∙ z)), o .1)
+    (o .0 ∙ as-open (s .kind) (s .grade) (s .free) (s .frame .now) (s .n) (s .which) (λ z. c .if1 .taken (o .0 ∙ z)), o .1)
 
 returns-2 : tie.Need-returns-2
 returns-2 c =
     let d = c .before in
     let s = start d .args in
     let o = called d .open-tests .ensures in
-    (o .0 ∙ open-one (s .kind) (s .grade) (s .frame .now) (s .n) (s .which) (c .if2 .taken), o .1)
+    (o .0 ∙ open-one (s .kind) (s .grade) (s .free) (s .frame .now) (s .n) (s .which) (c .if2 .taken), o .1)
 
 levels-requires : tie.Need-levels-requires
 levels-requires c κs = a (c .before) .kind

@@ -26,7 +26,7 @@ returns c =
     let u = t .before .before .before in
     let s = u .before .before .args in
     let e = t .coder-send .ensures in
-    let d = decoded-sending (s .kind) (s .grade) (s .number) (s .message .now) (length (s .frame .now)) (c .answer .ensures) (toZ-ofZ (record { sfits = t .coder-send .ok }) ∙ e .0) in
+    let d = decoded-sending (s .kind) (s .grade) 0 (s .number) (s .message .now) (length (s .frame .now)) (c .answer .ensures) (toZ-ofZ (record { sfits = t .coder-send .ok }) ∙ e .0) in
     sent (s .function) (s .kind) (s .grade) (s .number) (s .message .now) (s .frame .now) (s .account) _ _ (u .if1 .taken) d refl (e .1 .0) refl
 
 coder-read-open-requires : tie.Need-coder-read-open-requires
@@ -47,7 +47,7 @@ returns-2 c =
     let u = t .before .before .before in
     let s = u .before .before .before .args in
     let e = t .coder-read-open .ensures in
-    let d = decoded-open (s .kind) (s .grade) (s .frame .now) (length (s .message .now)) (c .answer2 .ensures) (toZ-ofZ (record { sfits = t .coder-read-open .ok }) ∙ e .0) in
+    let d = decoded-open (s .kind) (s .grade) 0 (s .frame .now) (length (s .message .now)) (c .answer2 .ensures) (toZ-ofZ (record { sfits = t .coder-read-open .ok }) ∙ e .0) in
     read-openly (s .function) (s .kind) (s .grade) (s .number) (s .message .now) (s .frame .now) (s .account) _ _ (u .if2 .taken) d refl (e .1) refl
 
 coder-read-strict-requires : tie.Need-coder-read-strict-requires
@@ -68,7 +68,7 @@ returns-3 c =
     let u = t .before .before .before in
     let s = u .before .before .before .before .args in
     let e = t .coder-read-strict .ensures in
-    let d = decoded-strict (s .kind) (s .grade) (s .number) (s .frame .now) (length (s .message .now)) (c .answer3 .ensures) (toZ-ofZ (record { sfits = t .coder-read-strict .ok }) ∙ e .0) in
+    let d = decoded-strict (s .kind) (s .grade) 0 (s .number) (s .frame .now) (length (s .message .now)) (c .answer3 .ensures) (toZ-ofZ (record { sfits = t .coder-read-strict .ok }) ∙ e .0) in
     read-strictly (s .function) (s .kind) (s .grade) (s .number) (s .message .now) (s .frame .now) (s .account) _ _ (u .if3 .taken) d refl (e .1) refl
 
 send-counted-requires : tie.Need-send-counted-requires

@@ -51,8 +51,8 @@ module _ (t : ℕ) (c : in-turn-lts.After-send-counted (send-counted-reads.Asked
   abbrev first : in-turn-lts.Else1 (send-counted-reads.Asked, send-counted-reads.Learnt, in-turn-below t, in-turn.Post) (in-turn-at t) in-turn.Post
   first = c .before .before .before
 
-  as-long : length (c .send-counted .last .1 .1 .1 .0) ≡ start t first .args .n
-  as-long = c .send-counted .kept .1 .1 .1 .0 ∙ mid-len 0 (start t first .args .n) (start t first .args .frames .now) (inside t first) ∙ sub-zero _
+  as-long : length (c .send-counted .last .1 .1 .1 .1 .0) ≡ start t first .args .n
+  as-long = c .send-counted .kept .1 .1 .1 .1 .0 ∙ mid-len 0 (start t first .args .n) (start t first .args .frames .now) (inside t first) ∙ sub-zero _
 
 in-turn-returns : (t : ℕ) → in-turn-lts.Need-returns (
   send-counted-reads.Asked,

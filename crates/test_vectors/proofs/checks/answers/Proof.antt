@@ -86,7 +86,7 @@ returns-5 c =
     let out = a .before .mark-bytes .result in
     let x = t .read .last .1 .1 .1 .0 in
     let refuses : r .number ≡ 0 → ⊥ = λ z. e .if3 .left (sym (e .before .if2 .left) ∙ z) in
-    let stays = t .read .ensures .1 .0 ∙ as-lent (r .number) (s .u .kind) (s .u .grade) (s .frame .now) (take (s .n - 0) out) refuses in
+    let stays = t .read .ensures .1 .0 ∙ as-lent (r .number) (s .u .kind) (s .u .grade) 0 (s .frame .now) (take (s .n - 0) out) refuses in
     let all = ap (putMid 0 (s .n - 0) out) stays ∙ put-same 0 (s .n - 0) out ∙ a .before .mark-bytes .ensures .0 ∙ sym (a .mark-bytes2 .ensures .0) in
     c .same-bytes .ensures ∙ sym (bytes-equal all)
     ∙ that-number (s .strict) (s .u) (s .frame .now) (s .n) (s .number) (t .before .before .if1 .left) (r .number) (number-is t) (e .before .if2 .left)

@@ -26,16 +26,16 @@ lent t =
     mid-len 0 n (o .marks .result) (omega (arith, o .marks .ensures .1))
 
 number-is : (t : tie.After-send) → (let s = t .before .before .before .before .before .args in
-    t .send .result .number ≡ sendRefusal (s .u .kind) (s .u .grade) (s .message .now) (length (s .frame .now)))
+    t .send .result .number ≡ sendRefusal (s .u .kind) (s .u .grade) 0 (s .message .now) (length (s .frame .now)))
 number-is t =
     let s = t .before .before .before .before .before .args in
     let n = length (s .frame .now) in
     let e : n - 0 ≡ n = omega arith in
-    t .send .ensures .0 ∙ ap (sendRefusal (s .u .kind) (s .u .grade) (s .message .now)) (lent t ∙ e)
+    t .send .ensures .0 ∙ ap (sendRefusal (s .u .kind) (s .u .grade) 0 (s .message .now)) (lent t ∙ e)
 
 -- what is left of it is as long
-left : (t : tie.After-send) → length (t .send .last .1 .1 .1 .1 .0) ≡ length (t .before .before .before .before .before .args .frame .now) - 0
-left t = t .send .kept .1 .1 .1 .1 .0 ∙ lent t
+left : (t : tie.After-send) → length (t .send .last .1 .1 .1 .1 .1 .0) ≡ length (t .before .before .before .before .before .args .frame .now) - 0
+left t = t .send .kept .1 .1 .1 .1 .1 .0 ∙ lent t
 
 returns : tie.Need-returns
 returns c = let s = c .before .before .before .args in too-long (s .u) (s .message .now) (s .frame .now) (s .energy) (c .if1 .taken)
@@ -77,7 +77,7 @@ part-same-coordinates-end c =
     let t = c .before .before .before .before .before .before in
     let o = t .before .before .before in
     let n = length (t .before .before .before .before .before .args .frame .now) in
-    omega (arith, o .marks .ensures .1, same-len-mid 0 (n - 0) (o .marks .result) (t .send .last .1 .1 .1 .1 .0) (t .send .kept .1 .1 .1 .1 .0))
+    omega (arith, o .marks .ensures .1, same-len-mid 0 (n - 0) (o .marks .result) (t .send .last .1 .1 .1 .1 .1 .0) (t .send .kept .1 .1 .1 .1 .1 .0))
 
 same-coordinates-requires : tie.Need-same-coordinates-requires
 same-coordinates-requires c κs = search needs
@@ -90,7 +90,7 @@ returns-4 c =
     let r = t .send .result in
     let f = s .frame .now in
     let out = t .before .before .before .marks .result in
-    let x = t .send .last .1 .1 .1 .1 .0 in
+    let x = t .send .last .1 .1 .1 .1 .1 .0 in
     compared (s .u) (s .message .now) f (s .energy) (t .before .before .if1 .left) (r .number) (number-is t)
     (e .before .before .if2 .left) (r .energy) (t .send .ensures .1 .1 .0) (e .if3 .left) (c .same-coordinates .result) x (take (length f - 0) out)
     (t .send .ensures .1 .0) (c .same-coordinates .ensures ∙ ap (λ (y : List ℤ). sameFrame y f) (first-put (length f) out x (left t)))

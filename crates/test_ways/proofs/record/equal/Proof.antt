@@ -8,7 +8,8 @@ use mir.Val.{toZ, ofZ}
 use mir.Facts.{toZ-ofZ}
 use borrow.Author.Tests.{not-true, not-false}
 use Rattle.frames.specs.Reading.{sameFrame}
-use Rattle.answers.specs.Answer.{sendAnswer}
+use Rattle.free_bits.proofs.ReadBack.{whole-frame}
+use Rattle.answers.specs.Answer.{sendAnswer, wholeFrame}
 use Rattle.test_ways.proofs.Equal.{frames-differ, was-to-be-sent, left-as-lent, was-to-be-refused, as-it-has-to}
 use borrow.Author.Needs.{needs}
 use Rattle.test_ways.proofs.record.equal.Statement.{statement}
@@ -34,8 +35,15 @@ coder a = a .before .before .before .before
 answer : (q : tie.After-coder-send) → toZ w64 (ofZ w64 (q .coder-send .result)) ≡ q .coder-send .result
 answer q = toZ-ofZ (record { sfits = q .coder-send .ok })
 
+-- the frame that it leaves
+words-is : (q : tie.After-coder-send) → let s = q .before .before .before .args in
+    q .coder-send .last .1 .1 .1 .1 .1 .0 ≡ wholeFrame (s .kind) (s .grade) (s .number) (s .message .now) (s .words .now)
+words-is q =
+    let s = q .before .before .before .args in
+    whole-frame _ (s .kind) (s .grade) (s .number) (s .message .now) (s .words .now) _ (q .coder-send .ensures .1 .0)
+
 -- the frames came out the same
-same : (e₂ : tie.Else2) → sameFrame (coder (e₂ .before .before .before .before .before) .coder-send .last .1 .1 .1 .1 .0)
+same : (e₂ : tie.Else2) → sameFrame (coder (e₂ .before .before .before .before .before) .coder-send .last .1 .1 .1 .1 .1 .0)
     (e₂ .before .before .before .before .before .before .plain-send .last .1 .1 .1 .1 .0) ≡ true
 same e₂ = let t = e₂ .before in sym (t .same-coordinates .ensures) ∙ not-false (t .same-coordinates .result) (e₂ .if2 .left)
 
@@ -44,7 +52,7 @@ returns c =
     let a = c .before in
     let q = coder a in
     let s = q .before .before .before .args in
-    let z = q .coder-send .ensures .0 ∙ ap (sendAnswer (s .kind) (s .grade) (s .number) (s .message .now)) (q .before .before .before .pre)
+    let z = q .coder-send .ensures .0 ∙ ap (sendAnswer (s .kind) (s .grade) 0 (s .number) (s .message .now)) (q .before .before .before .pre)
     ∙ sym (a .before .plain-send .ensures .0) in
     absurd (c .if1 .taken (ap (ofZ w64) z))
 
@@ -63,9 +71,9 @@ returns-2 c =
     let a = t .before .before .before .before in
     let q = coder a in
     let s = q .before .before .before .args in (
-      frames-differ (s .sort) (s .kind) (s .grade) (s .number) (s .message .now) (s .words .now) (s .masks .now) (s .before .now) (q .coder-send .ensures .1 .0)
+      frames-differ (s .sort) (s .kind) (s .grade) (s .number) (s .message .now) (s .words .now) (s .masks .now) (s .before .now) (words-is q)
           (a .before .plain-send .ensures .1) (q .coder-send .ensures .0) (sym (t .same-coordinates .ensures) ∙ not-true (t .same-coordinates .result) (c .if2 .taken)),
-      (q .coder-send .ensures .1 .0, a .before .plain-send .ensures .1),
+      (words-is q, a .before .plain-send .ensures .1),
     )
 
 same-length-5 : tie.Need-same-length-5
@@ -81,9 +89,9 @@ returns-3 c =
     let a = t .before .before .before .before in
     let q = coder a in
     let s = q .before .before .before .args in (
-      was-to-be-sent (s .sort) (s .kind) (s .grade) (s .number) (s .message .now) (s .words .now) (s .masks .now) (s .before .now) (q .coder-send .ensures .1 .0)
+      was-to-be-sent (s .sort) (s .kind) (s .grade) (s .number) (s .message .now) (s .words .now) (s .masks .now) (s .before .now) (words-is q)
           (a .before .plain-send .ensures .1) (q .coder-send .ensures .0) (same e₂) (simp (answer q) at (c .before .if3 .taken)) (c .if4 .taken),
-      (q .coder-send .ensures .1 .0, a .before .plain-send .ensures .1),
+      (words-is q, a .before .plain-send .ensures .1),
     )
 
 same-coordinates-requires-2 : tie.Need-same-coordinates-requires-2
@@ -103,9 +111,9 @@ returns-4 c =
     let a = t .before .before .before .before in
     let q = coder a in
     let s = q .before .before .before .args in (
-      left-as-lent (s .sort) (s .kind) (s .grade) (s .number) (s .message .now) (s .words .now) (s .masks .now) (s .before .now) (q .coder-send .ensures .1 .0)
+      left-as-lent (s .sort) (s .kind) (s .grade) (s .number) (s .message .now) (s .words .now) (s .masks .now) (s .before .now) (words-is q)
           (a .before .plain-send .ensures .1) (q .coder-send .ensures .0) (same e₂) (simp (answer q) at (e₄ .before .if3 .taken)) (e₄ .if4 .left) (c .same-coordinates2 .ensures),
-      (q .coder-send .ensures .1 .0, a .before .plain-send .ensures .1),
+      (words-is q, a .before .plain-send .ensures .1),
     )
 
 same-length-9 : tie.Need-same-length-9
@@ -121,9 +129,9 @@ returns-5 c =
     let a = t .before .before .before .before in
     let q = coder a in
     let s = q .before .before .before .args in (
-      was-to-be-refused (s .sort) (s .kind) (s .grade) (s .number) (s .message .now) (s .words .now) (s .masks .now) (s .before .now) (q .coder-send .ensures .1 .0)
+      was-to-be-refused (s .sort) (s .kind) (s .grade) (s .number) (s .message .now) (s .words .now) (s .masks .now) (s .before .now) (words-is q)
           (a .before .plain-send .ensures .1) (q .coder-send .ensures .0) (same e₂) (simp (answer q) at (c .before .if3 .left)) (c .if5 .taken),
-      (q .coder-send .ensures .1 .0, a .before .plain-send .ensures .1),
+      (words-is q, a .before .plain-send .ensures .1),
     )
 
 same-length-11 : tie.Need-same-length-11
@@ -139,9 +147,9 @@ returns-6 c =
     let a = t .before .before .before .before in
     let q = coder a in
     let s = q .before .before .before .args in (
-      as-it-has-to (s .sort) (s .kind) (s .grade) (s .number) (s .message .now) (s .words .now) (s .masks .now) (s .before .now) (q .coder-send .ensures .1 .0)
+      as-it-has-to (s .sort) (s .kind) (s .grade) (s .number) (s .message .now) (s .words .now) (s .masks .now) (s .before .now) (words-is q)
           (a .before .plain-send .ensures .1) (q .coder-send .ensures .0) (same e₂) (simp (answer q) at (c .before .if3 .left)) (c .if5 .left),
-      (q .coder-send .ensures .1 .0, a .before .plain-send .ensures .1),
+      (words-is q, a .before .plain-send .ensures .1),
     )
 
 pub equal-spec : {M : Type 1} → statement M

@@ -1,0 +1,55 @@
+-- `read_sent`: a number and its remainder modulo 2 have one tie rule. Assumes nothing.
+use Prim.Native.Nat.{ℕ, suc, _+_, _%_}
+use mathlib.Core.Path.{_≡_, ap, _∙_}
+use mathlib.Core.Bool.{cond}
+use mathlib.Core.List.{List}
+use native.Mathlib.Nat.{mod-mod}
+use native.Mathlib.Omega.{arith}
+use lib.Dec.{eqb}
+use lib.IntN.{ℤ}
+use lib.ListN.{length}
+use borrow.Author.Needs.{needs}
+use Rattle.frames.specs.Frame.{isOdd}
+use Rattle.frames.specs.Sending.{unless}
+use Rattle.frames.specs.Reading.{sameFrame, openMessage, openRefusal, isSent}
+use Rattle.frames.proofs.Numbered.{same-rule}
+use Rattle.reading.specs.Numbers.{sentRefusal, refusalOf}
+use Rattle.reading.proofs.strict.read_sent.Statement.{statement}
+use Rattle.reading.proofs.strict.read_sent.Tie as tie
+
+one-rule : (number : ℕ) → isOdd (number % 2) ≡ isOdd number
+unfolding isOdd
+one-rule number = ap (λ (m : ℕ). eqb m 1) (mod-mod number 2)
+
+-- the reading under either of them
+module _ (k b f number : ℕ) (frame : List ℤ) (n : ℕ) where
+  same-reading : sentRefusal k b f (number % 2) frame n ≡ sentRefusal k b f number frame n
+  unfolding sentRefusal isSent
+  same-reading =
+      ap (λ (g : List ℤ). cond (eqb (openRefusal k b f frame n) 0) (unless (sameFrame frame g) 9 0) (openRefusal k b f frame n))
+      (same-rule k b (number % 2) number (openMessage k b frame) (one-rule number))
+
+  by-remainder : refusalOf (1 + number % 2) k b f frame n ≡ sentRefusal k b f number frame n
+  by-remainder = let e : 1 + number % 2 ≡ suc (number % 2) = omega arith in ap (λ (which : ℕ). refusalOf which k b f frame n) e ∙ same-reading
+
+cast-read : tie.Need-cast-read
+cast-read c = omega arith
+
+add-read : tie.Need-add-read
+add-read c = omega arith
+
+read-requires : tie.Need-read-requires
+read-requires c κs = search needs
+
+same-length : tie.Need-same-length
+same-length c = search needs
+
+returns : tie.Need-returns
+returns c =
+    let r = c .before .before in
+    let a = r .before .before .before .args in
+    let e = r .read .ensures in
+    (e .0 ∙ by-remainder (a .kind) (a .grade) (a .free) (a .number) (a .frame .now) (length (a .message .now)), e .1)
+
+pub read-sent-spec : {M : Type 1} → statement M
+read-sent-spec = tie.close (tie.spec cast-read add-read read-requires same-length returns)

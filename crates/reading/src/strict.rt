@@ -1,0 +1,58 @@
+// The strict reading: first the frame that is sent for the message it holds, then the other fillings of that.
+use super::Reading;
+use super::read;
+use quiet_test::is_quietest;
+ghost use mathlib.Core.Path.{_≡_};
+ghost use lib.ListN.{length};
+ghost use Rattle.frames.specs.Reading.{strictRefusal, messageAfter, energyRead};
+ghost use Rattle.reading.specs.Numbers.{sentRefusal};
+
+// The strict reading under a number as far as the frame's own message goes: no filling is compared. The remainder modulo 2, which is a number of the same
+// tie rule, goes with the choice of the reading in one byte: one argument fewer on the stack.
+pub fn read_sent(
+    kind: u8,
+    grade: u8,
+    number: u32,
+    free: u8,
+    frame: &[i32],
+    message: &mut [u8],
+) -> Reading
+    ensures number { λ r. ⌜ r .number ≡ sentRefusal kind grade free number (now (frame .entry)) (length (now (message .entry))) ⌝ }
+    ensures message { λ r. ⌜ now (message .exit) ≡ messageAfter (r .number) kind grade free (now (frame .entry)) (now (message .entry)) ⌝ }
+    ensures energy { λ r. ⌜ r .energy ≡ energyRead (r .number) (now (frame .entry)) ⌝ }
+{
+    read(1 + (number % 2) as u8, kind, grade, free, frame, message)
+}
+
+// The strict reading with free bits: the message is read into `own`, which is as long, and given where no filling of it has less energy. It is read a second
+// time and not copied: a message is written at one place of the code alone, which the compiler lays into `read`.
+pub fn read_quiet(
+    kind: u8,
+    grade: u8,
+    number: u32,
+    free: u8,
+    frame: &[i32],
+    own: &mut [u8],
+    message: &mut [u8],
+) -> Reading
+    requires { ⌜ length (now own) ≡ length (now message) ⌝ }
+    ensures number { λ r. ⌜ r .number ≡ strictRefusal kind grade free number (now (frame .entry)) (length (now (message .entry))) ⌝ }
+    ensures message { λ r. ⌜ now (message .exit) ≡ messageAfter (r .number) kind grade free (now (frame .entry)) (now (message .entry)) ⌝ }
+    ensures energy { λ r. ⌜ r .energy ≡ energyRead (r .number) (now (frame .entry)) ⌝ }
+    ensures own { λ r. ⌜ now (own .exit) ≡ messageAfter (sentRefusal kind grade free number (now (frame .entry)) (length (now (message .entry)))) kind grade free
+        (now (frame .entry)) (now (own .entry)) ⌝ }
+{
+    let r = read_sent(kind, grade, number, free, frame, own);
+    let refusal = r.number;
+    if refusal != 0 {
+        return r;
+    }
+    let energy = r.energy;
+    if !is_quietest(kind, grade, number, free, own, energy) {
+        return Reading {
+            number: 9,
+            energy: 0,
+        };
+    }
+    read(0, kind, grade, free, frame, message)
+}

@@ -1,0 +1,51 @@
+-- `hold_sendings`: the tally grows by the four judgements. Assumes nothing.
+use Rattle.test_tally.proofs.Counted.{grown-more, by-one}
+use borrow.Author.Needs.{needs}
+use Rattle.test_free.proofs.record.hold_sendings.Statement.{statement}
+use Rattle.test_free.proofs.record.hold_sendings.Tie as tie
+
+sends-requires : tie.Need-sends-requires
+sends-requires c κs = search needs
+
+judge-requires : tie.Need-judge-requires
+judge-requires c κs = search needs
+
+sends-requires-2 : tie.Need-sends-requires-2
+sends-requires-2 c κs = search needs
+
+judge-requires-2 : tie.Need-judge-requires-2
+judge-requires-2 c κs = search needs
+
+sends-requires-3 : tie.Need-sends-requires-3
+sends-requires-3 c κs = search needs
+
+judge-requires-3 : tie.Need-judge-requires-3
+judge-requires-3 c κs = search needs
+
+sends-requires-4 : tie.Need-sends-requires-4
+sends-requires-4 c κs = search needs
+
+judge-requires-4 : tie.Need-judge-requires-4
+judge-requires-4 c κs = search needs
+
+returns : tie.Need-returns
+returns c =
+    let j₃ = c .before .before .before in
+    let j₂ = j₃ .before .before .before in
+    let j₁ = j₂ .before .before .before in
+    grown-more (grown-more (grown-more (by-one _ _ (j₁ .judge .ensures)) (by-one _ _ (j₂ .judge2 .ensures))) (by-one _ _ (j₃ .judge3 .ensures)))
+    (by-one _ _ (c .judge4 .ensures))
+
+pub hold-sendings-spec : {M : Type 1} → statement M
+hold-sendings-spec =
+    tie.close
+    (tie.spec
+    sends-requires
+    judge-requires
+    sends-requires-2
+    judge-requires-2
+    sends-requires-3
+    judge-requires-3
+    sends-requires-4
+    judge-requires-4
+    returns)
