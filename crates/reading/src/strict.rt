@@ -39,7 +39,8 @@ pub fn read_quiet(
     ensures number { λ r. ⌜ r .number ≡ strictRefusal kind grade free number (now (frame .entry)) (length (now (message .entry))) ⌝ }
     ensures message { λ r. ⌜ now (message .exit) ≡ messageAfter (r .number) kind grade free (now (frame .entry)) (now (message .entry)) ⌝ }
     ensures energy { λ r. ⌜ r .energy ≡ energyRead (r .number) (now (frame .entry)) ⌝ }
-    ensures own { λ r. ⌜ now (own .exit) ≡ messageAfter (sentRefusal kind grade free number (now (frame .entry)) (length (now (message .entry)))) kind grade free
+    ensures own { λ r. ⌜ now (own .exit)
+        ≡ messageAfter (sentRefusal kind grade free number (now (frame .entry)) (length (now (message .entry)))) kind grade free
         (now (frame .entry)) (now (own .entry)) ⌝ }
 {
     let r = read_sent(kind, grade, number, free, frame, own);

@@ -192,7 +192,8 @@ fn hold_frame(v: u64, u: Under, message: &[u8], n: usize, bytes: &[u8], tally: &
 // The readings of all frames of n coordinates that stand in the bytes.
 pub fn hold_frames(v: u64, u: Under, message: &[u8], n: usize, frames: &[u8], tally: &mut [u64; 16])
     requires { ⌜ (length (now message) ≤ 48) × (n ≤ 64) ⌝ }
-    ensures { λ _. ⌜ now (tally .exit) ≡ judgedAll (allJudgements u (now (message .entry)) n (length (now (frames .entry)) / (10 + 4 * n)) (now (frames .entry)))
+    ensures { λ _. ⌜ now (tally .exit)
+        ≡ judgedAll (allJudgements u (now (message .entry)) n (length (now (frames .entry)) / (10 + 4 * n)) (now (frames .entry)))
         (now (tally .entry)) ⌝ }
 {
     let s = 10 + 4 * n;
