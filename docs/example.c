@@ -1,6 +1,6 @@
 /* Sends the message 00 08 at kind 3, grade 1, under an even and an odd number, prints the energy and both frames, and reads them
- * back openly and strictly, under their own number and under the other; then a message with free bits, noisy samples of a frame,
- * refusals by name, an account across its changeover, and a queue that stops at its third message. */
+ * back openly and strictly, under their own number and under the other; then sums of two frames, a message with free bits, noisy
+ * samples of a frame, refusals by name, an account across its changeover, and a queue that stops at its third message. */
 #include <inttypes.h>
 #include <stdio.h>
 #include <string.h>
@@ -62,6 +62,19 @@ int main(void)
     frame[0] += 1048568;
     print_message("read openly", coder_read_open(kind, grade, 0, frame, coordinates, back, bytes), back, bytes);
     print_message("read strictly", coder_read_strict(kind, grade, 0, 0, frame, coordinates, back, bytes), back, bytes);
+
+    /* What a repeater makes of two frames of kind 6 by adding them: a sum that is read, or one that has left the coding set. */
+    const uint8_t first[CODER_MESSAGE_LENGTH(6, 1)] = {0, 0, 0, 0x20};
+    const uint8_t seconds[2][CODER_MESSAGE_LENGTH(6, 1)] = {{0, 0, 0, 0x40}, {0, 0, 0, 0, 0, 0, 0x01}};
+    for (int i = 0; i < 2; i++) {
+        int32_t sum[CODER_FRAME_LENGTH(6)], second[CODER_FRAME_LENGTH(6)];
+        if (coder_send(6, 1, 0, 0, first, sizeof first, sum, CODER_FRAME_LENGTH(6)) < 0 ||
+            coder_send(6, 1, 0, 0, seconds[i], sizeof first, second, CODER_FRAME_LENGTH(6)) < 0)
+            return 1;
+        for (size_t p = 0; p < CODER_FRAME_LENGTH(6); p++)
+            sum[p] += second[p];
+        print_message("sum read openly", coder_read_open(6, 1, 0, sum, CODER_FRAME_LENGTH(6), back, sizeof first), back, sizeof first);
+    }
 
     /* The last bits of a message left to the sender, who sends a filling of least energy. Where several fillings have it, which of
      * them is sent is open, so that the frame is not printed here. It is read back with as many free bits, which are given as 0. */

@@ -20,8 +20,13 @@
  *
  * ENERGY AND POWER. The energy of a frame is the sum of the squares of its coordinates; its power is the energy divided by the
  *     number of coordinates. A sent frame has an energy of 1,048,576 at most, and coordinates from -128 to 128. A frame that is
- *     read can have an energy of 2^46: an answer is printed with PRId64. A block is 8 coordinates that begin at a position which
+ *     read can have an energy of 2^54: an answer is printed with PRId64. A block is 8 coordinates that begin at a position which
  *     8 divides; its energy is the sum of their squares.
+ *
+ * SUMS OF FRAMES, as a repeater makes them of sent frames of one kind, whatever their grades and numbers. The open reading takes
+ *     a sum as it takes any frame, and gives the message of the sum itself. Up to 131,072 frames add up to a sum in range, and up
+ *     to 16,777,215 to one that int32_t holds. A sum in range is always read at kinds 3, 4 and 5, where it is in the coding set;
+ *     at kind 6 it is read, or it has left the coding set and is refused by 13, never by 7 or 8.
  *
  * NUMBERS AND TIES. A frame carries a number, 0 to 4294967295. The sent frame is one of least energy in the class of the message;
  *     where several have it, an even number is sent as the first of them in reading order, an odd number as the last: at the first
@@ -124,7 +129,7 @@
 #include <stddef.h>
 #include <stdint.h>
 
-#define FRAME_CODER_VERSION "0.9.0"
+#define FRAME_CODER_VERSION "0.10.0"
 
 #ifdef __cplusplus
 extern "C" {
@@ -142,7 +147,7 @@ extern "C" {
 #define CODER_MAX_FRAME_LENGTH 64   /* coordinates */
 
 /* A reading takes coordinates from minus this to this. */
-#define CODER_MAX_COORDINATE 1048576
+#define CODER_MAX_COORDINATE 16777216
 
 /* The most bits of a message that may be free. */
 #define CODER_MAX_FREE 4
@@ -190,7 +195,7 @@ enum coder_refusal {
     CODER_REFUSED_MESSAGE_LENGTH = 3,  /* the message bytes lent differ from the kind's and grade's; a queue: are no whole messages */
     CODER_REFUSED_FRAME_LENGTH = 4,    /* the coordinates or samples lent differ from the kind's; a queue: from so many a message */
     CODER_REFUSED_SPARE_BITS = 5,      /* sending: a spare bit of the message is set, or a free one; a queue: of the first not sent */
-    CODER_REFUSED_OVER_RANGE = 6,      /* reading: a coordinate is outside -1048576 .. 1048576 */
+    CODER_REFUSED_OVER_RANGE = 6,      /* reading: a coordinate is outside -16777216 .. 16777216 */
     CODER_REFUSED_BROKEN_LEVEL_0 = 7,  /* reading: the coordinates' bits of weight 1 are not a codeword */
     CODER_REFUSED_BROKEN_LEVEL_1 = 8,  /* reading, kinds 4 to 6: the coordinates' bits of weight 2 are not a codeword */
     CODER_REFUSED_UNSHAPED = 9,        /* strict reading: the frame is not one that may be sent for its message under the number */

@@ -1,9 +1,9 @@
 /* Tests what frame_coder.h, block.h and plain.h promise a C caller beyond the contracts: lengths by kind and grade, refusals and
  * their names, pointers that are not looked at where the length is 0, int arguments, the account as a struct; frames by hand under
  * even and odd numbers, and every frame judged under its own number and under others; accounts opened, and across their changeover;
- * messages with free bits against their fillings; queues against sending one by one; and noisy samples, near and too far, unfit and
- * refused in their order. Every buffer is on the heap with its exact length, so that valgrind sees a byte too far. It ends with
- * status 1 where something differs. */
+ * messages with free bits against their fillings; coordinates at the ends of the range and past them, and sums of frames; queues
+ * against sending one by one; and noisy samples, near and too far, unfit and refused in their order. Every buffer is on the heap
+ * with its exact length, so that valgrind sees a byte too far. It ends with status 1 where something differs. */
 #include <inttypes.h>
 #include <stdio.h>
 #include <stdlib.h>
@@ -539,6 +539,156 @@ static void broken(int grade)
     free(frame);
 }
 
+/* Both readings of a copy of the frame with its exact length, with so many bits free: the answer of the open one, and of the strict
+ * one under an even and an odd number. Where a reading takes the frame it is this message, else all bytes are as before. */
+static void readings(const char *what, int kind, int grade, int bits, const int32_t *frame, int64_t open, int64_t even, int64_t odd,
+                     const uint8_t *message)
+{
+    const uint8_t k = (uint8_t)kind, g = (uint8_t)grade, f = (uint8_t)bits;
+    const size_t bytes = coder_message_length(kind, grade), n = coder_frame_length(kind), size = n * sizeof *frame;
+    const uint32_t any = 2 * (uint32_t)rand();
+    int32_t *lent = (int32_t *)room(size);
+    uint8_t *back = (uint8_t *)room(bytes), *kept = (uint8_t *)room(bytes);
+    memcpy(lent, frame, size);
+    memset(kept, 0xA5, bytes);
+    for (uint32_t rule = 0; rule < 3; rule++) { /* even, odd, and open */
+        const int64_t expected = rule == 2 ? open : rule == 1 ? odd : even;
+        memset(back, 0xA5, bytes);
+        const int64_t answer = rule == 2 ? coder_read_open(k, g, f, lent, n, back, bytes)
+                                         : coder_read_strict(k, g, any + rule, f, lent, n, back, bytes);
+        expect(what, kind, grade, answer, expected);
+        expect("reading, message", kind, grade, memcmp(back, expected < 0 ? kept : message, bytes), 0);
+    }
+    expect("reading, frame kept", kind, grade, memcmp(lent, frame, size), 0);
+    free(lent);
+    free(back);
+    free(kept);
+}
+
+/* A frame that both readings refuse by this number. */
+static void unread(const char *what, int kind, int grade, int bits, const int32_t *frame, int number)
+{
+    readings(what, kind, grade, bits, frame, -number, -number, -number, NULL);
+}
+
+/* Every coordinate at both ends of the range, one before them and one past them, and at the ends of int32_t, with zeros at the other
+ * places and with all of them at the end. A multiple of 256 at each place is a point of the lattice: the message is zeros. */
+static void ends(int kind, int grade)
+{
+    const int32_t far_end = 16777216;
+    const size_t n = coder_frame_length(kind);
+    static const uint8_t zeros[CODER_MAX_MESSAGE_LENGTH] = {0};
+    int32_t frame[CODER_MAX_FRAME_LENGTH];
+    expect("largest coordinate", kind, grade, CODER_MAX_COORDINATE, far_end);
+    for (int32_t sign = -1; sign <= 1; sign += 2)
+        for (size_t p = 0; p < 2 * n; p++) {
+            const int bits = (int)p % (CODER_MAX_FREE + 1);
+            const int32_t others = p < n ? 0 : sign * far_end;
+            int32_t *x = &frame[p % n];
+            for (size_t q = 0; q < n; q++)
+                frame[q] = others;
+            *x = sign * far_end;
+            readings("end", kind, grade, bits, frame, (int64_t)(p < n ? 1 : n) << 48, -CODER_REFUSED_UNSHAPED,
+                     -CODER_REFUSED_UNSHAPED, zeros);
+            *x = sign * (far_end - 1);
+            unread("before the end", kind, grade, bits, frame, CODER_REFUSED_BROKEN_LEVEL_0);
+            *x = sign * (far_end + 1);
+            unread("past the end", kind, grade, bits, frame, CODER_REFUSED_OVER_RANGE);
+            *x = sign < 0 ? INT32_MIN : INT32_MAX;
+            unread("far past the end", kind, grade, bits, frame, CODER_REFUSED_OVER_RANGE);
+        }
+}
+
+/* By hand: past the range of document 01 a coordinate is read like any other. Of frames of kind 6 that are 2 where three bits of the
+ * place are set, two that have two of these in common add up to a sum that is read, and two that have none to one that is 13. */
+static void far_by_hand(void)
+{
+    static const uint8_t ones[2] = {0x01, 0x00};
+    static const size_t bits[3] = {29, 30, 48}, masks[3] = {7, 11, 56};
+    const int64_t energy = 8 * INT64_C(1048577) * 1048577;
+    int32_t frame[8], frames[3][64], sum[64];
+    uint8_t message[CODER_MESSAGE_LENGTH(6, 1)];
+    for (int32_t x = -1048577; x <= 1048577; x += 2 * 1048577) {
+        for (size_t p = 0; p < 8; p++)
+            frame[p] = x;
+        readings("1048577", 3, 1, 0, frame, energy, -CODER_REFUSED_UNSHAPED, -CODER_REFUSED_UNSHAPED, ones);
+        memset(frame + 1, 0, 7 * sizeof *frame);
+        unread("1048577 alone", 3, 1, 0, frame, CODER_REFUSED_BROKEN_LEVEL_0);
+    }
+    for (size_t i = 0; i < 3; i++) {
+        memset(message, 0, sizeof message);
+        message[bits[i] / 8] = (uint8_t)(1u << bits[i] % 8);
+        expect("to be added", 6, 1, coder_send(6, 1, 0, 0, message, sizeof message, frames[i], 64), 32);
+        for (size_t p = 0; p < 64; p++)
+            expect("to be added, frame", 6, 1, frames[i][p], (p & masks[i]) == masks[i] ? 2 : 0);
+    }
+    for (size_t p = 0; p < 64; p++)
+        sum[p] = frames[0][p] + frames[2][p];
+    unread("sum outside", 6, 1, 0, sum, CODER_REFUSED_BROKEN_LEVEL_2);
+    for (size_t p = 0; p < 64; p++)
+        sum[p] = frames[0][p] + frames[1][p];
+    memset(message, 0, sizeof message);
+    message[3] = 0x60; /* bits 29 and 30 */
+    message[11] = 0x08; /* bit 91, of level 2: 4 where four bits of the place are set */
+    readings("sum", 6, 1, 0, sum, 96, 96, 96, message);
+}
+
+/* Whether two frames differ by a point of the lattice: in each block by half the scale times numbers of one parity, whose sum 4
+ * divides. */
+static int same_class(int kind, int grade, const int32_t *x, const int32_t *y)
+{
+    const int32_t half = 1 << ((kind == 3 ? 1 : kind == 6 ? 3 : 2) + grade - 1);
+    int32_t sum = 0, first = 0;
+    for (size_t p = 0; p < coder_frame_length(kind); p++) {
+        const int32_t off = x[p] - y[p], w = off / half;
+        if (p % 8 == 0) {
+            sum = 0;
+            first = w;
+        }
+        sum += w;
+        if (off % half != 0 || (w - first) % 2 != 0 || (p % 8 == 7 && sum % 4 != 0))
+            return 0;
+    }
+    return 1;
+}
+
+/* A sum of sent frames, of any grades and numbers, up to 131072 of them: the answer is its energy, or at kind 6 it may be 13. The
+ * frames of the message that is read are of its class, and strictly it is read where it is one of them. Gives the answer. */
+static int64_t sum_of_frames(int kind, int grade)
+{
+    const uint8_t k = (uint8_t)kind, g = (uint8_t)grade;
+    const size_t bytes = coder_message_length(kind, grade), n = coder_frame_length(kind), size = n * sizeof(int32_t);
+    uint8_t *message = (uint8_t *)room(CODER_MAX_MESSAGE_LENGTH), *back = (uint8_t *)room(bytes);
+    int32_t *frame = (int32_t *)room(size), *sum = (int32_t *)room(size), left = 131072;
+    int64_t energy = 0, strict[2];
+    for (int i = 0; i < 4 && left > 0; i++) {
+        const int any = 1 + rand() % 4;
+        const int32_t times = rand() % 3 == 0 ? left : rand() % 2 == 0 ? 1 : 1 + rand() % left;
+        fill_one(kind, any, message);
+        expect("to be added", kind, any,
+               coder_send(k, (uint8_t)any, (uint32_t)rand(), 0, message, coder_message_length(kind, any), frame, n) >= 0, 1);
+        for (size_t p = 0; p < n; p++)
+            sum[p] += times * frame[p];
+        left -= times;
+    }
+    for (size_t p = 0; p < n; p++)
+        energy += (int64_t)sum[p] * sum[p];
+    const int64_t answer = coder_read_open(k, g, 0, sum, n, back, bytes);
+    const int64_t expected = kind == 6 && answer < 0 ? -CODER_REFUSED_BROKEN_LEVEL_2 : energy;
+    strict[0] = strict[1] = expected;
+    for (uint32_t number = 0; number < 2 && expected >= 0; number++) {
+        expect("sum, sent", kind, grade, coder_send(k, g, number, 0, back, bytes, frame, n) >= 0, 1);
+        expect("sum, class", kind, grade, same_class(kind, grade, sum, frame), 1);
+        strict[number] = memcmp(sum, frame, size) == 0 ? energy : -CODER_REFUSED_UNSHAPED;
+    }
+    readings("sum", kind, grade, 0, sum, expected, strict[0], strict[1], back);
+    free(message);
+    free(back);
+    free(frame);
+    free(sum);
+    return answer;
+}
+
 /* A queue of so many messages, the one at the place `bad` with a spare bit set, against sending them one by one, each frame judged
  * under its number: into frames that were set, which keep their values from the refused one on, and into frames that never were. */
 static void in_turn(int kind, int grade, size_t number, size_t bad, const struct coder_account before)
@@ -834,6 +984,15 @@ int main(void)
         }
     for (int grade = 1; grade <= 4; grade++)
         broken(grade);
+    far_by_hand();
+    for (int kind = 3; kind <= 6; kind++)
+        for (int grade = 1; grade <= 4; grade++) {
+            int refused = 0;
+            ends(kind, grade);
+            for (int turn = 0; turn < 100; turn++)
+                refused += sum_of_frames(kind, grade) < 0;
+            expect("sums refused", kind, grade, kind == 6 ? refused > 0 && refused < 100 : refused == 0, 1);
+        }
     for (int kind = 3; kind <= 6; kind++)
         for (int grade = 1; grade <= 4; grade++) {
             across(kind, grade);

@@ -1,4 +1,4 @@
--- What is reported by the functions that are exported: energies fit a signed number (at most 2^20 for a sent frame, 2^46 for a frame that
+-- What is reported by the functions that are exported: energies fit a signed number (at most 2^20 for a sent frame, 2^54 for a frame that
 -- is read), and the answer is made from them and the refusal number; an account is that of its lent numbers, since its changeover stays.
 -- Assumes nothing.
 use Prim.Native.Nat.{ℕ, zero, suc, _^_, _≤_}
@@ -13,7 +13,7 @@ use borrow.Author.Tests.{eqb-true, eq-eqb, ne-eqb}
 use Rattle.e8.specs.Energy.{energy}
 use Rattle.frames.specs.Free.{quietEnergy}
 use Rattle.frames.specs.Sending.{sendRefusal, QuietAfter, energySent, LeastOfFillings}
-use Rattle.frames.specs.Reading.{openRefusal, strictRefusal, energyRead}
+use Rattle.frames.specs.Reading.{largestRead, openRefusal, strictRefusal, energyRead}
 use Rattle.frames.proofs.Accepted.{all-passed}
 use Rattle.frames.proofs.Refusals.{accepted, range-within}
 use Rattle.frames.proofs.Limits.{few-positions}
@@ -78,32 +78,32 @@ either : (t : Bool) (e B : ℕ) → (t ≡ true → e ≤ B) → cond t e 0 ≤ 
 either true e B h = h refl
 either false e B h = omega arith
 
-pub sent-fits : (refusal k b f number : ℕ) (bytes : List ℕ) (n : ℕ) → refusal ≡ sendRefusal k b f bytes n → energySent refusal k b f number bytes ≤ 2 ^ 46
+pub sent-fits : (refusal k b f number : ℕ) (bytes : List ℕ) (n : ℕ) → refusal ≡ sendRefusal k b f bytes n → energySent refusal k b f number bytes ≤ 2 ^ 54
 unfolding energySent
-sent-fits refusal k b f number bytes n e = either (eqb refusal 0) (quietEnergy k b f number bytes) (2 ^ 46) (λ t.
+sent-fits refusal k b f number bytes n e = either (eqb refusal 0) (quietEnergy k b f number bytes) (2 ^ 54) (λ t.
     let p = all-passed k b f bytes n (sym e ∙ eqb-true refusal 0 t) in
     omega (arith, quiet-energy-small k b f (p .kind) (p .grade) (p .few) number bytes))
 
-taken-energy : (k b f : ℕ) (frame : List ℤ) (n : ℕ) → openRefusal k b f frame n ≡ 0 → energy frame ≤ 2 ^ 46
+taken-energy : (k b f : ℕ) (frame : List ℤ) (n : ℕ) → openRefusal k b f frame n ≡ 0 → energy frame ≤ 2 ^ 54
 taken-energy k b f frame n e =
     let a = accepted k b f frame n e in
-    omega (arith, short-energy 64 1048576 frame (omega (arith, a .coordinates, few-positions k (a .kind))) (range-within frame (a .range)))
+    omega (arith, short-energy 64 largestRead frame (omega (arith, a .coordinates, few-positions k (a .kind))) (range-within frame (a .range)))
 
-pub open-fits : (refusal k b f : ℕ) (frame : List ℤ) (n : ℕ) → refusal ≡ openRefusal k b f frame n → energyRead refusal frame ≤ 2 ^ 46
+pub open-fits : (refusal k b f : ℕ) (frame : List ℤ) (n : ℕ) → refusal ≡ openRefusal k b f frame n → energyRead refusal frame ≤ 2 ^ 54
 unfolding energyRead
-open-fits refusal k b f frame n e = either (eqb refusal 0) (energy frame) (2 ^ 46) (λ t. taken-energy k b f frame n (sym e ∙ eqb-true refusal 0 t))
+open-fits refusal k b f frame n e = either (eqb refusal 0) (energy frame) (2 ^ 54) (λ t. taken-energy k b f frame n (sym e ∙ eqb-true refusal 0 t))
 
-pub strict-fits : (refusal k b f number : ℕ) (frame : List ℤ) (n : ℕ) → refusal ≡ strictRefusal k b f number frame n → energyRead refusal frame ≤ 2 ^ 46
+pub strict-fits : (refusal k b f number : ℕ) (frame : List ℤ) (n : ℕ) → refusal ≡ strictRefusal k b f number frame n → energyRead refusal frame ≤ 2 ^ 54
 unfolding energyRead
 strict-fits refusal k b f number frame n e =
-    either (eqb refusal 0) (energy frame) (2 ^ 46) (λ t. taken-energy k b f frame n (strict-passed k b f number frame n (sym e ∙ eqb-true refusal 0 t) .0))
+    either (eqb refusal 0) (energy frame) (2 ^ 54) (λ t. taken-energy k b f frame n (strict-passed k b f number frame n (sym e ∙ eqb-true refusal 0 t) .0))
 
 -- ---- sending with an account: the energy and the answer, by the refusal refusal
 
 module _ (k b f : ℕ) (bytes : List ℕ) (n : ℕ) (a : Account) (refusal : ℕ) (is : refusal ≡ countedRefusal k b f bytes n a) where
-  pub counted-fits : energySent refusal k b f (numberFor a) bytes ≤ 2 ^ 46
+  pub counted-fits : energySent refusal k b f (numberFor a) bytes ≤ 2 ^ 54
   unfolding energySent
-  counted-fits = either (eqb refusal 0) (quietEnergy k b f (numberFor a) bytes) (2 ^ 46) (λ t.
+  counted-fits = either (eqb refusal 0) (quietEnergy k b f (numberFor a) bytes) (2 ^ 54) (λ t.
       let p = all-passed k b f bytes n (passed k b f bytes n a (sym is ∙ eqb-true refusal 0 t)) in
       omega (arith, quiet-energy-small k b f (p .kind) (p .grade) (p .few) (numberFor a) bytes))
 

@@ -5,7 +5,7 @@ ghost use Rattle.answers.specs.Answer.{answerOf};
 
 // The energy, or minus the refusal number.
 pub fn answer(number: u8, energy: u64) -> i64
-    requires { ⌜ energy ≤ 2 ^ 46 ⌝ }
+    requires { ⌜ energy ≤ 2 ^ 54 ⌝ }
     ensures { λ r. ⌜ r ≡ answerOf number energy ⌝ }
 {
     if number != 0 {

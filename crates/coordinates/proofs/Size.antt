@@ -12,7 +12,7 @@ use lib.IntN.{ℤ, pos, negsuc, _+ℤ_, _-ℤ_, _*ℤ_, natAbs}
 use lib.Signed.{shrZ}
 use mir.Syntax.{w32}
 use mir.Val.{SFits}
-use Rattle.integers.proofs.Zed.{E, `_, #_, _⊕_, _⊖_, _⊗_, P, N, ⟦_⟧, eq?, up, down, sfits!, abs-ud}
+use Rattle.integers.proofs.Zed.{E, `_, #_, _⊕_, _⊖_, _⊗_, P, N, ⟦_⟧, eq?, up, down, sfits!, abs-ud, abs-le}
 use Rattle.e8.specs.Energy.{sq, energy, Within}
 use Rattle.e8.specs.Least.{lowered}
 
@@ -20,10 +20,6 @@ pub fits : (z : ℤ) → natAbs z ≤ 2 ^ 30 → SFits w32 z
 fits z h = sfits! w32 (` z) (omega (arith, abs-ud z)) (omega (arith, abs-ud z))
 
 -- the size of an expression
-abs-le : (z : ℤ) (B : ℕ) → up z ≤ down z + B → down z ≤ up z + B → natAbs z ≤ B
-abs-le (pos n) B a b = omega arith
-abs-le (negsuc n) B a b = omega arith
-
 pub abs! : (e : E) (B : ℕ) → P e ≤ N e + B → N e ≤ P e + B → natAbs ⟦ e ⟧ ≤ B
 abs! e B a b = abs-le ⟦ e ⟧ B (omega (arith, eq? (` ⟦ e ⟧) e refl)) (omega (arith, eq? (` ⟦ e ⟧) e refl))
 

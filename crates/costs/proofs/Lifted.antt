@@ -9,11 +9,11 @@ use lib.Dec.{T}
 use lib.Signed.{nonNeg}
 use mir.Syntax.{w32}
 use mir.Val.{SFits}
-use Rattle.integers.proofs.Zed.{`_, #_, _⊕_, _⊖_, _⊗_, up, down, eq!, eq?, sfits! }
+use Rattle.integers.proofs.Zed.{`_, #_, _⊕_, _⊖_, _⊗_, up, down, eq!, eq?, sfits!, abs-le}
 use Rattle.integers.proofs.Floor.{quot-is, rem-is}
 use Rattle.e8.specs.Energy.{sq}
 use Rattle.costs.specs.Costs.{nearest, gap, Half}
-use Rattle.near_frames.proofs.Squares.{abs-le, le-abs}
+use Rattle.near_frames.proofs.Squares.{le-abs}
 use Rattle.costs.proofs.Nearest.{gap-offset}
 
 module _ (H : ℕ) (h : 0 < H) (x : ℤ) (y m : ℕ) (e : pos y ≡ x +ℤ pos H +ℤ pos (2 * H * m)) where

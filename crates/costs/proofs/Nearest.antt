@@ -6,10 +6,10 @@ use native.Mathlib.Nat.{le-trans}
 use native.Mathlib.Omega.{arith}
 use lib.IntN.{ℤ, pos, negsuc, _+ℤ_, _-ℤ_, _*ℤ_, natAbs}
 use Rattle.integers.specs.Integer.{modZ}
-use Rattle.integers.proofs.Zed.{`_, #_, _⊕_, _⊖_, _⊗_, eq!, eq?}
+use Rattle.integers.proofs.Zed.{`_, #_, _⊕_, _⊖_, _⊗_, eq!, eq?, abs-le}
 use Rattle.integers.proofs.Floor.{div-mod, modZ-lt}
 use Rattle.e8.specs.Energy.{sq}
-use Rattle.near_frames.proofs.Squares.{abs-le, le-abs, square-mono}
+use Rattle.near_frames.proofs.Squares.{le-abs, square-mono}
 use Rattle.costs.specs.Costs.{nearest, gap}
 
 module _ (H : ℕ) (h : 0 < H) (x : ℤ) where

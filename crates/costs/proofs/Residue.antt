@@ -5,13 +5,13 @@ use native.Mathlib.Omega.{arith}
 use lib.IntN.{ℤ, pos, _+ℤ_, _-ℤ_, _*ℤ_, natAbs, +ℤ-comm}
 use lib.Signed.{shrZ}
 use Rattle.integers.specs.Integer.{modZ}
-use Rattle.integers.proofs.Zed.{`_, #_, _⊕_, _⊖_, _⊗_, eq!, eq?}
+use Rattle.integers.proofs.Zed.{`_, #_, _⊕_, _⊖_, _⊗_, eq!, eq?, abs-le}
 use Rattle.integers.proofs.Floor.{div-mod, modZ-lt, quot-is, rem-is, shr-one}
 use Rattle.e8.specs.Energy.{sq}
 use Rattle.frames.specs.Frame.{weightBit}
 use Rattle.frames.proofs.Frame.{weight-bit}
 use Rattle.costs.specs.Costs.{nearest, gap}
-use Rattle.near_frames.proofs.Squares.{abs-le, le-abs}
+use Rattle.near_frames.proofs.Squares.{le-abs}
 use Rattle.costs.proofs.Nearest.{gap-only, gap-least}
 
 -- ---- squares of opposite numbers

@@ -16,3 +16,4 @@ pub mod Numbered
 pub mod Bounds
 pub mod Exam
 pub mod Reading
+pub mod Range

@@ -16,7 +16,7 @@ use Rattle.frames.specs.Kind.{isKind, isGrade, degrees, blocks, messageB
 use Rattle.frames.specs.Message.{Message, leader}
 use Rattle.frames.specs.Frame.{InCodingSet, half, SameClass, isOdd, numberedFrame}
 use Rattle.frames.specs.Free.{isFreeCount}
-use Rattle.frames.specs.Reading.{openMessage, inRange, broken, openRefusal}
+use Rattle.frames.specs.Reading.{openMessage, largestRead, inRange, broken, openRefusal}
 use Rattle.frames.specs.Demands.{FirstBroken}
 use Rattle.frames.proofs.Rows.{grade-low}
 use Rattle.frames.proofs.Limits.{shape, scale-128}
@@ -72,7 +72,7 @@ module _ (k b : ℕ) (kind : isKind k ≡ true) (grade : isGrade b ≡ true) whe
   -- a sent frame passes the test of the range, since M is at most 128
   pub sent-in-range : (number : ℕ) (bytes : List ℕ) → inRange (numberedFrame k b number bytes) ≡ true
   sent-in-range number bytes = within-range (numberedFrame k b number bytes)
-      (within-to (scale k b) 1048576 (numberedFrame k b number bytes) (omega (arith, scale-128 k b kind grade))
+      (within-to (scale k b) largestRead (numberedFrame k b number bytes) (omega (arith, scale-128 k b kind grade))
       (sent-within k b kind (grade-low b grade) number bytes))
 
   -- ---- which frames the open reading takes; n message bytes are lent

@@ -19,7 +19,7 @@ use Rattle.frames.specs.Kind.{brokenNumber, isKind, isGrade, degrees, le
 use Rattle.frames.specs.Frame.{levelWord, InCodingSet}
 use Rattle.frames.specs.Free.{isFreeCount}
 use Rattle.frames.specs.Sending.{unless}
-use Rattle.frames.specs.Reading.{sameNumber, sameFrame, inRange, broken, openRefusal}
+use Rattle.frames.specs.Reading.{sameNumber, sameFrame, largestRead, inRange, broken, openRefusal}
 use Rattle.frames.specs.Demands.{FirstBroken}
 use Rattle.frames.proofs.Limits.{few-levels, levels-numbered, number-refuses}
 
@@ -73,13 +73,13 @@ frame-same (x ∷ f) = rw (number-same x) (frame-same f)
 
 -- ---- the range
 
-pub range-within : (f : List ℤ) → inRange f ≡ true → Within 1048576 f
+pub range-within : (f : List ℤ) → inRange f ≡ true → Within largestRead f
 unfolding inRange
-range-within f e = test-within 1048576 f e
+range-within f e = test-within largestRead f e
 
-pub within-range : (f : List ℤ) → Within 1048576 f → inRange f ≡ true
+pub within-range : (f : List ℤ) → Within largestRead f → inRange f ≡ true
 unfolding inRange
-within-range f h = within-test 1048576 f h
+within-range f h = within-test largestRead f h
 
 -- ---- the levels
 

@@ -5,17 +5,17 @@ use mathlib.Core.Bool.{true, false, cond}
 use mathlib.Core.List.{List}
 use lib.Dec.{eqb}
 use lib.ListN.{length, getD}
-use lib.IntN.{ℤ}
+use lib.IntN.{ℤ, pos, natAbs}
 use Rattle.reed_muller.specs.Level.{belongs}
 use Rattle.bits.specs.Message.{messageBit}
 use Rattle.e8.specs.Energy.{energy, distance}
 use Rattle.e8.specs.Largest.{largestBlock}
-use Rattle.frames.specs.Kind.{brokenNumber, isKind, isGrade, degrees, levels, messageBits, messageBytes}
+use Rattle.frames.specs.Kind.{brokenNumber, isKind, isGrade, degrees, levels, messageBits, messageBytes, scale}
 use Rattle.frames.specs.Message.{Message}
 use Rattle.frames.specs.Frame.{levelWord, SameClass, numberedFrame, leastDistance}
 use Rattle.frames.specs.Free.{isFreeCount, freeFrom, FreeMessage, filledFrame, Quiet, quietEnergy, quietLargest}
 use Rattle.frames.specs.Sending.{anySet, unless, sendRefusal, Accepts}
-use Rattle.frames.specs.Reading.{openMessage, fixedMessage, openRefusal, isSent, strictRefusal}
+use Rattle.frames.specs.Reading.{openMessage, fixedMessage, largestRead, openRefusal, isSent, strictRefusal, energyRead}
 
 -- what sending asks: a kind, a grade, a free count, a message of them whose free bits are 0, and as many coordinates as the kind has
 pub record Sendable (k b f : ℕ) (bytes : List ℕ) (n : ℕ) : Type 0 where
@@ -117,3 +117,36 @@ pub record NoneFree (k b number : ℕ) (bytes : List ℕ) (n : ℕ) : Type 0 whe
 pub record NoneFreeRead (k b number : ℕ) (frame : List ℤ) (n : ℕ) : Type 0 where
   pub given : openRefusal k b 0 frame n ≡ 0 → fixedMessage k b 0 frame ≡ openMessage k b frame
   pub strict : openRefusal k b 0 frame n ≡ 0 → strictRefusal k b 0 number frame n ≡ unless (isSent k b number frame) 9 0
+
+-- ---- the range (request E8)
+
+-- a coordinate of the frame that is larger in size than a reading takes: 16,777,217 and more
+pub record FarOut (frame : List ℤ) : Type 0 where
+  pub place : ℕ
+  pub inside : place < length frame
+  pub larger : largestRead < natAbs (getD frame place (pos 0))
+
+-- "6 begins at 16,777,217": a frame with such a coordinate, at any place, is 6 in both readings, whatever else stands in it, where what is tested before is
+-- good; and no other frame is. n message bytes are lent
+pub record SixExactly (k b f : ℕ) (frame : List ℤ) (n : ℕ) : Type 0 where
+  pub openly : isKind k ≡ true → isGrade b ≡ true → isFreeCount f ≡ true → length frame ≡ 2 ^ k → n ≡ messageBytes k b
+      → FarOut frame → openRefusal k b f frame n ≡ 6
+  pub strictly : isKind k ≡ true → isGrade b ≡ true → isFreeCount f ≡ true → length frame ≡ 2 ^ k → n ≡ messageBytes k b
+      → (number : ℕ) → FarOut frame → strictRefusal k b f number frame n ≡ 6
+  pub only-openly : openRefusal k b f frame n ≡ 6 → FarOut frame
+  pub only-strictly : (number : ℕ) → strictRefusal k b f number frame n ≡ 6 → FarOut frame
+
+-- every coordinate of the frame is 16,777,216 or −16,777,216
+pub record AtEnds (k : ℕ) (frame : List ℤ) : Type 0 where
+  pub long : length frame ≡ 2 ^ k
+  pub each : (p : ℕ) → p < 2 ^ k → natAbs (getD frame p (pos 0)) ≡ largestRead
+
+-- "The energy stays exact": the frames of the largest energy are read, and it is reported, 64 · 2^48 at kind 6; no reading reports more
+pub record LargestEnergy (k b f n : ℕ) : Type 0 where
+  pub read : (frame : List ℤ) → AtEnds k frame → openRefusal k b f frame n ≡ 0
+  pub reported : (frame : List ℤ) → AtEnds k frame → energyRead (openRefusal k b f frame n) frame ≡ 2 ^ k * (largestRead * largestRead)
+  pub most : (frame : List ℤ) → energyRead (openRefusal k b f frame n) frame ≤ 2 ^ k * (largestRead * largestRead)
+
+-- "The strict reading gives it only for the sent frame", whose coordinates are at most M in size: a frame that is read openly and has a larger one is 9
+pub record LargeUnshaped (k b f : ℕ) (frame : List ℤ) (n : ℕ) : Type 0 where
+  pub nine : openRefusal k b f frame n ≡ 0 → (number p : ℕ) → scale k b < natAbs (getD frame p (pos 0)) → strictRefusal k b f number frame n ≡ 9

@@ -254,17 +254,17 @@ pub record FreeCases : Type 0 where
 
 -- ---- further cases
 
--- document 01, "Exam frames", after the table; by number 0, as all cases here but those of request E5
+-- document 01, "Exam frames", after the table, with the ends of request E8; by number 0, as all cases here but those of request E5
 pub record FurtherCases : Type 0 where
   pub all-2-openly : openRefusal 4 1 0 (replicate 16 (pos 2)) 5 ≡ 0
   pub all-2-message : openMessage 4 1 (replicate 16 (pos 2)) ≡ 32 ∷ replicate 4 0
   pub all-2-strictly : strictRefusal 4 1 0 0 (replicate 16 (pos 2)) 5 ≡ 9
   pub broken-level-0 : openRefusal 3 1 0 (pos 1 ∷ replicate 7 (pos 0)) 2 ≡ 7
   pub spare-bit : sendRefusal 3 1 0 (0 ∷ 16 ∷ []) 8 ≡ 5
-  pub largest : openRefusal 3 1 0 (pos 1048576 ∷ replicate 7 (pos 0)) 2 ≡ 0
-  pub past-largest : openRefusal 3 1 0 (pos 1048577 ∷ replicate 7 (pos 0)) 2 ≡ 6
-  pub least : openRefusal 3 1 0 (minus 1048576 ∷ replicate 7 (pos 0)) 2 ≡ 0
-  pub past-least : openRefusal 3 1 0 (minus 1048577 ∷ replicate 7 (pos 0)) 2 ≡ 6
+  pub largest : openRefusal 3 1 0 (pos 16777216 ∷ replicate 7 (pos 0)) 2 ≡ 0
+  pub past-largest : openRefusal 3 1 0 (pos 16777217 ∷ replicate 7 (pos 0)) 2 ≡ 6
+  pub least : openRefusal 3 1 0 (minus 16777216 ∷ replicate 7 (pos 0)) 2 ≡ 0
+  pub past-least : openRefusal 3 1 0 (minus 16777217 ∷ replicate 7 (pos 0)) 2 ≡ 6
 
 -- ---- the order of tests
 
@@ -287,14 +287,14 @@ pub record FreeTests : Type 0 where
   pub first-of-1 : sendRefusal 3 1 1 (255 ∷ 8 ∷ []) 8 ≡ 5
   pub spare : sendRefusal 3 1 1 (255 ∷ 16 ∷ []) 8 ≡ 5
 
--- "Reading tests 1, 2, 4, 3, then 6 over all coordinates, then 7, 8, 9", with 17 after 2: 1,048,579 is over range, and its bits of weight 1 and 2 are set
+-- "Reading tests 1, 2, 4, 3, then 6 over all coordinates, then 7, 8, 9", with 17 after 2: 16,777,219 is over range, and its bits of weight 1 and 2 are set
 pub record ReadingTests : Type 0 where
-  pub kind : strictRefusal 2 5 5 0 (pos 1048579 ∷ replicate 14 (pos 0)) 4 ≡ 1
-  pub grade : strictRefusal 4 5 5 0 (pos 1048579 ∷ replicate 14 (pos 0)) 4 ≡ 2
-  pub count : strictRefusal 4 1 5 0 (pos 1048579 ∷ replicate 14 (pos 0)) 4 ≡ 17
-  pub coordinates : strictRefusal 4 1 0 0 (pos 1048579 ∷ replicate 14 (pos 0)) 4 ≡ 4
-  pub bytes : strictRefusal 4 1 0 0 (pos 1048579 ∷ replicate 15 (pos 0)) 4 ≡ 3
-  pub range : strictRefusal 4 1 0 0 (pos 1048579 ∷ replicate 15 (pos 0)) 5 ≡ 6
+  pub kind : strictRefusal 2 5 5 0 (pos 16777219 ∷ replicate 14 (pos 0)) 4 ≡ 1
+  pub grade : strictRefusal 4 5 5 0 (pos 16777219 ∷ replicate 14 (pos 0)) 4 ≡ 2
+  pub count : strictRefusal 4 1 5 0 (pos 16777219 ∷ replicate 14 (pos 0)) 4 ≡ 17
+  pub coordinates : strictRefusal 4 1 0 0 (pos 16777219 ∷ replicate 14 (pos 0)) 4 ≡ 4
+  pub bytes : strictRefusal 4 1 0 0 (pos 16777219 ∷ replicate 15 (pos 0)) 4 ≡ 3
+  pub range : strictRefusal 4 1 0 0 (pos 16777219 ∷ replicate 15 (pos 0)) 5 ≡ 6
   pub level-0 : strictRefusal 4 1 0 0 (pos 3 ∷ replicate 15 (pos 0)) 5 ≡ 7
   pub level-1 : strictRefusal 4 1 0 0 (pos 2 ∷ replicate 15 (pos 0)) 5 ≡ 8
   pub unshaped : strictRefusal 4 1 0 0 (replicate 16 (pos 2)) 5 ≡ 9

@@ -1,5 +1,5 @@
 -- What a reading takes from a frame: its message, and the number of the first test that is not passed
--- (document 01, "Shaping", last paragraph, and "Numbers"; request E7 for free bits). Assumes nothing.
+-- (document 01, "Shaping", last paragraph, and "Numbers"; request E7 for free bits, E8 for the range). Assumes nothing.
 use Prim.Native.Nat.{ℕ, zero, suc, _-_, _/_, _%_, _^_}
 use mathlib.Core.Bool.{Bool, true, false, _&&_, cond}
 use mathlib.Core.List.{List, [], _∷_, _++_, map}
@@ -83,10 +83,14 @@ sameFrame [] (y ∷ g) = false
 sameFrame (x ∷ f) [] = false
 sameFrame (x ∷ f) (y ∷ g) = sameNumber x y && sameFrame f g
 
--- every coordinate is from −1,048,576 to 1,048,576
+-- request E8: "coordinates up to 16,777,216 in size": the largest that a reading takes
+abbrev pub largestRead : ℕ
+largestRead = 16777216
+
+-- every coordinate is from −16,777,216 to 16,777,216
 unfoldable pub inRange : List ℤ → Bool
 unfolding isWithin
-inRange f = isWithin 1048576 f
+inRange f = isWithin largestRead f
 
 -- the number of the first level from i on that is not a codeword, 0 where each one is
 unfoldable pub broken : ℕ → ℕ → List ℕ → List ℤ → ℕ

@@ -183,6 +183,10 @@ pub abs-ud : (z : ℤ) → natAbs z ≡ up z + down z
 abs-ud (pos n) = omega arith
 abs-ud (negsuc n) = omega arith
 
+pub abs-le : (z : ℤ) (B : ℕ) → up z ≤ down z + B → down z ≤ up z + B → natAbs z ≤ B
+abs-le (pos n) B h k = omega arith
+abs-le (negsuc n) B h k = omega arith
+
 pub mag-ud : (z : ℤ) → (up z ≤ mag z) × (down z ≤ suc (mag z))
 mag-ud (pos n) = (omega arith, omega arith)
 mag-ud (negsuc n) = (omega arith, omega arith)

@@ -1,4 +1,4 @@
--- The cases of kinds 5 and 6 are met, by computing. Assumes nothing.
+-- The cases of kinds 5 and 6 and those of large coordinates are met, by computing. Assumes nothing.
 use mathlib.Core.Path.{_≡_, refl}
 use mathlib.Core.List.{map}
 use lib.Count.{ones}
@@ -16,9 +16,9 @@ use Rattle.frames.specs.Frame.{weightBit, half, isOdd, numberedFrame, sentFrame
 use Rattle.frames.specs.Free.{isFreeCount, freeFrom, filled, filledFrame, leastOf, quietEnergy}
 use Rattle.frames.specs.Sending.{anySet, freeSet, sendRefusal}
 use Rattle.frames.specs.Reading.{levelMessage, levelMessages, quotients, digits, allDigits, blockMessages, readBits, openMessage}
-use Rattle.frames.specs.Reading.{fixedMessage, sameFrame, inRange, broken, openRefusal, isSent, isQuiet, strictRefusal}
+use Rattle.frames.specs.Reading.{fixedMessage, sameFrame, inRange, broken, openRefusal, isSent, isQuiet, strictRefusal, energyRead}
 use Rattle.frames.specs.Exam.{sentAs, examined, Numbered, sentUnder}
-use Rattle.long_frames.specs.Cases.{layout, numbered, KindSixTests}
+use Rattle.long_frames.specs.Cases.{layout, numbered, KindSixTests, WideCases}
 
 -- each message is sent as its frame, with its energy
 pub layout-frames : map sentAs layout ≡ map examined layout
@@ -50,4 +50,26 @@ kind-six-tests = record {
   unshaped = refl;
   openly = refl;
   none = refl;
+}
+
+pub wide-cases : WideCases
+unfolding energyRead openRefusal strictRefusal isQuiet isSent isFreeCount fixedMessage filled freeFrom withBits quietEnergy leastOf filledFrame sameFrame openMessage readBits levelMessages levelMessage blockMessages quotients allDigits digits
+    inRange isWithin broken weightBit isKind isGrade sendRefusal freeSet anySet messageBytes messageBits
+    numberedFrame isOdd half leastFrameBy leastFrame leastBlock best better cent before energy sq leader coordinate stacked blockNumbers numbers
+    degrees kinds levels levelBits sumTo codeword order dimension masks ofWeight table messageBit bytesOf byteOf backwards belongs clearAbove reduced ones
+wide-cases = record {
+  kind-3-strictly = refl;
+  kind-3-past = refl;
+  kind-4 = refl;
+  kind-4-past = refl;
+  kind-5 = refl;
+  kind-5-past = refl;
+  kind-6 = refl;
+  kind-6-past = refl;
+  below-largest = refl;
+  above-least = refl;
+  most-energy = refl;
+  like-any-other = refl;
+  its-message = refl;
+  alone = refl;
 }

@@ -5,15 +5,11 @@ use native.Mathlib.Nat.{le-trans, mul-le-mul}
 use native.Mathlib.Omega.{arith}
 use native.Mathlib.Decide.{decLe}
 use lib.IntN.{ℤ, pos, negsuc, _-ℤ_, _*ℤ_, natAbs}
-use Rattle.integers.proofs.Zed.{`_, _⊖_, up, down, eq?}
+use Rattle.integers.proofs.Zed.{`_, _⊖_, up, down, eq?, abs-le}
 use Rattle.e8.specs.Energy.{sq}
 use Rattle.e8.proofs.Negation.{abs-neg}
 
 -- ---- sizes
-
-pub abs-le : (z : ℤ) (B : ℕ) → up z ≤ down z + B → down z ≤ up z + B → natAbs z ≤ B
-abs-le (pos n) B h k = omega arith
-abs-le (negsuc n) B h k = omega arith
 
 pub le-abs : (z : ℤ) → (up z ≤ down z + natAbs z) × (down z ≤ up z + natAbs z)
 le-abs (pos n) = (omega arith, omega arith)

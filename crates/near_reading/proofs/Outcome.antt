@@ -7,12 +7,12 @@ use native.Mathlib.Omega.{arith}
 use lib.ListN.{length, getD}
 use lib.IntN.{ℤ, pos, _-ℤ_, _*ℤ_, natAbs}
 use lib.Ieee.{Float}
-use Rattle.integers.proofs.Zed.{`_, #_, _⊖_, _⊗_, eq!, eq?}
+use Rattle.integers.proofs.Zed.{`_, #_, _⊖_, _⊗_, eq!, eq?, abs-le}
 use Rattle.bits.proofs.Sum.{sum-term}
 use Rattle.e8.specs.Energy.{sq}
 use Rattle.e8.proofs.Within.{within-at, within-all}
 use Rattle.frames.specs.Free.{isFreeCount}
-use Rattle.frames.specs.Reading.{fixedMessage, openRefusal, messageAfter, inRange}
+use Rattle.frames.specs.Reading.{fixedMessage, openRefusal, messageAfter, largestRead, inRange}
 use Rattle.frames.proofs.Frame.{at}
 use Rattle.frames.proofs.Refusals.{within-range}
 use Rattle.frames.proofs.Reading.{inside-taken}
@@ -20,7 +20,7 @@ use Rattle.samples.specs.Sample.{samplesIn256ths}
 use Rattle.samples.proofs.Samples.{samples-length, samples-within}
 use Rattle.near_frames.specs.Near.{IsNear, someNear, nearFrame, nearCost}
 use Rattle.near_frames.proofs.NearKinds.{near-is-kind}
-use Rattle.near_frames.proofs.Squares.{root-lt, le-abs, abs-le}
+use Rattle.near_frames.proofs.Squares.{root-lt, le-abs}
 use Rattle.near_frames.proofs.Sum.{nearness-sum}
 use Rattle.near_frames.proofs.Frames.{limit-low, near-is, is-near}
 use Rattle.near_reading.specs.declared.NearReading.the-variants as answer
@@ -29,13 +29,13 @@ use Rattle.near_reading.specs.Claims.{Readable}
 use Rattle.near_reading.proofs.Tests.{number-read, answer-far, answer-near, distance-near, message-near, message-kept}
 
 -- a whole number less than 2 away from a sample of at most 128
-small-number : (z t : ℤ) → natAbs t ≤ 32768 → sq (pos 256 *ℤ z -ℤ t) < 262144 → natAbs z ≤ 1048576
+small-number : (z t : ℤ) → natAbs t ≤ 32768 → sq (pos 256 *ℤ z -ℤ t) < 262144 → natAbs z ≤ largestRead
 unfolding sq
 small-number z t h l =
     let s : ℤ = pos 256 *ℤ z -ℤ t in
     let r : natAbs s < 512 = root-lt (natAbs s) 512 l in
     let e = eq? (` s) (# 256 ⊗ ` z ⊖ ` t) (eq! (# 256 ⊗ ` z ⊖ ` t) (# 256 ⊗ ` z ⊖ ` t) (omega arith)) in
-    abs-le z 1048576 (omega (arith, r, h, e, le-abs s .0, le-abs t .0)) (omega (arith, r, h, e, le-abs s .1, le-abs t .1))
+    abs-le z largestRead (omega (arith, r, h, e, le-abs s .0, le-abs t .0)) (omega (arith, r, h, e, le-abs s .1, le-abs t .1))
 
 module _ (k b : ℕ) (xs : List Float) (bytes : List ℕ) (r : Readable k b xs (length bytes)) where
   abbrev t : List ℤ
@@ -46,9 +46,9 @@ module _ (k b : ℕ) (xs : List Float) (bytes : List ℕ) (r : Readable k b xs (
 
   -- a near frame is one that the open reading takes
   in-range : (f : List ℤ) → IsNear k t f → inRange f ≡ true
-  in-range f near = within-range f (within-all 1048576 f each)
+  in-range f near = within-range f (within-all largestRead f each)
     where
-      each : (p : ℕ) → p < length f → natAbs (getD f p (pos 0)) ≤ 1048576
+      each : (p : ℕ) → p < length f → natAbs (getD f p (pos 0)) ≤ largestRead
       each p h = small-number (at f p) (at t p) (within-at 32768 t p (samples-within xs (r .fit)))
           (omega (
             arith,

@@ -1,6 +1,7 @@
 // The tests of the readings, in document 01's order. A refusal is the number of the first one that is not passed; 0 is success.
 use frame_levels::broken_level;
 use frame_levels::level_words;
+use frame_range::in_range;
 use strict_test::is_least;
 ghost use mathlib.Core.Path.{_≡_};
 ghost use Rattle.frames.specs.Reading.{openRefusal};
@@ -43,7 +44,7 @@ fn open_tests(kind: u8, grade: u8, free: u8, frame: &[i32], n: usize) -> Tested
     if n != kind_table::message_bytes(kind, grade as usize) {
         return refused(3);
     }
-    if !coordinates::within(frame, 1048576) {
+    if !in_range(frame) {
         return refused(6);
     }
     let words = level_words(kind, frame);

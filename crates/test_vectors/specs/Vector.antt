@@ -59,9 +59,9 @@ gradeScale b = cond (eqb b 1) 4 (cond (eqb b 2) 8 (cond (eqb b 3) 16 32))
 unfoldable pub scaleOf : ℕ → ℕ → ℕ
 scaleOf k b = cond (eqb k 3) (gradeScale b) (cond (eqb k 6) (4 * gradeScale b) (2 * gradeScale b))
 
--- a coordinate moved up; one past the open reading's end stays
+-- a coordinate moved up; one above 2^30, which no reading takes, stays
 unfoldable pub movedBy : ℕ → ℤ → ℤ
-movedBy by z = cond (ltZ (pos 1048576) z) z (z +ℤ pos by)
+movedBy by z = cond (ltZ (pos 1073741824) z) z (z +ℤ pos by)
 
 -- the coordinates from a up to e moved, of a frame whose first one has place p
 unfoldable pub movedFrom : ℕ → ℕ → ℕ → ℕ → List ℤ → List ℤ

@@ -182,11 +182,11 @@ fn scale(kind: u8, grade: u8) -> u8
     2 * m
 }
 
-// A coordinate moved up. One past the open reading's end stays: its vector is no sent frame, and differs already.
+// A coordinate moved up. One above 2^30 stays, since the sum might not fit: its vector is no sent frame, and differs already.
 fn sum(z: i32, by: u8) -> i32
     ensures { λ r. ⌜ r ≡ movedBy by z ⌝ }
 {
-    if 1048576 < z {
+    if 1073741824 < z {
         return z;
     }
     z + (by as i32)

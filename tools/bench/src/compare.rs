@@ -7,8 +7,9 @@ use std::sync::atomic::{AtomicU64, Ordering};
 
 use crate::coders::{Coder, Figures, CODERS};
 use crate::{dense, lengths, levels, noise};
+use bench::hand::FURTHEST;
 use bench::random::Random;
-use bench::{exported, hand};
+use bench::{exported, far, hand};
 use frame_coder::Refusal;
 
 /// What to compare: so many frames of these kinds, of all three coders or of library and hand-tuned coder alone.
@@ -20,7 +21,8 @@ pub struct Plan {
 }
 
 /// The comparisons made, by answer (0 for success; for a block alone, refused and shaped), those of frames sent with free bits, of near
-/// readings and of queues among them and the messages sent in these, those of sending both ways, and those that differ.
+/// readings and of queues among them and the messages sent in these, the sums of frames that are read, outside the coding set and past
+/// the range, the comparisons of sending both ways, and those that differ.
 struct Tally {
     coders: &'static [Coder],
     answers: [u64; 18],
@@ -28,6 +30,7 @@ struct Tally {
     near: u64,
     queues: u64,
     queued: u64,
+    sums: [u64; 3],
     blocks: [u64; 2],
     ways: u64,
     different: u64,
@@ -64,6 +67,7 @@ impl Tally {
     fn add(&mut self, other: &Tally) {
         self.answers.iter_mut().zip(other.answers).for_each(|(sum, count)| *sum += count);
         self.blocks.iter_mut().zip(other.blocks).for_each(|(sum, count)| *sum += count);
+        self.sums.iter_mut().zip(other.sums).for_each(|(sum, count)| *sum += count);
         self.free += other.free;
         self.near += other.near;
         self.queues += other.queues;
@@ -72,9 +76,6 @@ impl Tally {
         self.different += other.different;
     }
 }
-
-/// The largest size of a coordinate of a block that is shaped by itself.
-const FURTHEST: i32 = 1 << 24;
 
 /// A message that has several frames of least energy, often: read from a frame on a coarse grid.
 fn edge(kind: u8, grade: u8, random: &mut Random) -> Vec<u8> {
@@ -125,13 +126,17 @@ fn changeover(count: u32, frames: u64, random: &mut Random) -> u32 {
     }
 }
 
+fn scale(kind: u8, grade: u8) -> i32 {
+    1 << (levels(kind) + grade as u32)
+}
+
 /// A frame, damaged: one coordinate moved at one level, or at several; two moved alike, which is a
 /// codeword of the last level of kind 6; another frame added, whose carries may break a level; a
 /// coordinate moved by the scale, or to anywhere, to the ends of the range and past them; or a
 /// lattice point added.
 fn damaged(kind: u8, grade: u8, frame: &[i32], random: &mut Random) -> Vec<i32> {
     let mut frame = frame.to_vec();
-    let scale = 1 << (levels(kind) + grade as u32);
+    let scale = scale(kind, grade);
     let place = random.below(frame.len() as u64) as usize;
     let sign = [-1, 1][random.below(2) as usize];
     match random.below(12) {
@@ -148,8 +153,8 @@ fn damaged(kind: u8, grade: u8, frame: &[i32], random: &mut Random) -> Vec<i32> 
             frame.iter_mut().zip(other).for_each(|(x, z)| *x += z);
         }
         6 => frame[place] += scale * (random.below(5) as i32 - 2),
-        7 => frame[place] = random.below(2_097_155) as i32 - 1_048_577,
-        8 => frame[place] = sign * (1_048_574 + random.below(4) as i32),
+        7 => frame[place] = far::anywhere(random),
+        8 => frame[place] = far::about_an_end(random),
         9 => frame[place] = [i32::MIN, i32::MAX][random.below(2) as usize],
         _ => {
             let odd = random.below(2) as i32;
@@ -373,8 +378,8 @@ fn misfits(random: &mut Random, tally: &mut Tally) {
     near_reading(kind, grade, &samples, bytes, tally);
 }
 
-/// Eight coordinates, up to the scale in size or up to all that is shaped, in steps of 1, or of a
-/// quarter or a half of the scale, where the least members are often several; at times one of them
+/// Eight coordinates, up to the scale in size or up to all that is shaped, which is the range of the readings, in steps of 1, or
+/// of a quarter or a half of the scale, where the least members are often several; at times one of them
 /// at the ends of the range or past them.
 fn coordinates(scale: i32, random: &mut Random) -> Vec<i32> {
     let step = [1, (scale / 4).max(1), scale / 2][random.below(3) as usize];
@@ -494,8 +499,34 @@ fn clear_free(kind: u8, free: u8, message: &mut [u8], random: &mut Random) {
     }
 }
 
-/// One message, its frame under a number, judged by it and by the other rule, the frame damaged in three ways, and noisy samples
-/// of it; at times an unfit sample, calls that do not fit, an account opened, and a queue.
+/// A sum of sent frames of one kind, of any grades and numbers, read; and damaged. In range, sums of kinds 3 to 5 are in the coding
+/// set, and of those of kind 6 no level below 2 is broken.
+fn sums(plan: &Plan, random: &mut Random, tally: &mut Tally) {
+    let (kind, grade) = format(plan, random);
+    let (length, bytes) = lengths(kind, grade);
+    let sum = far::sum(length, random, |random| {
+        let (grade, mut sent) = (1 + random.below(4) as u8, vec![0; length]);
+        let message = [dense, dense, edge][random.below(3) as usize](kind, grade, random);
+        hand::send(kind, grade, number(random), &message, &mut sent).expect("the message is good");
+        sent
+    });
+    let (number, free) = (number(random), free_count(plan, random));
+    readings(kind, grade, free, &[number], &sum, bytes, tally);
+    readings(kind, grade, free, &[number], &damaged(kind, grade, &sum, random), bytes, tally);
+    // The readings are the same by all coders; so one is enough to see that it is an answer for a sum, with this energy.
+    let own = sum.iter().map(|&x| x.unsigned_abs() as u64 * x.unsigned_abs() as u64).sum();
+    let answer = hand::read_open_free(kind, grade, free, &sum, &mut vec![0; bytes]);
+    let (sort, expected) = match answer {
+        _ if sum.iter().any(|x| x.abs() > FURTHEST) => (2, Err(hand::refusal::OVER_RANGE)),
+        Err(_) if kind == 6 => (1, Err(hand::refusal::BROKEN_LEVEL_2)),
+        _ => (0, Ok(own)),
+    };
+    tally.sums[sort] += 1;
+    tally.compare("sum", &(kind, grade, sum), &[answer, expected]);
+}
+
+/// One message, its frame under a number, judged by it and by the other rule, another frame of its class far out, both damaged, and
+/// noisy samples of it; at times an unfit sample, calls that do not fit, an account opened, a sum of frames, and a queue.
 fn frame(plan: &Plan, random: &mut Random, tally: &mut Tally) {
     let (kind, grade) = format(plan, random);
     let (length, bytes) = lengths(kind, grade);
@@ -505,8 +536,10 @@ fn frame(plan: &Plan, random: &mut Random, tally: &mut Tally) {
     let mut frame = vec![0; length];
     if hand::send_free(kind, grade, number, free, &message, &mut frame).is_ok() {
         readings(kind, grade, free, &[number, number ^ 1], &frame, bytes, tally);
-        for _ in 0..3 {
-            readings(kind, grade, free, &[number], &damaged(kind, grade, &frame, random), bytes, tally);
+        let distant = far::in_the_class(&frame, scale(kind, grade), random);
+        readings(kind, grade, free, &[number], &distant, bytes, tally);
+        for from in [&frame, &frame, &distant] {
+            readings(kind, grade, free, &[number], &damaged(kind, grade, from, random), bytes, tally);
         }
         // The frame of a filling, which may be sent or not.
         if free > 0 {
@@ -529,6 +562,7 @@ fn frame(plan: &Plan, random: &mut Random, tally: &mut Tally) {
     }
     if random.below(4) == 0 {
         queue(plan, random, tally);
+        sums(plan, random, tally);
     }
     if !plan.all {
         both_ways(kind, grade, number, &message, length, tally);
@@ -566,6 +600,7 @@ pub fn run(plan: &Plan) -> u64 {
             near: 0,
             queues: 0,
             queued: 0,
+            sums: [0; 3],
             blocks: [0; 2],
             ways: 0,
             different: 0,
@@ -595,6 +630,8 @@ pub fn run(plan: &Plan) -> u64 {
     println!("frames sent with free bits: {}", sum.free);
     println!("near readings: {}", sum.near);
     println!("queues: {}, with {} messages sent", sum.queues, sum.queued);
+    let [read, outside, past] = sum.sums;
+    println!("sums of frames: {read} read, {outside} outside the coding set, {past} past the range");
     let [refused, shaped] = sum.blocks;
     if !plan.all {
         println!("sent both ways: {}\nblocks shaped: {shaped}\nblocks refused: {refused}", sum.ways);

@@ -47,6 +47,12 @@
 //! energies are the same, and the reading order is turned round: the last of the least members of x's class
 //! is the first of those of −x's, with every sign changed.
 //!
+//! # Large coordinates
+//!
+//! A block is rounded and reduced modulo 2^32. That is an even multiple of each scale, so that it is a point of the lattice at each
+//! coordinate, and any i32 is taken. The energy of a frame that is read is 64·2^48 at most, in 64 bits; that of a frame past the
+//! range may go round, and is not given.
+//!
 //! # Free bits
 //!
 //! The last bits of a message are those of the last block: fillings differ in that block alone, and a filling of least energy is one
@@ -91,7 +97,8 @@ fn odd(number: u32) -> bool {
     number & 1 == 1
 }
 
-const FURTHEST: i32 = 1_048_576;
+/// The largest size of a coordinate that is read.
+pub const FURTHEST: i32 = 16_777_216;
 const FULL: u32 = 1_000_000;
 const MOST_FREE: u8 = 4;
 
@@ -485,7 +492,7 @@ impl<const KIND: usize, const B: usize> Format<KIND, B> {
             return Err(refusal::MESSAGE_LENGTH);
         }
         let (mut over, mut unlike) = (false, false);
-        let mut energy = 0;
+        let mut energy = 0u64;
         let (mut c0, mut c1, mut c2) = (0, 0, 0);
         let mut packed = [0; 8];
         for (j, block) in frame.as_chunks::<8>().0.iter().enumerate() {
@@ -493,7 +500,7 @@ impl<const KIND: usize, const B: usize> Format<KIND, B> {
             for (i, &x) in block.iter().enumerate() {
                 over |= !(-FURTHEST..=FURTHEST).contains(&x);
                 let size = x.unsigned_abs() as u64;
-                energy += size * size;
+                energy = energy.wrapping_add(size * size);
                 w0 |= (x as u32 & 1) << i;
                 w1 |= (x as u32 >> 1 & 1) << i;
                 w2 |= (x as u32 >> 2 & 1) << i;

@@ -38,6 +38,11 @@
 //! What a receiver has of a frame is noisy samples. Of kinds 3 to 5 [`read_near`] finds the frame of the coding set
 //! that is near to them, of which there is never a second one, and gives its message and how far it is.
 //!
+//! A repeater adds sent frames of one kind, whatever their grades and numbers. [`read_open`] takes the sum as it takes any frame
+//! with coordinates up to [`MAX_COORDINATE`] in size, which those of up to 131,072 frames added are, and gives the message of the
+//! sum itself. A sum in range is always read at kinds 3 to 5; at kind 6 it is read, or it has left the coding set and is refused
+//! by [`Refusal::BrokenLevel2`], never by another broken level.
+//!
 //! Bad input is refused with a [`Refusal`], and what was lent is then as it was. A queue keeps what was
 //! sent before the refused message, and says how many they are ([`Stopped`]).
 //!
@@ -63,7 +68,7 @@ pub const VERSION: &str = env!("CARGO_PKG_VERSION");
 pub const MAX_FREE: u8 = 4;
 
 /// A reading takes coordinates from minus this to this.
-pub const MAX_COORDINATE: i32 = 1_048_576;
+pub const MAX_COORDINATE: i32 = 16_777_216;
 
 /// Sends under a number: fills the frame of the message, and gives its energy, which is the same under every
 /// number.

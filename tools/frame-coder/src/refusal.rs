@@ -88,7 +88,7 @@ impl Refusal {
             Refusal::MessageLength => "the message bytes are too few or too many for the kind and grade",
             Refusal::FrameLength => "the coordinates or samples are too few or too many",
             Refusal::SpareBits => "a spare or free bit of the message is set",
-            Refusal::OverRange => "a coordinate is outside -1048576 to 1048576",
+            Refusal::OverRange => "a coordinate is outside -16777216 to 16777216",
             Refusal::BrokenLevel0 => "level 0 of the frame is not a codeword",
             Refusal::BrokenLevel1 => "level 1 of the frame is not a codeword",
             Refusal::Unshaped => "the frame is not one that may be sent for its message under the number",

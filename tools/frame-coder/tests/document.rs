@@ -1,10 +1,10 @@
 //! The cases of document 01 and of the requests of document 02, through the static library.
 
 use frame_coder::{
-    by_number, message_bits, message_length, read_near, read_near_to_vec, read_open, read_open_free_to_vec,
-    read_open_to_vec, read_strict, read_strict_free, read_strict_free_to_vec, read_strict_to_vec, send, send_free,
-    send_free_to_vec, send_to_vec, Account, Grade, Kind, Refusal, Stopped, MAX_COORDINATE, MAX_FRAME_LENGTH, MAX_FREE,
-    MAX_MESSAGE_LENGTH,
+    by_number, message_bits, message_length, read_near, read_near_to_vec, read_open, read_open_free,
+    read_open_free_to_vec, read_open_to_vec, read_strict, read_strict_free, read_strict_free_to_vec,
+    read_strict_to_vec, send, send_free, send_free_to_vec, send_to_vec, Account, Grade, Kind, Refusal, Stopped,
+    MAX_COORDINATE, MAX_FRAME_LENGTH, MAX_FREE, MAX_MESSAGE_LENGTH,
 };
 
 /// Even and odd numbers, the last of all among them.
@@ -107,11 +107,157 @@ fn further_cases() {
     assert_eq!(read_open(Kind::Three, Grade::One, &frame, &mut [0; 2]), Err(Refusal::BrokenLevel0));
     assert_eq!(send(Kind::Three, Grade::One, 0, &[0x00, 0x10], &mut frame), Err(Refusal::SpareBits));
     assert_eq!(frame, [1, 0, 0, 0, 0, 0, 0, 0]);
-    frame[0] = MAX_COORDINATE;
-    assert_eq!(read_open(Kind::Three, Grade::One, &frame, &mut [0; 2]), Ok(1 << 40));
-    frame[0] = MAX_COORDINATE + 1;
-    assert_eq!(read_open(Kind::Three, Grade::One, &frame, &mut [0; 2]), Err(Refusal::OverRange));
-    assert_eq!(read_strict(Kind::Three, Grade::One, 0, &frame, &mut [0; 2]), Err(Refusal::OverRange));
+}
+
+/// Every coordinate at both ends of the range and one past them, alone, and with all others at the end. A multiple of 256 at each
+/// place is a point of the lattice, so that the message is all 0.
+#[test]
+fn ends_of_the_range() {
+    assert_eq!(MAX_COORDINATE, 16_777_216);
+    for (&kind, &grade) in Kind::ALL.iter().flat_map(|kind| Grade::ALL.iter().map(move |grade| (kind, grade))) {
+        let (length, bytes) = (kind.frame_length(), message_length(kind, grade));
+        let check = |frame: &[i32], free: u8, expected: Result<u64, Refusal>| {
+            let mut message = vec![0xA5; bytes];
+            assert_eq!(read_open_free(kind, grade, free, frame, &mut message), expected);
+            assert_eq!(message, vec![if expected.is_ok() { 0 } else { 0xA5 }; bytes]);
+            let mut message = vec![0xA5; bytes];
+            for number in [0, 1] {
+                let refusal = expected.err().unwrap_or(Refusal::Unshaped);
+                assert_eq!(read_strict_free(kind, grade, number, free, frame, &mut message), Err(refusal));
+            }
+            assert_eq!(message, vec![0xA5; bytes]);
+        };
+        for end in [-16_777_216, 16_777_216i32] {
+            check(&vec![end; length], 0, Ok((length as u64) << 48));
+            for place in 0..length {
+                let free = place as u8 % (MAX_FREE + 1);
+                let with = |others: i32, x: i32| {
+                    let mut frame = vec![others; length];
+                    frame[place] = x;
+                    frame
+                };
+                check(&with(0, end), free, Ok(1 << 48));
+                for others in [0, 1, end] {
+                    check(&with(others, end + end.signum()), free, Err(Refusal::OverRange));
+                }
+                check(&with(end, end - end.signum()), free, Err(Refusal::BrokenLevel0));
+            }
+        }
+        for x in [i32::MIN, i32::MAX] {
+            check(&vec![x; length], 0, Err(Refusal::OverRange));
+        }
+    }
+    // Past the range of document 01 a coordinate is read like any other.
+    for x in [1_048_577, -1_048_577] {
+        let read = read_open_to_vec(Kind::Three, Grade::One, &[x; 8]);
+        assert_eq!(read, Ok((vec![0x01, 0x00], 8 * 1_048_577 * 1_048_577)));
+        let alone = [x, 0, 0, 0, 0, 0, 0, 0];
+        assert_eq!(read_open_to_vec(Kind::Three, Grade::One, &alone), Err(Refusal::BrokenLevel0));
+        assert_eq!(read_strict_to_vec(Kind::Three, Grade::One, 0, &alone), Err(Refusal::BrokenLevel0));
+    }
+}
+
+fn added(x: &[i32], y: &[i32]) -> Vec<i32> {
+    x.iter().zip(y).map(|(x, y)| x + y).collect()
+}
+
+/// Two frames of kind 6 added, each 2 where three bits of the place are set: the sum is 4 where both are 2, and there the bits of
+/// weight 4 depend on as many bits of the place as the two have together. Six of them are too many for level 2.
+#[test]
+fn sums_by_hand() {
+    let (kind, grade) = (Kind::Six, Grade::One);
+    let with = |bits: &[usize]| {
+        let mut message = vec![0; message_length(kind, grade)];
+        bits.iter().for_each(|bit| message[bit / 8] |= 1 << (bit % 8));
+        message
+    };
+    let [first, second, apart] = [(29, 0b000111), (30, 0b001011), (48, 0b111000)].map(|(bit, mask)| {
+        let frame: Vec<i32> = (0..64).map(|p| if p & mask == mask { 2 } else { 0 }).collect();
+        assert_eq!(send_to_vec(kind, grade, 0, &with(&[bit])), Ok((frame.clone(), 32)));
+        frame
+    });
+    let mut message = [0xA5; 22];
+    let sum = added(&first, &apart);
+    assert_eq!(read_open(kind, grade, &sum, &mut message), Err(Refusal::BrokenLevel2));
+    assert_eq!(read_strict(kind, grade, 0, &sum, &mut message), Err(Refusal::BrokenLevel2));
+    assert_eq!(message, [0xA5; 22]);
+    // The mask 0b001111 is the first of four bits, and has message bit 91.
+    let (sum, read) = (added(&first, &second), Ok((with(&[29, 30, 91]), 96)));
+    assert_eq!(read_open_to_vec(kind, grade, &sum), read);
+    assert_eq!(read_strict_to_vec(kind, grade, 1, &sum), read);
+
+    // The largest coordinate that is sent, 131,072 times.
+    let (mut message, mut frame) = (vec![0; 46], vec![0; 64]);
+    message[143 / 8] = 1 << (143 % 8);
+    frame[0] = -128;
+    assert_eq!(send_to_vec(kind, Grade::Four, 0, &message), Ok((frame.clone(), 16_384)));
+    let sum: Vec<i32> = frame.iter().map(|x| 131_072 * x).collect();
+    assert_eq!(read_open_to_vec(kind, Grade::Four, &sum), Ok((vec![0; 46], 1 << 48)));
+    assert_eq!(read_open_to_vec(kind, Grade::Four, &added(&sum, &frame)), Err(Refusal::OverRange));
+}
+
+/// Whether two frames differ by a point of the lattice: in each block by half the scale times numbers of one parity, whose sum 4
+/// divides.
+fn same_class(kind: Kind, grade: Grade, x: &[i32], y: &[i32]) -> bool {
+    let half = 1 << ([1, 2, 2, 3][kind as usize - 3] + grade.number() - 1);
+    x.chunks_exact(8).zip(y.chunks_exact(8)).all(|(x, y)| {
+        let off: Vec<i32> = x.iter().zip(y).map(|(x, y)| x - y).collect();
+        let twice: Vec<i32> = off.iter().map(|off| off / half).collect();
+        let one_parity = twice.iter().all(|w| (w ^ twice[0]) & 1 == 0);
+        off.iter().all(|off| off % half == 0) && one_parity && twice.iter().sum::<i32>() % 4 == 0
+    })
+}
+
+/// Sent frames of any grades and numbers added, 2, 10, 100 and 131,072 of them: at kinds 3 to 5 the sum is read, and at kind 6 it is
+/// read or outside the coding set.
+#[test]
+fn sums() {
+    let mut state = 1u64;
+    let mut random = || {
+        state = state.wrapping_mul(6_364_136_223_846_793_005).wrapping_add(1_442_695_040_888_963_407);
+        (state >> 32) as u32
+    };
+    for &kind in Kind::ALL {
+        let mut sent = || {
+            let grade = Grade::ALL[random() as usize % 4];
+            let mut message = vec![0; message_length(kind, grade)];
+            for k in 0..message_bits(kind, grade) {
+                message[k / 8] |= (random() as u8 & 1) << (k % 8);
+            }
+            send_to_vec(kind, grade, random(), &message).unwrap().0
+        };
+        let mut outside = 0;
+        for turn in 0..200 {
+            let mut sum = sent();
+            match turn % 4 {
+                0 => sum = added(&sum, &sent()),
+                1 => (0..9).for_each(|_| sum = added(&sum, &sent())),
+                2 => (0..99).for_each(|_| sum = added(&sum, &sent())),
+                _ => sum = added(&sum.iter().map(|x| 131_071 * x).collect::<Vec<_>>(), &sent()),
+            }
+            let own = sum.iter().map(|&x| i64::from(x) * i64::from(x)).sum::<i64>() as u64;
+            for &grade in Grade::ALL {
+                match read_open_to_vec(kind, grade, &sum) {
+                    Ok((message, energy)) => {
+                        assert_eq!(energy, own);
+                        for number in [0, 1] {
+                            let (frame, energy) = send_to_vec(kind, grade, number, &message).unwrap();
+                            assert!(same_class(kind, grade, &sum, &frame));
+                            let judged =
+                                if frame == sum { Ok((message.clone(), energy)) } else { Err(Refusal::Unshaped) };
+                            assert_eq!(read_strict_to_vec(kind, grade, number, &sum), judged);
+                        }
+                    }
+                    refused => {
+                        assert_eq!((kind, refused), (Kind::Six, Err(Refusal::BrokenLevel2)));
+                        assert_eq!(read_strict_to_vec(kind, grade, 0, &sum), Err(Refusal::BrokenLevel2));
+                        outside += 1;
+                    }
+                }
+            }
+        }
+        assert!(if kind == Kind::Six { 0 < outside && outside < 800 } else { outside == 0 });
+    }
 }
 
 /// Cases of kind 6 that are worked by hand.
@@ -148,7 +294,7 @@ fn sixty_four_coordinates() {
                 assert_eq!(read_strict_to_vec(Kind::Six, grade, number, &begun(&[first])), Err(refusal));
             }
         }
-        assert_eq!(read_open_to_vec(Kind::Six, grade, &[MAX_COORDINATE; 64]).map(|read| read.1), Ok(1 << 46));
+        assert_eq!(read_open_to_vec(Kind::Six, grade, &[MAX_COORDINATE; 64]).map(|read| read.1), Ok(1 << 54));
         assert_eq!(read_open_to_vec(Kind::Six, grade, &begun(&[4, MAX_COORDINATE + 1])), Err(Refusal::OverRange));
     }
     let (message, energy) = read_open_to_vec(Kind::Six, Grade::One, &[4; 64]).unwrap();
@@ -733,6 +879,8 @@ fn refusals() {
     assert_eq!(numbers, [1, 2, 3, 4, 5, 6, 7, 8, 9, 11, 13, 14, 15, 16, 17]);
     let unshaped = "refused 9: the frame is not one that may be sent for its message under the number";
     assert_eq!(Refusal::Unshaped.to_string(), unshaped);
+    let over_range = "refused 6: a coordinate is outside -16777216 to 16777216";
+    assert_eq!(Refusal::OverRange.to_string(), over_range);
     assert_eq!(Refusal::BrokenLevel2.to_string(), "refused 13: level 2 of the frame is not a codeword");
     assert_eq!(Refusal::Changeover.to_string(), "refused 14: the changeover is above 1000000");
     let unfit = "refused 15: a sample is not a whole number of 256ths from -128 to 128";

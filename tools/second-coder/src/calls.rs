@@ -1,7 +1,9 @@
 //! Calls of the library, with what they must answer and leave, the same on every run.
 
+mod large;
+
 use crate::account::{largest_block, open, send_counted, Account, FULL};
-use crate::frame::{read_open_into, read_strict_into, send, send_into, Format, GRADES, KINDS};
+use crate::frame::{read_open_into, read_strict_into, send, send_into, Format, FURTHEST, GRADES, KINDS};
 use crate::random::Random;
 use crate::test_file::{one_bit, places, TestFile};
 use crate::vectors::{dense, edge, halves, moved_by_point, tied, tied_edge, tied_throughout, with_bits};
@@ -166,6 +168,9 @@ struct Calls {
 /// Numbers of both parities: the first, about 2^31, and the last.
 const NUMBERS: [u32; 6] = [0, 1, 1 << 31, (1 << 31) + 1, u32::MAX - 1, u32::MAX];
 
+/// The ends of the range, and one past each.
+const ENDS: [i64; 4] = [FURTHEST, FURTHEST + 1, -FURTHEST, -FURTHEST - 1];
+
 /// An account that a call does not change. Its next frame has an odd number.
 pub const NONE: Account = Account { count: 17, sum: -2.5, largest: 3, changeover: 5 };
 
@@ -211,6 +216,12 @@ impl Calls {
         self.read_strict(kind, grade, number, frame, m);
     }
 
+    /// Both readings of a frame, under the next number.
+    fn read_any(&mut self, kind: u8, grade: u8, frame: &[i64]) {
+        let number = self.any();
+        self.read(kind, grade, number, frame, Format::new(kind, grade).unwrap().message_bytes());
+    }
+
     /// Sending under a number, and both readings of what is sent.
     fn send_and_read(&mut self, kind: u8, grade: u8, number: u32, message: &[u8]) {
         let sent = send(kind, grade, number, message).unwrap();
@@ -236,7 +247,8 @@ fn opening(calls: &mut Calls) {
     }
 }
 
-/// The exam frames and the further cases of document 01, by number 0, and those that have ties by odd numbers too.
+/// The exam frames and the further cases of document 01, by number 0, and those that have ties by odd numbers too; and 1,048,576, the ends
+/// of the range, one past each, and the ends of an i32, alone and throughout.
 fn document(calls: &mut Calls) {
     let messages: [[u8; 2]; 8] = [[0, 0], [1, 0], [2, 0], [0x10, 0], [0, 4], [0x10, 4], [0, 8], [0xF0, 7]];
     for message in messages {
@@ -257,8 +269,11 @@ fn document(calls: &mut Calls) {
     }
     calls.read(3, 1, 0, &[1, 0, 0, 0, 0, 0, 0, 0], 2);
     calls.send(3, 1, 0, &[0x00, 0x10], 8);
-    for x in [1_048_576, 1_048_577, -1_048_576, -1_048_577, i32::MAX as i64, i32::MIN as i64] {
-        calls.read(3, 1, 0, &[x, 0, 0, 0, 0, 0, 0, 0], 2);
+    // The ends that document 01 has are coordinates like any other.
+    let inside = [1_048_576, 1_048_577, -1_048_576, -1_048_577];
+    for x in inside.into_iter().chain(ENDS).chain([i32::MAX as i64, i32::MIN as i64]) {
+        calls.read_any(3, 1, &[x, 0, 0, 0, 0, 0, 0, 0]);
+        calls.read_any(3, 1, &[x; 8]);
     }
 }
 
@@ -370,7 +385,7 @@ fn changeovers(calls: &mut Calls, kind: u8, grade: u8) {
 fn ends(calls: &mut Calls, kind: u8, grade: u8, random: &mut Random) {
     let format = Format::new(kind, grade).unwrap();
     let (m, n) = (format.message_bytes(), format.length());
-    for end in [1_048_576, -1_048_576] {
+    for end in [FURTHEST, -FURTHEST] {
         let mut frame = vec![0; n];
         let place = random.below(n as u64) as usize;
         frame[place] = end;
@@ -423,7 +438,7 @@ fn lengths(calls: &mut Calls, kind: u8, grade: u8) {
     for (m, n) in [(m - 1, n - 1), (m + 1, n + 1), (m, n - 1), (m, n + 1), (m - 1, n), (m + 1, n), (0, n), (m, 0)] {
         let number = calls.any();
         calls.send(kind, grade, number, &vec![0xFF; m], n);
-        calls.read(kind, grade, number, &vec![1_048_577; n], m);
+        calls.read(kind, grade, number, &vec![FURTHEST + 1; n], m);
         calls.count(kind, grade, &vec![0xFF; m], n, Account { count: FULL, sum: 0.1, largest: 5, changeover: number });
     }
 }
@@ -436,7 +451,7 @@ fn wrong(calls: &mut Calls) {
     for (kind, grade) in kinds.into_iter().chain(kinds.map(|(kind, _)| (kind, 1))).chain(grades) {
         let number = calls.any();
         calls.send(kind, grade, number, &[0xFF; 7], 15);
-        calls.read(kind, grade, number, &[1_048_577; 15], 7);
+        calls.read(kind, grade, number, &[FURTHEST + 1; 15], 7);
         let account = Account { count: u32::MAX, sum: 0.1, largest: u64::MAX, changeover: number };
         calls.count(kind, grade, &[0xFF; 7], 15, account);
         // The lengths of a kind and grade that there are.
@@ -559,10 +574,10 @@ fn each(mut put: impl FnMut(&mut Calls, u8, u8)) -> Vec<Call> {
 }
 
 /// The calls of each sort.
-fn sorts() -> [(&'static str, Vec<Call>); 15] {
+fn sorts() -> Vec<(&'static str, Vec<Call>)> {
     let mut random = Random::new(4);
     let random = &mut random;
-    [
+    vec![
         ("opening", once(opening)),
         ("document 01", once(document)),
         ("kind 6 by hand", once(sixty_four)),
@@ -578,10 +593,19 @@ fn sorts() -> [(&'static str, Vec<Call>); 15] {
         ("an account grown", once(|calls| grown(calls, random))),
         ("figures for the largest block", each(|calls, kind, grade| largest(calls, kind, grade, random))),
         ("each block the largest", once(each_block)),
+        ("the ends at each place", once(|calls| KINDS.for_each(|kind| large::ends(calls, kind, random)))),
+        ("past the range at one place", each(|calls, kind, grade| large::past(calls, kind, grade, random))),
+        ("sizes", each(|calls, kind, grade| large::sizes(calls, kind, grade, random))),
+        ("powers of 2", each(|calls, kind, grade| large::powers(calls, kind, grade, random))),
+        ("sums", each(|calls, kind, grade| large::sums(calls, kind, grade, random))),
+        ("sums by hand", once(large::sums_by_hand)),
+        ("large with broken levels", each(|calls, kind, grade| large::broken(calls, kind, grade, random))),
+        ("large energies", each(|calls, kind, grade| large::energies(calls, kind, grade, random))),
     ]
 }
 
-/// A call of each function that is accepted, and one that is refused: with these wrong answers are planted.
+/// A call of each function that is accepted, and one that is refused, and the reading of the largest energy: with these wrong answers are
+/// planted.
 fn planted() -> Vec<Call> {
     once(|calls| {
         calls.send(4, 1, 1, &[0x20, 0, 0, 0, 0], 16);
@@ -593,6 +617,8 @@ fn planted() -> Vec<Call> {
         let frame = send(6, 1, 1, &six).unwrap().frame;
         calls.read_strict(6, 1, 1, &frame, six.len());
         calls.read_strict(6, 1, 2, &frame, six.len());
+        // The largest energy: as an f64 one more is the same.
+        calls.read_open(6, 1, &[FURTHEST; 64], six.len());
         calls.count(5, 1, &five, 32, NONE);
         calls.count(5, 1, &five, 32, Account { count: FULL, sum: -0.0, ..NONE });
         for changeover in [FULL, FULL + 1] {
@@ -649,9 +675,15 @@ mod tests {
     use crate::frame::send_by;
     use crate::test_file::fields_apart;
 
+    /// The calls of each sort, made once for all tests.
+    pub fn of_each_sort() -> &'static [(&'static str, Vec<Call>)] {
+        static ALL: std::sync::OnceLock<Vec<(&str, Vec<Call>)>> = std::sync::OnceLock::new();
+        ALL.get_or_init(sorts)
+    }
+
     /// The calls of every sort.
-    fn calls() -> Vec<Call> {
-        sorts().into_iter().flat_map(|(_, calls)| calls).collect()
+    pub fn calls() -> Vec<&'static Call> {
+        of_each_sort().iter().flat_map(|(_, calls)| calls).collect()
     }
 
     #[test]

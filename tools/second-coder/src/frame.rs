@@ -9,6 +9,9 @@ use crate::{code, refusal};
 pub const KINDS: RangeInclusive<u8> = 3..=6;
 pub const GRADES: RangeInclusive<u8> = 1..=4;
 
+/// The readings take coordinates from −FURTHEST to FURTHEST.
+pub const FURTHEST: i64 = 16_777_216;
+
 /// The refusal for each level that is not a codeword.
 const BROKEN: [u8; 3] = [refusal::BROKEN_LEVEL_0, refusal::BROKEN_LEVEL_1, refusal::BROKEN_LEVEL_2];
 
@@ -213,18 +216,8 @@ fn block_numbers(v: &Block, grade: usize) -> Block {
     found[0]
 }
 
-/// Reading openly, with the number of message bytes that the caller lends: the message and the energy.
-pub fn read_open_into(kind: u8, grade: u8, frame: &[i64], bytes: usize) -> Result<(Vec<u8>, u64), u8> {
-    let format = Format::new(kind, grade)?;
-    if frame.len() != format.length() {
-        return Err(refusal::FRAME_LENGTH);
-    }
-    if bytes != format.message_bytes() {
-        return Err(refusal::MESSAGE_LENGTH);
-    }
-    if frame.iter().any(|x| !(-1_048_576..=1_048_576).contains(x)) {
-        return Err(refusal::OVER_RANGE);
-    }
+/// The message of a frame of the coding set, whatever the size of its coordinates, or the refusal for the first level that is broken.
+pub fn message_of(format: &Format, frame: &[i64]) -> Result<Vec<u8>, u8> {
     let mut bits = Vec::new();
     let mut rest = frame.to_vec();
     for (level, &r) in format.levels.iter().enumerate() {
@@ -241,11 +234,26 @@ pub fn read_open_into(kind: u8, grade: u8, frame: &[i64], bytes: usize) -> Resul
             bits.extend((0..width).map(|i| x >> i & 1 == 1));
         }
     }
-    let mut message = vec![0; bytes];
+    let mut message = vec![0; format.message_bytes()];
     for (k, &bit) in bits.iter().enumerate() {
         message[k / 8] |= (bit as u8) << (k % 8);
     }
-    Ok((message, class::energy(frame)))
+    Ok(message)
+}
+
+/// Reading openly, with the number of message bytes that the caller lends: the message and the energy.
+pub fn read_open_into(kind: u8, grade: u8, frame: &[i64], bytes: usize) -> Result<(Vec<u8>, u64), u8> {
+    let format = Format::new(kind, grade)?;
+    if frame.len() != format.length() {
+        return Err(refusal::FRAME_LENGTH);
+    }
+    if bytes != format.message_bytes() {
+        return Err(refusal::MESSAGE_LENGTH);
+    }
+    if frame.iter().any(|x| !(-FURTHEST..=FURTHEST).contains(x)) {
+        return Err(refusal::OVER_RANGE);
+    }
+    Ok((message_of(&format, frame)?, class::energy(frame)))
 }
 
 /// Reading strictly under a number: the frame must be the one that is sent under it for the message that the open reading gives.
@@ -270,6 +278,7 @@ pub fn read_strict(kind: u8, grade: u8, number: u32, frame: &[i64]) -> Result<(V
 #[cfg(test)]
 mod tests {
     use super::*;
+    use crate::far::{added, times};
     use crate::random::Random;
 
     /// The frame and the energy under a number.
@@ -317,13 +326,41 @@ mod tests {
             assert_eq!(read_open(3, grade, &[1, 0, 0, 0, 0, 0, 0, 0]), Err(refusal::BROKEN_LEVEL_0));
         }
         assert_eq!(send(3, 1, 0, &[0x00, 0x10]).err(), Some(refusal::SPARE_BITS));
-        for end in [-1i64, 1] {
-            let mut frame = [0; 8];
-            frame[3] = 1_048_576 * end;
-            assert_eq!(read_open(3, 1, &frame), Ok((vec![0, 0], 1 << 40)));
-            frame[3] += end;
-            assert_eq!(read_open(3, 1, &frame), Err(refusal::OVER_RANGE));
-            assert_eq!(read_strict(3, 1, 0, &frame), Err(refusal::OVER_RANGE));
+    }
+
+    #[test]
+    fn ends_of_the_range() {
+        let alone = |x| [0, 0, 0, x, 0, 0, 0, 0];
+        for sign in [-1, 1] {
+            for x in [sign * 1_048_576, sign * 16_777_216] {
+                assert_eq!(read_open(3, 1, &alone(x)), Ok((vec![0, 0], (x * x) as u64)));
+                assert_eq!(read_strict(3, 1, 0, &alone(x)), Err(refusal::UNSHAPED));
+            }
+            for frame in [alone(sign * 16_777_217), [sign * 16_777_217; 8], alone(sign * i32::MAX as i64)] {
+                assert_eq!(read_open(3, 1, &frame), Err(refusal::OVER_RANGE));
+                assert_eq!(read_strict(3, 1, 0, &frame), Err(refusal::OVER_RANGE));
+            }
+            // 1,048,577 is an odd number like any other.
+            let x = sign * 1_048_577;
+            assert_eq!(read_open(3, 1, &[x; 8]), Ok((vec![1, 0], 8 * (x * x) as u64)));
+            assert_eq!(read_strict(3, 1, 0, &[x; 8]), Err(refusal::UNSHAPED));
+            assert_eq!(read_open(3, 1, &alone(x)), Err(refusal::BROKEN_LEVEL_0));
+            assert_eq!(read_strict(3, 1, 0, &alone(x)), Err(refusal::BROKEN_LEVEL_0));
+        }
+        for (kind, grade) in KINDS.flat_map(|kind| GRADES.map(move |grade| (kind, grade))) {
+            let format = Format::new(kind, grade).unwrap();
+            let (m, n) = (format.message_bytes(), format.length());
+            for end in [-FURTHEST, FURTHEST] {
+                assert_eq!(read_open(kind, grade, &vec![end; n]), Ok((vec![0; m], 1 << (48 + kind))));
+                assert_eq!(read_strict(kind, grade, 0, &vec![end; n]), Err(refusal::UNSHAPED));
+                for place in 0..n {
+                    let mut frame = vec![0; n];
+                    frame[place] = end;
+                    assert_eq!(read_open(kind, grade, &frame), Ok((vec![0; m], 1 << 48)));
+                    frame[place] += end.signum();
+                    assert_eq!(read_open(kind, grade, &frame), Err(refusal::OVER_RANGE));
+                }
+            }
         }
     }
 
@@ -367,12 +404,78 @@ mod tests {
         }
         assert_eq!(read_open(6, 1, &[4; 64]), Ok((one_bit(1, 49), 1024)));
         assert_eq!(read_strict(6, 1, 0, &[4; 64]), Err(refusal::UNSHAPED));
-        for end in [-1_048_576, 1_048_576] {
-            assert_eq!(read_open(6, 4, &[end; 64]), Ok((vec![0; 46], 1 << 46)));
+        for end in [-FURTHEST, FURTHEST] {
+            assert_eq!(read_open(6, 4, &[end; 64]), Ok((vec![0; 46], 1 << 54)));
             assert_eq!(read_strict(6, 4, 0, &[end; 64]), Err(refusal::UNSHAPED));
             let past = begun(&[4, end + end.signum()]);
             assert_eq!(read_open(6, 4, &past), Err(refusal::OVER_RANGE));
             assert_eq!(read_strict(6, 4, 0, &past), Err(refusal::OVER_RANGE));
+        }
+    }
+
+    /// Two sent frames of kind 6 whose sum leaves the coding set, and two whose sum does not: 2 where the place has the bits of a mask.
+    /// The carry into level 2 is at places that have the bits of both masks: six bits, which is one too many, or four.
+    #[test]
+    fn sums_of_two_frames_of_kind_6() {
+        for grade in GRADES {
+            let [low, high, other] = [(29, 7), (48, 56), (30, 11)].map(|(k, mask)| {
+                let frame: Vec<i64> = (0..64).map(|p| if p & mask == mask { 2 } else { 0 }).collect();
+                for number in [0, 1] {
+                    assert_eq!(numbered(6, grade, number, &one_bit(grade, k)).0, frame);
+                }
+                frame
+            });
+            let broken = added(&low, &high);
+            assert_eq!(read_open(6, grade, &broken), Err(refusal::BROKEN_LEVEL_2));
+            assert_eq!(read_strict(6, grade, 0, &broken), Err(refusal::BROKEN_LEVEL_2));
+            // 4 at four places, 2 at eight more: energy 4 · 16 + 8 · 4.
+            let read = added(&low, &other);
+            let (message, energy) = read_open(6, grade, &read).unwrap();
+            assert_eq!((message[3], energy), (0x60, 96));
+            assert_eq!(read_strict(6, grade, 0, &read), Ok((message, energy)));
+        }
+    }
+
+    /// 131,072 times the frame that has −128, or 128, at its first place.
+    #[test]
+    fn as_many_as_the_range_takes() {
+        let message = one_bit(4, 143);
+        assert_eq!((message[17], message.len()), (128, 46));
+        for (number, sign) in [(0, -1), (1, 1)] {
+            let frame = numbered(6, 4, number, &message).0;
+            assert_eq!(frame, begun(&[sign * 128]));
+            let sum = times(131_072, &frame);
+            assert_eq!(sum, begun(&[sign * FURTHEST]));
+            assert_eq!(read_open(6, 4, &sum), Ok((vec![0; 46], 1 << 48)));
+            assert_eq!(read_strict(6, 4, number, &sum), Err(refusal::UNSHAPED));
+            assert_eq!(read_open(6, 4, &times(131_073, &frame)), Err(refusal::OVER_RANGE));
+            assert_eq!(read_strict(6, 4, number, &times(131_073, &frame)), Err(refusal::OVER_RANGE));
+        }
+    }
+
+    /// Sums of sent frames, of few and of many, are read at kinds 3 to 5, and at kind 6 read or refused by 13. They are never refused by
+    /// 7 or 8, and up to 131,072 frames never by 6.
+    #[test]
+    fn sums_of_frames() {
+        let mut random = Random::new(8);
+        for (kind, grade) in KINDS.flat_map(|kind| GRADES.map(move |grade| (kind, grade))) {
+            let format = Format::new(kind, grade).unwrap();
+            let mut left = 0;
+            for counts in
+                [&[1; 2][..], &[1; 3], &[1; 100], &[1, 2, 3], &[131_071, 1], &[65_536, 32_769, 32_767]].repeat(6)
+            {
+                let mut sum = vec![0; format.length()];
+                for &count in counts {
+                    let message = crate::vectors::dense(&format, &mut random);
+                    let frame = numbered(kind, grade, random.draw() as u32, &message).0;
+                    sum = added(&sum, &times(count, &frame));
+                }
+                if let Err(number) = read_open(kind, grade, &sum) {
+                    assert_eq!((kind, number), (6, refusal::BROKEN_LEVEL_2));
+                    left += 1;
+                }
+            }
+            assert!(if kind == 6 { (6..30).contains(&left) } else { left == 0 });
         }
     }
 
@@ -383,7 +486,7 @@ mod tests {
         assert_eq!(send_into(3, 1, 0, &[255; 9], 9).err(), Some(refusal::MESSAGE_LENGTH));
         assert_eq!(send_into(3, 1, 0, &[255; 2], 9).err(), Some(refusal::FRAME_LENGTH));
         assert_eq!(send_into(3, 1, 0, &[255; 2], 8).err(), Some(refusal::SPARE_BITS));
-        let far = 1_048_577;
+        let far = FURTHEST + 1;
         assert_eq!(read_open_into(7, 9, &[far; 9], 9), Err(refusal::KIND));
         assert_eq!(read_open_into(4, 5, &[far; 9], 9), Err(refusal::GRADE));
         assert_eq!(read_open_into(4, 1, &[far; 9], 9), Err(refusal::FRAME_LENGTH));

@@ -122,7 +122,7 @@ mod tests {
     use super::*;
     use crate::account::{send_counted as send_counted_alone, FULL};
     use crate::class::energy;
-    use crate::frame::{read_strict_into, send, GRADES, KINDS};
+    use crate::frame::{read_strict_into, send, FURTHEST, GRADES, KINDS};
     use crate::random::Random;
     use crate::vectors::{dense, edge, moved_by_point, with_bits};
 
@@ -313,7 +313,7 @@ mod tests {
             assert_eq!(sent(3, 0, 9, 9), Some(refusal::GRADE));
             assert_eq!(sent(3, 1, 9, 9), Some(refusal::FREE_COUNT));
             assert_eq!(sent(3, 1, 2, 8), Some(refusal::FREE_COUNT));
-            let far = [1_048_577; 9];
+            let far = [FURTHEST + 1; 9];
             assert_eq!(read_open(7, 9, free, &far, 9), Err(refusal::KIND));
             assert_eq!(read_open(4, 5, free, &far, 9), Err(refusal::GRADE));
             assert_eq!(read_open(4, 1, free, &far, 9), Err(refusal::FREE_COUNT));

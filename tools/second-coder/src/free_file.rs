@@ -3,7 +3,7 @@
 use crate::account::{largest_block, Account, FULL};
 use crate::calls::{write_account, ONE_FIGURE};
 use crate::class::energy;
-use crate::frame::{Format, GRADES, KINDS, MOST_FREE};
+use crate::frame::{Format, FURTHEST, GRADES, KINDS, MOST_FREE};
 use crate::free::{cleared, read_open, read_strict, send_counted, send_into, Fillings};
 use crate::random::Random;
 use crate::refusal;
@@ -398,9 +398,9 @@ fn others(calls: &mut Calls, kind: u8, grade: u8, free: u8, random: &mut Random)
         frames.extend(fillings[1 - odd as usize].permitted().iter().map(|frame| frame.to_vec()));
         frames.extend([moved_by_point(&format, &own[0], random), moved_by_point(&format, &last, random)]);
         // Twice M at one place is a point too: as far as the range goes.
-        let far = (1_048_576 - 128) / (2 * scale) * (2 * scale);
+        let far = (FURTHEST - 128) / (2 * scale) * (2 * scale);
         frames.push(with(place, if odd { far } else { -far }));
-        frames.push(with(place, if odd { 1_048_577 } else { -1_048_577 } - last[place]));
+        frames.push(with(place, if odd { FURTHEST + 1 } else { -FURTHEST - 1 } - last[place]));
         frames.push(with(place, if odd { i32::MIN } else { i32::MAX } as i64 - last[place]));
         frames.extend((0..levels).map(|level| with(n - 1 - place, 1 << level)));
         let account = calls.account(number, largest_block(&own[0]));
@@ -422,7 +422,7 @@ fn counts(calls: &mut Calls, kind: u8, grade: u8, random: &mut Random) {
     for free in [5, 255] {
         for m in [m - 1, m, m + 1] {
             for n in [0, n - 1, n, (n + 1).min(COORDINATES)] {
-                calls.refused(kind, grade, free, &vec![0xFF; m], &vec![1_048_577; n]);
+                calls.refused(kind, grade, free, &vec![0xFF; m], &vec![FURTHEST + 1; n]);
             }
         }
         calls.refused(kind, grade, free, &with_bits(&format, &[format.message_bits() - 1]), &broken);
@@ -436,7 +436,7 @@ fn lengths(calls: &mut Calls, kind: u8, grade: u8, free: u8) {
     let more = if n < COORDINATES { n + 1 } else { n / 2 };
     let all = [(m - 1, n - 1), (m + 1, more), (m, n - 1), (m, more), (m - 1, n), (m + 1, n), (0, n), (m, 0)];
     for (i, (m, n)) in all.into_iter().enumerate() {
-        calls.refused(kind, grade, free, &vec![0xFF; m], &vec![1_048_577; n]);
+        calls.refused(kind, grade, free, &vec![0xFF; m], &vec![FURTHEST + 1; n]);
         if i % 5 == free as usize {
             calls.refused(kind, grade, free, &vec![0; m], &vec![0; n]);
         }
@@ -459,13 +459,13 @@ fn wrong(calls: &mut Calls) {
     for free in [0, 1, 4, 5, 255] {
         for kind in [0, 2, 7, 131, 255] {
             for grade in [0, 1, 5] {
-                calls.refused(kind, grade, free, &[0xFF; 7], &[1_048_577; 15]);
+                calls.refused(kind, grade, free, &[0xFF; 7], &[FURTHEST + 1; 15]);
                 calls.refused(kind, grade, free, &[0; 22], &[0; 64]);
             }
         }
         for kind in KINDS {
             for grade in [0, 5, 129, 255] {
-                calls.refused(kind, grade, free, &[0xFF; 7], &[1_048_577; 15]);
+                calls.refused(kind, grade, free, &[0xFF; 7], &[FURTHEST + 1; 15]);
                 calls.refused(
                     kind,
                     grade,
@@ -476,6 +476,30 @@ fn wrong(calls: &mut Calls) {
             }
         }
     }
+}
+
+/// All zeros, with frames of its class at the ends of the range, since twice M divides them, and with frames past these.
+fn ends(calls: &mut Calls, kind: u8, grade: u8, free: u8, random: &mut Random) {
+    let format = Format::new(kind, grade).unwrap();
+    let n = format.length();
+    let number = calls.any();
+    let account = calls.account(number, 0);
+    let with = |place: usize, x: i64| {
+        let mut frame = vec![0; n];
+        frame[place] = x;
+        frame
+    };
+    let mut any = || random.below(n as u64) as usize;
+    let sign = if number.is_multiple_of(2) { 1 } else { -1 };
+    let frames = vec![
+        vec![0; n],
+        with(any(), FURTHEST),
+        with(any(), -FURTHEST),
+        vec![sign * FURTHEST; n],
+        with(0, -sign * (FURTHEST + 1)),
+        with(n - 1, sign * (FURTHEST + 1)),
+    ];
+    calls.all.push(Record::with(kind, grade, free, account, &with_bits(&format, &[]), n, frames));
 }
 
 /// For each kind and grade.
@@ -506,6 +530,7 @@ fn sorts() -> (Vec<Record>, Vec<(&'static str, usize)>) {
     sort("lengths", &mut |calls| each_from(0, calls, lengths));
     sort("bits that are set", &mut |calls| each_from(0, calls, |calls, k, b, f| set_bits(calls, k, b, f, random)));
     sort("kinds and grades", &mut wrong);
+    sort("the ends of the range", &mut |calls| each_from(0, calls, |calls, k, b, f| ends(calls, k, b, f, random)));
     (calls.all, sorts)
 }
 
@@ -597,6 +622,7 @@ pub fn free_file() -> (TestFile, Counts) {
 #[cfg(test)]
 mod tests {
     use super::*;
+    use crate::far::tests::{past, WRONG_RANGES};
     use crate::frame::{leader, shaped, Tie};
     use crate::free::filling_of;
     use crate::test_file::fields_apart;
@@ -793,6 +819,25 @@ mod tests {
         });
     }
 
+    /// Wrong ranges are told apart at each kind and grade with each free count.
+    #[test]
+    fn wrong_ranges_are_told_apart() {
+        for (kind, grade) in KINDS.flat_map(|kind| GRADES.map(move |grade| (kind, grade))) {
+            for free in 0..=MOST_FREE {
+                let own = |record: &&Record| (record.kind, record.grade, record.free) == (kind, grade, free);
+                let frames = all().iter().filter(own).flat_map(|record| &record.frames);
+                // Of right lengths.
+                let read: Vec<&Judged> = frames.filter(|judged| ![3, 4].contains(&judged.open)).collect();
+                let is_6 = |judged: &Judged| [judged.open, judged.strict].map(|number| number == refusal::OVER_RANGE);
+                assert!(read.iter().all(|judged| is_6(judged) == [past(&judged.frame); 2]));
+                for (name, first, wrong) in WRONG_RANGES {
+                    let told = read.iter().any(|judged| is_6(judged) != [wrong(&judged.frame); 2]);
+                    assert_eq!(told, kind >= first, "kind {kind}, grade {grade}, {free} free, {name}");
+                }
+            }
+        }
+    }
+
     /// Tests of sending and of reading in a wrong order, or with a free bit passed by.
     #[test]
     fn wrong_orders_are_told_apart() {
@@ -810,7 +855,7 @@ mod tests {
                     let from = format.message_bits() - zeros.min(MOST_FREE + 1) as usize;
                     (from..8 * record.message.len()).any(|k| crate::frame::bit(&record.message, k))
                 }
-                (refusal::OVER_RANGE, _) => frame.iter().any(|x| x.abs() > 1_048_576),
+                (refusal::OVER_RANGE, _) => past(frame),
                 _ => false,
             }
         };

@@ -10,6 +10,7 @@ pub mod account;
 pub mod calls;
 pub mod class;
 pub mod code;
+pub mod far;
 pub mod frame;
 pub mod free;
 pub mod free_file;

@@ -16,7 +16,7 @@ use Rattle.e8.proofs.Within.{within-to, within-part}
 use Rattle.e8.proofs.Frame.{part-is}
 use Rattle.frames.specs.Kind.{levels, blocks, levelBits, messageBits, messageBytes}
 use Rattle.frames.specs.Message.{widths}
-use Rattle.frames.specs.Reading.{quotients, allDigits}
+use Rattle.frames.specs.Reading.{quotients, allDigits, largestRead}
 use Rattle.frames.proofs.Frame.{ints-at, part-length}
 use Rattle.frames.proofs.Limits.{few-levels, few-message-bits, block-room, bytes-hold, levels-hold, whole-blocks}
 use Rattle.frames.proofs.Refusals.{range-within}
@@ -110,7 +110,7 @@ module _ (c : tie.In-loop Inv-loop μ-loop) where
   room = omega (arith, place t, block-room (k t) (b t) (j t) (s t .pre .0) inside, bytes-hold (k t) (b t))
 
   near : Within (2 ^ 24) (f t)
-  near = within-to 1048576 (2 ^ 24) (f t) (omega arith) (range-within (f t) (s t .pre .3))
+  near = within-to largestRead (2 ^ 24) (f t) (omega arith) (range-within (f t) (s t .pre .3))
 
 -- the numbers of a block
 numbers : (c : tie.After-block-numbers Inv-loop μ-loop) → let d = c .before .before in

@@ -5,7 +5,7 @@ use native.Mathlib.Omega.{arith}
 use lib.ListN.{length}
 use borrow.Author.Needs.{needs}
 use Rattle.e8.proofs.Within.{within-to}
-use Rattle.frames.specs.Reading.{openRefusal}
+use Rattle.frames.specs.Reading.{largestRead, openRefusal}
 use Rattle.frames.proofs.Refusals.{range-within, Accepted, accepted}
 use Rattle.frames.proofs.Reading.{taken-in-set}
 use Rattle.frames.proofs.Limits.{few-positions, whole-blocks}
@@ -51,7 +51,7 @@ energy-by-blocks-requires c κs =
     let p = passed c in (
       omega (arith, p .coordinates, whole-blocks (a .kind) (p .kind)),
       omega (arith, p .coordinates, few-positions (a .kind) (p .kind)),
-      within-to 1048576 (2 ^ 24) (a .frame .now) (omega arith) (range-within (a .frame .now) (p .range)),
+      within-to largestRead (2 ^ 24) (a .frame .now) (omega arith) (range-within (a .frame .now) (p .range)),
     )
 
 write-fixed-requires : tie.Need-write-fixed-requires

@@ -2,6 +2,7 @@
 
 use super::refusal::{BROKEN_LEVEL_0, BROKEN_LEVEL_1, BROKEN_LEVEL_2};
 use super::*;
+use crate::far;
 use crate::random::Random;
 use second_coder::{account, class, frame, free, near, random, vectors};
 
@@ -108,8 +109,32 @@ fn millions_of_random_and_tied_blocks() {
     }
 }
 
+/// Blocks with large coordinates, at every scale, have the sent blocks of the member near 0.
+#[test]
+fn blocks_far_out() {
+    let mut random = Random(4);
+    for k in 1..=7 {
+        for _ in 0..20_000 {
+            let x = std::array::from_fn(|_| match random.below(4) {
+                0 => far::about_an_end(&mut random) as i64,
+                1 => random.word() as i32 as i64,
+                _ => far::anywhere(&mut random) as i64,
+            });
+            assert_eq!(both(&x, k), both(&member_of(&x, k), k), "scale 2^{k}, block {x:?}");
+        }
+    }
+}
+
 fn wide(frame: &[i32]) -> Vec<i64> {
     frame.iter().map(|&x| x as i64).collect()
+}
+
+fn energy(frame: &[i32]) -> u64 {
+    frame.iter().map(|&x| (x as i64 * x as i64) as u64).sum()
+}
+
+fn in_range(frame: &[i32]) -> bool {
+    frame.iter().all(|x| (-16_777_216..=16_777_216).contains(x))
 }
 
 /// Compares a reading of a frame, with a message of so many bytes lent.
@@ -138,14 +163,14 @@ fn check_readings(kind: u8, grade: u8, number: u32, frame: &[i32], bytes: usize)
 }
 
 /// A frame, damaged: a lattice point added, a level's codeword kept or broken, a coordinate moved
-/// a little or to the ends of the range.
+/// a little, to anywhere in the range, to its ends or past them.
 fn damaged(frame: &[i32], scale: i32, random: &mut Random) -> Vec<i32> {
     let mut frame = frame.to_vec();
     let place = random.below(frame.len() as u64) as usize;
     match random.below(6) {
         0 => frame[place] += [1, -1, 2, -2, 4, -4][random.below(6) as usize],
-        1 => frame[place] = random.below(2_097_155) as i32 - 1_048_577,
-        2 => frame[place] = [-1, 1][random.below(2) as usize] * (1_048_574 + random.below(4) as i32),
+        1 => frame[place] = far::anywhere(random),
+        2 => frame[place] = far::about_an_end(random),
         3 => frame[place] = [i32::MIN, i32::MAX, 0][random.below(3) as usize],
         4 => frame[place] += scale * [1, -1, 2, -2, 4][random.below(5) as usize],
         _ => {
@@ -200,11 +225,19 @@ fn check_messages(rounds: usize, seed: u64) {
         assert_eq!(send(kind, grade, number, &message, &mut sent), Ok(expected.energy));
         assert_eq!(wide(&sent), expected.frame);
         check_readings(kind, grade, number, &sent, message.len());
-        for _ in 0..4 {
-            sent = damaged(&sent, format.scale() as i32, &mut own);
-            check_readings(kind, grade, number, &sent, message.len());
-            if sent.iter().any(|x| x.unsigned_abs() > 1_048_576) {
-                break;
+        let distant = far::in_the_class(&sent, format.scale() as i32, &mut own);
+        check_readings(kind, grade, number, &distant, message.len());
+        if in_range(&distant) {
+            let mut back = vec![0xA5; message.len()];
+            assert_eq!((read_open(kind, grade, &distant, &mut back), back), (Ok(energy(&distant)), message.clone()));
+        }
+        for mut frame in [sent, distant] {
+            for _ in 0..3 {
+                if !in_range(&frame) {
+                    break;
+                }
+                frame = damaged(&frame, format.scale() as i32, &mut own);
+                check_readings(kind, grade, number, &frame, message.len());
             }
         }
     }
@@ -220,6 +253,78 @@ fn messages() {
 #[ignore]
 fn a_million_messages() {
     check_messages(1_000_000, 2);
+}
+
+/// A coordinate at either end and one past it, at each place, and all of them; and all at the ends of i32.
+#[test]
+fn ends_of_the_range() {
+    for (kind, grade) in (3..=6).flat_map(|kind| (1..=4).map(move |grade| (kind, grade))) {
+        let (length, bytes) = (1 << kind, frame::Format::new(kind, grade).unwrap().message_bytes());
+        let check = |frame: &[i32], expected| {
+            check_readings(kind, grade, 0, frame, bytes);
+            assert_eq!(read_open(kind, grade, frame, &mut vec![0; bytes]), expected);
+        };
+        for end in [-16_777_216i32, 16_777_216] {
+            check(&vec![end; length], Ok((length as u64) << 48));
+            for (place, past) in (0..length).map(|place| (place, end + end.signum())) {
+                let with = |others, x| {
+                    let mut frame = vec![others; length];
+                    frame[place] = x;
+                    frame
+                };
+                check(&with(0, end), Ok(1 << 48));
+                check(&with(0, past), Err(refusal::OVER_RANGE));
+                check(&with(end, past), Err(refusal::OVER_RANGE));
+                check(&with(end, end - end.signum()), Err(BROKEN_LEVEL_0));
+            }
+        }
+        for x in [i32::MIN, i32::MAX] {
+            check(&vec![x; length], Err(refusal::OVER_RANGE));
+        }
+    }
+}
+
+/// Sums of sent frames, of any grades and numbers, and damaged. In range a sum of kinds 3 to 5 is read, and one of kind 6 is read
+/// or has level 2 broken.
+fn check_sums(rounds: usize, seed: u64) {
+    let mut own = Random(seed);
+    let mut counts = [0; 3];
+    for round in 0..rounds {
+        let (kind, grade, number) = (3 + (round % 4) as u8, 1 + (round / 4 % 4) as u8, own.word() as u32);
+        let (length, bytes) = (1 << kind, frame::Format::new(kind, grade).unwrap().message_bytes());
+        let sum = far::sum(length, &mut own, |own| {
+            let grade = 1 + own.below(4) as u8;
+            let format = frame::Format::new(kind, grade).unwrap();
+            let mut random = random::Random::new(own.word());
+            let message = [vectors::dense, vectors::edge][own.below(2) as usize](&format, &mut random);
+            let mut sent = vec![0; length];
+            send(kind, grade, own.word() as u32, &message, &mut sent).unwrap();
+            sent
+        });
+        check_readings(kind, grade, number, &sum, bytes);
+        let answer = read_open(kind, grade, &sum, &mut vec![0; bytes]);
+        match answer {
+            Ok(own) => assert!(in_range(&sum) && own == energy(&sum)),
+            Err(refusal::OVER_RANGE) => assert!(!in_range(&sum)),
+            Err(number) => assert_eq!((kind, number), (6, BROKEN_LEVEL_2)),
+        }
+        counts[answer.map_or_else(|number| 1 + (number == BROKEN_LEVEL_2) as usize, |_| 0)] += 1;
+        let frame = damaged(&sum, 1 << (2 + own.below(6)), &mut own);
+        check_readings(kind, grade, number, &frame, bytes);
+    }
+    assert!(counts.iter().all(|count| *count > rounds / 100), "{counts:?}");
+}
+
+#[test]
+fn sums_of_frames() {
+    check_sums(8_000, 9);
+}
+
+/// About a minute; run with `--ignored`.
+#[test]
+#[ignore]
+fn many_sums_of_frames() {
+    check_sums(400_000, 10);
 }
 
 /// Compares the readings with a free count of a frame, openly and strictly under a number and one of the other rule.
@@ -277,8 +382,10 @@ fn check_free(rounds: usize, seed: u64) {
                     let frame: Vec<i32> = filling.frame.iter().map(|&x| x as i32).collect();
                     check_free_readings(kind, grade, number, bits, &frame, message.len());
                 }
-                let frame = damaged(&sent, format.scale() as i32, &mut own);
-                check_free_readings(kind, grade, number, bits, &frame, message.len());
+                let scale = format.scale() as i32;
+                for frame in [damaged(&sent, scale, &mut own), far::in_the_class(&sent, scale, &mut own)] {
+                    check_free_readings(kind, grade, number, bits, &frame, message.len());
+                }
             }
             Err(number) => {
                 assert_eq!((answer, grown), (Err(number), account));
@@ -316,7 +423,7 @@ fn lengths_and_free_counts() {
             Ok(fillings) => assert!(answer == Ok(fillings.energy()) && fillings.permits(&wide(&sent))),
             Err(number) => assert_eq!((answer, sent), (Err(number), vec![77; length])),
         }
-        let frame: Vec<i32> = (0..length).map(|_| random.below(2) as i32 * 2_097_154 - 1_048_577).collect();
+        let frame: Vec<i32> = (0..length).map(|_| random.below(2) as i32 * 33_554_434 - 16_777_217).collect();
         check_free_readings(kind, grade, number, bits, &frame, bytes);
         check_free_readings(kind, grade, number, bits, &vec![0; length], bytes);
     }

@@ -8,13 +8,11 @@ use lib.IntN.{ℤ}
 use lib.ListN.{length}
 use borrow.Author.Needs.{needs}
 use borrow.Author.Tests.{not-true, not-false, le-leb}
-use Rattle.e8.specs.Energy.{isWithin}
-use Rattle.e8.proofs.Within.{within-to, test-within}
 use Rattle.frames.specs.Kind.{isKind, isGrade, degrees, messageBytes}
 use Rattle.frames.specs.Free.{isFreeCount}
 use Rattle.frames.specs.Reading.{inRange, openRefusal}
 use Rattle.frames.proofs.Rows.{grade-high}
-use Rattle.frames.proofs.Refusals.{good-row, wrong-row, within-range, levels-decide, many-open}
+use Rattle.frames.proofs.Refusals.{good-row, wrong-row, levels-decide, many-open}
 use Rattle.reading.specs.Words.{noWords, wordsAfter}
 use Rattle.frame_levels.specs.Words.{brokenIn}
 use Rattle.reading.proofs.Answers.{by-4, by-3, by-6}
@@ -26,10 +24,6 @@ use Rattle.reading.proofs.refusal.open_tests.Tie as tie
 -- a refusal: what is given is no words
 none-by : (number : ℕ) (words : List ℕ) (k : ℕ) (f : List ℤ) → words ≡ noWords → (number ≡ 0 → ⊥) → words ≡ wordsAfter number k f
 none-by number words k f e n = e ∙ words-none number k f n
-
--- within any bound up to 1,048,576
-small-enough : (B : ℕ) (f : List ℤ) → isWithin B f ≡ true → B ≤ 1048576 → inRange f ≡ true
-small-enough B f e h = within-range f (within-to B 1048576 f h (test-within B f e))
 
 -- a free count up to 4
 few-enough : (f : ℕ) → f ≤ 4 → isFreeCount f ≡ true
@@ -91,7 +85,7 @@ module _ (c : tie.Else5) where
   at1 = e1 (e2 (e3 e4))
 
   p6 : inRange (frame at1) ≡ true
-  p6 = small-enough _ (frame at1) (sym (c .before .within .ensures) ∙ not-false (c .before .within .result) (c .if5 .left)) (omega arith)
+  p6 = sym (c .before .in-range .ensures) ∙ not-false (c .before .in-range .result) (c .if5 .left)
 
 levels-answer : (c : tie.After-broken-level) → let a = at1 (c .before .before) in c .broken-level .result ≡ openRefusal (k a) (b a) (f a) (frame a) (s a .args .n)
 levels-answer c =
@@ -161,21 +155,20 @@ returns-4 c =
       none-by (c .refused4 .result .number) (c .refused4 .result .words) (k a) (frame a) (e .1) (λ z. omega (arith, e .0, z)),
     )
 
-within-requires : tie.Need-within-requires
-within-requires c κs = omega arith
+in-range-requires : tie.Need-in-range-requires
+in-range-requires c κs = search needs
 
 refused-requires-5 : tie.Need-refused-requires-5
 refused-requires-5 c κs = search needs
 
 returns-5 : tie.Need-returns-5
-unfolding inRange
 returns-5 c =
     let t = c .before in
     let h = t .before .before in
     let a = e1 (e2 (e3 h)) in
     let e = c .refused5 .ensures in (
       e .0 ∙ by-6 (k a) (b a) (f a) (s a .args .n) (frame a) (good a) (p17 (e2 (e3 h))) (p4 (e3 h)) (p3 h)
-          (sym (t .before .within .ensures) ∙ not-true (t .before .within .result) (t .if5 .taken)),
+          (sym (t .before .in-range .ensures) ∙ not-true (t .before .in-range .result) (t .if5 .taken)),
       none-by (c .refused5 .result .number) (c .refused5 .result .words) (k a) (frame a) (e .1) (λ z. omega (arith, e .0, z)),
     )
 
@@ -218,7 +211,7 @@ open-tests-spec =
     message-bytes-requires
     refused-requires-4
     returns-4
-    within-requires
+    in-range-requires
     refused-requires-5
     returns-5
     level-words-requires

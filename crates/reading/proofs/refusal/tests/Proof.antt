@@ -11,7 +11,7 @@ use Rattle.e8.proofs.Within.{within-to}
 use Rattle.frames.specs.Kind.{levels, blocks}
 use Rattle.frames.specs.Frame.{half, isOdd}
 use Rattle.frames.specs.Sending.{unless}
-use Rattle.frames.specs.Reading.{sameFrame, openRefusal, isSent}
+use Rattle.frames.specs.Reading.{sameFrame, largestRead, openRefusal, isSent}
 use Rattle.frames.proofs.Rows.{grade-low, grade-high}
 use Rattle.frames.proofs.Limits.{few-levels}
 use Rattle.frames.proofs.Refusals.{range-within, Accepted, accepted}
@@ -117,7 +117,7 @@ is-least-requires c κs =
     let f = start d .args .frame .now in (
       a d .kind,
       omega (arith, c .before .levels .ensures, small d),
-      within-to 1048576 (2 ^ 24) f (omega arith) (range-within f (a d .range)),
+      within-to largestRead (2 ^ 24) f (omega arith) (range-within f (a d .range)),
       a d .coordinates,
     )
 

@@ -1,4 +1,4 @@
--- `sum`: a coordinate up to the open reading's end, and a byte, fit together. Assumes nothing.
+-- `sum`: a coordinate up to 2^30 and a byte fit together. Assumes nothing.
 use Prim.Native.Nat.{ℕ, _<_}
 use mathlib.Core.Path.{_≡_, refl, sym, _∙_}
 use mathlib.Core.Bool.{true, false}
@@ -15,15 +15,15 @@ use Rattle.test_vectors.specs.Vector.{movedBy}
 use Rattle.test_vectors.proofs.checks.sum.Statement.{statement}
 use Rattle.test_vectors.proofs.checks.sum.Tie as tie
 
-sum-fits : (z : ℤ) (n : ℕ) → SFits w32 z → ltZ (pos 1048576) z ≡ false → n < 256 → SFits w32 (z +ℤ pos n)
-sum-fits (pos k) n f l h = sfits! w32 (` pos k ⊕ # n) (omega (arith, ltb-false 1048576 k l)) (omega arith)
+sum-fits : (z : ℤ) (n : ℕ) → SFits w32 z → ltZ (pos 1073741824) z ≡ false → n < 256 → SFits w32 (z +ℤ pos n)
+sum-fits (pos k) n f l h = sfits! w32 (` pos k ⊕ # n) (omega (arith, ltb-false 1073741824 k l)) (omega arith)
 sum-fits (negsuc k) n f l h = sfits! w32 (` negsuc k ⊕ # n) (omega arith) (omega (arith, f .sfits))
 
-far : (by : ℕ) (z : ℤ) → ltZ (pos 1048576) z ≡ true → movedBy by z ≡ z
+far : (by : ℕ) (z : ℤ) → ltZ (pos 1073741824) z ≡ true → movedBy by z ≡ z
 unfolding movedBy
 far by z h = rw h refl
 
-near : (by : ℕ) (z : ℤ) → ltZ (pos 1048576) z ≡ false → movedBy by z ≡ z +ℤ pos by
+near : (by : ℕ) (z : ℤ) → ltZ (pos 1073741824) z ≡ false → movedBy by z ≡ z +ℤ pos by
 unfolding movedBy
 near by z h = rw h refl
 

@@ -1,0 +1,40 @@
+-- Request E8: "A repeater that adds many frames". The sum of frames of one kind, coordinate by coordinate. Assumes nothing.
+use Prim.Native.Nat.{ℕ, _^_}
+use mathlib.Core.List.{List, [], _∷_}
+use lib.ListN.{replicate}
+use lib.IntN.{ℤ, pos, _+ℤ_}
+use Rattle.frames.specs.Message.{Bytes}
+use Rattle.frames.specs.Frame.{InCodingSet}
+use Rattle.frames.specs.Free.{Quiet}
+use Rattle.frames.specs.Sending.{Accepts}
+
+-- two frames of one length, added coordinate by coordinate
+abbrev pub added : List ℤ → List ℤ → List ℤ
+added [] g = []
+added (x ∷ f) [] = []
+added (x ∷ f) (y ∷ g) = (x +ℤ y) ∷ added f g
+
+-- THE SUM of any number of frames of kind k; of no frame it is all zeros
+unfoldable pub sumOf : ℕ → List (List ℤ) → List ℤ
+sumOf k [] = replicate (2 ^ k) (pos 0)
+sumOf k (f ∷ fs) = added f (sumOf k fs)
+
+-- every frame of the list is in the coding set of kind k
+abbrev pub AllInSet : ℕ → List (List ℤ) → Type 0
+AllInSet k [] = Unit {0}
+AllInSet k (f ∷ fs) = InCodingSet k f × AllInSet k fs
+
+-- the frame is sent at kind k: at some grade, with some free count, under some number, for some bytes that sending accepts
+pub record IsSent (k : ℕ) (frame : List ℤ) : Type 0 where
+  pub grade : ℕ
+  pub free : ℕ
+  pub number : ℕ
+  pub bytes : List ℕ
+  pub each : Bytes bytes
+  pub accepted : Accepts k grade free bytes
+  pub sent : Quiet k grade free number bytes frame
+
+-- every frame of the list is sent at kind k
+abbrev pub AllSent : ℕ → List (List ℤ) → Type 0
+AllSent k [] = Unit {0}
+AllSent k (f ∷ fs) = IsSent k f × AllSent k fs
