@@ -144,22 +144,34 @@ module _ (k : ℕ) (kind : isKind k ≡ true) (frame : List ℤ) (ends : AtEnds 
       energy-at largestRead frame (λ p l. ends .each p (omega (arith, ends .long))) ∙ ap (λ (m : ℕ). m * (largestRead * largestRead)) (ends .long)
 
 -- what is reported is at most that
-most-energy : (k b f : ℕ) (frame : List ℤ) (n : ℕ) → energyRead (openRefusal k b f frame n) frame ≤ 2 ^ k * (largestRead * largestRead)
+most-energy : (k b f : ℕ) (frame : List ℤ) (n refusal : ℕ) → (refusal ≡ 0 → openRefusal k b f frame n ≡ 0)
+    → energyRead refusal frame ≤ 2 ^ k * (largestRead * largestRead)
 unfolding energyRead
-most-energy k b f frame n = go (eqb (openRefusal k b f frame n) 0) refl
+most-energy k b f frame n refusal passed = go (eqb refusal 0) refl
   where
-    go : (t : Bool) → eqb (openRefusal k b f frame n) 0 ≡ t → cond t (energy frame) 0 ≤ 2 ^ k * (largestRead * largestRead)
+    go : (t : Bool) → eqb refusal 0 ≡ t → cond t (energy frame) 0 ≤ 2 ^ k * (largestRead * largestRead)
     go true e =
-        let a = accepted k b f frame n (eqb-true (openRefusal k b f frame n) 0 e) in
+        let a = accepted k b f frame n (passed (eqb-true refusal 0 e)) in
         omega (arith, energy-within largestRead frame (range-within frame (a .range)), ap (λ (m : ℕ). m * (largestRead * largestRead)) (a .coordinates))
     go false e = omega arith
+
+-- what the strict reading takes has passed the open reading's tests
+pub strict-open : (k b f number : ℕ) (frame : List ℤ) (n : ℕ) → strictRefusal k b f number frame n ≡ 0 → openRefusal k b f frame n ≡ 0
+unfolding strictRefusal
+strict-open k b f number frame n e = go (eqb (openRefusal k b f frame n) 0) refl e
+  where
+    go : (t : Bool) → eqb (openRefusal k b f frame n) 0 ≡ t → cond t (unless (isQuiet k b f number frame) 9 0) (openRefusal k b f frame n) ≡ 0
+        → openRefusal k b f frame n ≡ 0
+    go true s e = eqb-true (openRefusal k b f frame n) 0 s
+    go false s e = e
 
 pub largest-energy : (k b f n : ℕ) → isKind k ≡ true → isGrade b ≡ true → isFreeCount f ≡ true → n ≡ messageBytes k b → LargestEnergy k b f n
 unfolding energyRead
 largest-energy k b f n kind grade few bytes = record {
   read = taken;
   reported = λ frame ends. rw (taken frame ends) (ends-energy k kind frame ends);
-  most = λ frame. most-energy k b f frame n;
+  most = λ frame. most-energy k b f frame n (openRefusal k b f frame n) (λ e. e);
+  most-strictly = λ number frame. most-energy k b f frame n (strictRefusal k b f number frame n) (strict-open k b f number frame n);
 }
   where
     taken : (frame : List ℤ) → AtEnds k frame → openRefusal k b f frame n ≡ 0

@@ -146,6 +146,7 @@ pub record LargestEnergy (k b f n : ℕ) : Type 0 where
   pub read : (frame : List ℤ) → AtEnds k frame → openRefusal k b f frame n ≡ 0
   pub reported : (frame : List ℤ) → AtEnds k frame → energyRead (openRefusal k b f frame n) frame ≡ 2 ^ k * (largestRead * largestRead)
   pub most : (frame : List ℤ) → energyRead (openRefusal k b f frame n) frame ≤ 2 ^ k * (largestRead * largestRead)
+  pub most-strictly : (number : ℕ) (frame : List ℤ) → energyRead (strictRefusal k b f number frame n) frame ≤ 2 ^ k * (largestRead * largestRead)
 
 -- "The strict reading gives it only for the sent frame", whose coordinates are at most M in size: a frame that is read openly and has a larger one is 9
 pub record LargeUnshaped (k b f : ℕ) (frame : List ℤ) (n : ℕ) : Type 0 where

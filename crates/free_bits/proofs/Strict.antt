@@ -2,13 +2,13 @@
 -- the frames of the least fillings and no others. For every kind of the table, every grade, free count and number. Assumes nothing.
 use Prim.Native.Nat.{ℕ, _^_}
 use mathlib.Core.Path.{_≡_, refl, sym, ap, ap₂, _∙_}
-use mathlib.Core.Bool.{Bool, true, false, _&&_, cond}
+use mathlib.Core.Bool.{Bool, true, false, _&&_}
 use mathlib.Core.List.{List}
 use native.Mathlib.Omega.{arith}
 use lib.Dec.{eqb}
 use lib.ListN.{length}
 use lib.IntN.{ℤ}
-use borrow.Author.Tests.{eqb-true, eqb-false, eq-eqb, ne-eqb}
+use borrow.Author.Tests.{eqb-true, eq-eqb, ne-eqb}
 use Rattle.e8.specs.Energy.{energy}
 use Rattle.e8.proofs.Within.{and-both}
 use Rattle.frames.specs.Kind.{isKind, isGrade}
@@ -19,6 +19,7 @@ use Rattle.frames.specs.Sending.{unless, Accepts}
 use Rattle.frames.specs.Reading.{openMessage, fixedMessage, sameFrame, openRefusal, isSent, isQuiet, strictRefusal, messageAfter, energyRead}
 use Rattle.frames.specs.Demands.{SentFor, ReadBack, NoneFreeRead}
 use Rattle.frames.proofs.Accepted.{accepted-exactly, free-accepted}
+use Rattle.frames.proofs.Range.{strict-open}
 use Rattle.frames.proofs.Refusals.{passed, same-frame, frame-same, Accepted, accepted}
 use Rattle.frames.proofs.Reading.{sent-in-range, inside-taken, taken-in-set}
 use Rattle.free_bits.proofs.First.{least-low}
@@ -43,12 +44,9 @@ strict-as-open k b f number frame n h = rw (ne-eqb (openRefusal k b f frame n) 0
 -- what a strict reading takes has passed the open reading's tests, and is quiet
 pub strict-passed : (k b f number : ℕ) (frame : List ℤ) (n : ℕ) → strictRefusal k b f number frame n ≡ 0
     → (openRefusal k b f frame n ≡ 0) × (isQuiet k b f number frame ≡ true)
-unfolding strictRefusal
-strict-passed k b f number frame n e = go (openRefusal k b f frame n) (eqb (openRefusal k b f frame n) 0) refl e
-  where
-    go : (x : ℕ) (t : Bool) → eqb x 0 ≡ t → cond t (unless (isQuiet k b f number frame) 9 0) x ≡ 0 → (x ≡ 0) × (isQuiet k b f number frame ≡ true)
-    go x true z e = (eqb-true x 0 z, passed (isQuiet k b f number frame) 8 0 e .0)
-    go x false z e = absurd (eqb-false x 0 z e)
+strict-passed k b f number frame n e =
+    let o = strict-open k b f number frame n e in
+    (o, passed (isQuiet k b f number frame) 8 0 (sym (strict-decides k b f number frame n o) ∙ e) .0)
 
 module _ (k b f : ℕ) (kind : isKind k ≡ true) (grade : isGrade b ≡ true) (few : isFreeCount f ≡ true) (number : ℕ) where
   -- the test finds quiet frames

@@ -1,10 +1,10 @@
 -- REQUEST E8 as theorems: sums of frames of kinds 3, 4 and 5 stay in the coding set; of kind 6 the levels 0 and 1 stay codewords, so that a sum is read
 -- or is 13; 131,072 sent frames add up to a sum in range, and more need not. For every grade and free count. Assumes nothing.
-use Prim.Native.Nat.{ℕ, zero, suc, _*_, _^_, _≤_, _<_}
+use Prim.Native.Nat.{ℕ, zero, suc, _-_, _*_, _^_, _≤_, _<_}
 use mathlib.Core.Path.{_≡_, refl, sym, ap, _∙_, subst}
 use mathlib.Core.Logic.{_⊎_, inl, inr}
 use mathlib.Core.Bool.{Bool, true, false, cond, true≢false}
-use mathlib.Core.List.{List, [], _∷_}
+use mathlib.Core.List.{List, [], _∷_, _++_}
 use native.Mathlib.Decide.{ℕ-discrete}
 use native.Mathlib.Omega.{arith}
 use lib.Dec.{leb}
@@ -20,8 +20,8 @@ use Rattle.e8.proofs.Negation.{abs-neg}
 use Rattle.e8.proofs.Within.{within-to}
 use Rattle.frames.specs.Kind.{kinds, isKind, isGrade, degrees, levels, levelBits, messageBits, messageBytes, scale}
 use Rattle.frames.specs.Frame.{levelWord, InCodingSet, numberedFrame}
-use Rattle.frames.specs.Free.{isFreeCount, filled, filledFrame}
-use Rattle.frames.specs.Sending.{unless}
+use Rattle.frames.specs.Free.{isFreeCount, filled, filledFrame, Quiet}
+use Rattle.frames.specs.Sending.{unless, Accepts}
 use Rattle.frames.specs.Reading.{largestRead, inRange, openRefusal, isQuiet, strictRefusal}
 use Rattle.frames.specs.Demands.{FirstBroken, Sendable, FarOut}
 use Rattle.frames.proofs.Accepted.{accepted-exactly}
@@ -33,8 +33,9 @@ use Rattle.frames.proofs.Range.{six-exactly}
 use Rattle.frames.proofs.Reading.{inside-taken, outside-broken, taken-in-set}
 use Rattle.frames.proofs.Refusals.{within-range}
 use Rattle.frames.proofs.Rows.{each-row, grade-low}
-use Rattle.free_bits.proofs.ReadBack.{filled-in-set}
-use Rattle.free_bits.proofs.Strict.{strict-decides, strict-as-open, strict-takes-sent}
+use Rattle.free_bits.proofs.ReadBack.{filled-in-set, none-free}
+use Rattle.free_bits.proofs.Strict.{strict-decides, strict-as-open}
+use Rattle.long_frames.specs.Cases.{oneByte}
 use Rattle.sums.specs.Sum.{added, sumOf, AllInSet, IsSent, AllSent}
 use Rattle.sums.specs.Claims.{Closed, IsLattice, KindsClosed, LowLevels, SumsRead, ReadOrThirteen, SumsOfSix, TwoSent, ManyInRange, SentInSet}
 use Rattle.sums.specs.Claims.{MoreMayLeave}
@@ -141,18 +142,30 @@ sums-of-six = sum-of-six
 
 -- ---- frames that are sent
 
--- what the strict reading takes is sent
-taken-sent : (k b f number : ℕ) (frame : List ℤ) (n : ℕ) → strictRefusal k b f number frame n ≡ 0 → IsSent k frame
-taken-sent k b f number frame n e = let s = strict-takes-sent k b f number frame n e in
-    record {
-      grade = b;
-      free = f;
-      number = number;
-      bytes = s .bytes;
-      each = s .message .message .each;
-      accepted = s .accepted;
-      sent = s .sent;
-    }
+-- bytes that are 0 but for one
+zero-bytes : (m j : ℕ) → getD (replicate m 0) j 0 < 256
+zero-bytes zero zero = omega arith
+zero-bytes zero (suc j) = omega arith
+zero-bytes (suc m) zero = omega arith
+zero-bytes (suc m) (suc j) = zero-bytes m j
+
+one-byte : (p m x : ℕ) → x < 256 → (j : ℕ) → getD (replicate p 0 ++ (x ∷ replicate m 0)) j 0 < 256
+one-byte zero m x h zero = h
+one-byte zero m x h (suc j) = zero-bytes m j
+one-byte (suc p) m x h zero = omega arith
+one-byte (suc p) m x h (suc j) = one-byte p m x h j
+
+-- the frame of such a message under number 0, no bit free
+by-hand : (b n p x : ℕ) → x < 256 → Accepts 6 b 0 (oneByte n p x) → (frame : List ℤ) → numberedFrame 6 b 0 (oneByte n p x) ≡ frame → IsSent 6 frame
+by-hand b n p x h accepted frame e = record {
+  grade = b;
+  free = 0;
+  number = 0;
+  bytes = oneByte n p x;
+  each = one-byte p (n - p - 1) x h;
+  accepted = accepted;
+  sent = subst (Quiet 6 b 0 0 (oneByte n p x)) e (none-free 6 b 0 (oneByte n p x) 0 .quiet);
+}
 
 module _ (k : ℕ) (frame : List ℤ) (t : IsSent k frame) where
   asked : Sendable k (t .grade) (t .free) (t .bytes) (2 ^ k)
@@ -185,10 +198,10 @@ many-in-range k fs many sent = within-range (sumOf k fs)
 -- ---- two frames of kind 6
 
 low-sent : IsSent 6 lowThree
-low-sent = taken-sent 6 1 0 0 lowThree 22 (sent-four .low-strictly)
+low-sent = by-hand 1 22 3 32 (omega arith) (sent-four .low-accepted) lowThree (sent-four .low)
 
 low-and-high : AllSent 6 (lowThree ∷ highThree ∷ [])
-low-and-high = (low-sent, (taken-sent 6 1 0 0 highThree 22 (sent-four .high-strictly), tt))
+low-and-high = (low-sent, (by-hand 1 22 6 1 (omega arith) (sent-four .high-accepted) highThree (sent-four .high), tt))
 
 -- a sum that is 13
 pub two-refused : TwoSent 13
@@ -199,7 +212,7 @@ pub two-read : TwoSent 0
 two-read = record {
   x = lowThree;
   y = otherThree;
-  sent = (low-sent, (taken-sent 6 1 0 0 otherThree 22 (sent-four .other-strictly), tt));
+  sent = (low-sent, (by-hand 1 22 3 64 (omega arith) (sent-four .other-accepted) otherThree (sent-four .other), tt));
   answered = sums-of-two .read;
 }
 
@@ -234,7 +247,7 @@ pub more-may-leave : MoreMayLeave
 unfolding isGrade isFreeCount messageBytes messageBits levelBits degrees kinds dimension masks ofWeight table ones
 more-may-leave m h =
     let fs = replicate m farthest in
-    let sent = many-sent m farthest (taken-sent 6 4 0 0 farthest 46 (sent-four .far-strictly)) in
+    let sent = many-sent m farthest (by-hand 4 46 17 128 (omega arith) (sent-four .far-accepted) farthest (sent-four .far)) in
     let set = sent-in-set-all 6 fs sent in
     let exactly = six-exactly 6 4 0 (sumOf 6 fs) 46 in
     let long = sum-length 6 fs set in

@@ -6,6 +6,7 @@ use lib.ListN.{replicate}
 use lib.IntN.{ℤ, pos}
 use Rattle.e8.specs.Rows.{ints}
 use Rattle.frames.specs.Frame.{numberedFrame}
+use Rattle.frames.specs.Sending.{Accepts}
 use Rattle.frames.specs.Reading.{openRefusal, openMessage, strictRefusal}
 use Rattle.frames.specs.Exam.{minus}
 use Rattle.long_frames.specs.Cases.{oneByte}
@@ -38,10 +39,10 @@ pub record SentFour : Type 0 where
   pub high : numberedFrame 6 1 0 (oneByte 22 6 1) ≡ highThree
   pub other : numberedFrame 6 1 0 (oneByte 22 3 64) ≡ otherThree
   pub far : numberedFrame 6 4 0 (oneByte 46 17 128) ≡ farthest
-  pub low-strictly : strictRefusal 6 1 0 0 lowThree 22 ≡ 0
-  pub high-strictly : strictRefusal 6 1 0 0 highThree 22 ≡ 0
-  pub other-strictly : strictRefusal 6 1 0 0 otherThree 22 ≡ 0
-  pub far-strictly : strictRefusal 6 4 0 0 farthest 46 ≡ 0
+  pub low-accepted : Accepts 6 1 0 (oneByte 22 3 32)
+  pub high-accepted : Accepts 6 1 0 (oneByte 22 6 1)
+  pub other-accepted : Accepts 6 1 0 (oneByte 22 3 64)
+  pub far-accepted : Accepts 6 4 0 (oneByte 46 17 128)
 
 -- "Sums of kind 6 frames may leave the coding set, and are then 13": of the first two the carry into level 2 is a 1 at the last place alone, which is no
 -- codeword of RM(5,6). "may": of the first and the third it is a 1 where the bits 0 to 3 are set, a codeword, and the sum is read: level 1 is that of
