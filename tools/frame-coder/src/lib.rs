@@ -67,7 +67,7 @@ pub const VERSION: &str = env!("CARGO_PKG_VERSION");
 /// The most bits of a message that may be free.
 pub const MAX_FREE: u8 = 4;
 
-/// A reading takes coordinates from minus this to this.
+/// A reading takes coordinates from minus this to this. The energy of a frame of them is 2^54 at most.
 pub const MAX_COORDINATE: i32 = 16_777_216;
 
 /// Sends under a number: fills the frame of the message, and gives its energy, which is the same under every
