@@ -36,15 +36,15 @@ use Rattle.frames.proofs.Rows.{each-row, grade-low}
 use Rattle.free_bits.proofs.ReadBack.{filled-in-set, none-free}
 use Rattle.free_bits.proofs.Strict.{strict-decides, strict-as-open}
 use Rattle.long_frames.specs.Cases.{oneByte}
-use Rattle.sums.specs.Sum.{added, sumOf, AllInSet, IsSent, AllSent}
+use Rattle.sums.specs.Sum.{added, sumOf, Each, SentAt, IsSent}
 use Rattle.sums.specs.Claims.{Closed, IsLattice, KindsClosed, LowLevels, SumsRead, ReadOrThirteen, SumsOfSix, TwoSent, ManyInRange, SentInSet}
-use Rattle.sums.specs.Claims.{MoreMayLeave}
+use Rattle.sums.specs.Claims.{ManyOfOneGrade, MoreMayLeave}
 use Rattle.sums.specs.Cases.{lowThree, highThree, otherThree, farthest}
-use Rattle.sums.proofs.Sum.{added-zeros, AllWithin, sum-within, sum-length, copies-at, two-codes}
+use Rattle.sums.proofs.Sum.{added-zeros, each-to, sum-within, sum-length, copies-at, two-codes}
 use Rattle.sums.proofs.Cases.{sent-four, sums-of-two}
 
 -- THE LEVELS 0 AND 1 of a sum are codewords, of every kind
-pub low-levels : (k : ℕ) → isKind k ≡ true → (fs : List (List ℤ)) → AllInSet k fs → LowLevels k (sumOf k fs)
+pub low-levels : (k : ℕ) → isKind k ≡ true → (fs : List (List ℤ)) → Each (InCodingSet k) fs → LowLevels k (sumOf k fs)
 unfolding levels
 low-levels k kind fs set = record {
   long = sum-length k fs set;
@@ -98,7 +98,7 @@ unfolding isKind kinds
 six = refl
 
 module _ (b f n : ℕ) (grade : isGrade b ≡ true) (few : isFreeCount f ≡ true) (bytes : n ≡ messageBytes 6 b)
-    (fs : List (List ℤ)) (set : AllInSet 6 fs) (range : inRange (sumOf 6 fs) ≡ true)
+    (fs : List (List ℤ)) (set : Each (InCodingSet 6) fs) (range : inRange (sumOf 6 fs) ≡ true)
   where
     abbrev s : List ℤ
     s = sumOf 6 fs
@@ -159,48 +159,52 @@ one-byte (suc p) m x h (suc j) = one-byte p m x h j
 by-hand : (b n p x : ℕ) → x < 256 → Accepts 6 b 0 (oneByte n p x) → (frame : List ℤ) → numberedFrame 6 b 0 (oneByte n p x) ≡ frame → IsSent 6 frame
 by-hand b n p x h accepted frame e = record {
   grade = b;
-  free = 0;
-  number = 0;
-  bytes = oneByte n p x;
-  each = one-byte p (n - p - 1) x h;
-  accepted = accepted;
-  sent = subst (Quiet 6 b 0 0 (oneByte n p x)) e (none-free 6 b 0 (oneByte n p x) 0 .quiet);
+  at-grade = record {
+    free = 0;
+    number = 0;
+    bytes = oneByte n p x;
+    each = one-byte p (n - p - 1) x h;
+    accepted = accepted;
+    sent = subst (Quiet 6 b 0 0 (oneByte n p x)) e (none-free 6 b 0 (oneByte n p x) 0 .quiet);
+  };
 }
 
-module _ (k : ℕ) (frame : List ℤ) (t : IsSent k frame) where
-  asked : Sendable k (t .grade) (t .free) (t .bytes) (2 ^ k)
-  asked = accepted-exactly k (t .grade) (t .free) (t .bytes) (2 ^ k) (t .each) .sendable (t .accepted)
+module _ (k b : ℕ) (frame : List ℤ) (t : SentAt k b frame) where
+  asked : Sendable k b (t .free) (t .bytes) (2 ^ k)
+  asked = accepted-exactly k b (t .free) (t .bytes) (2 ^ k) (t .each) .sendable (t .accepted)
 
   in-set : InCodingSet k frame
   in-set = subst (InCodingSet k) (sym (t .sent .sent))
-      (filled-in-set k (t .grade) (t .free) (asked .kind) (asked .grade) (asked .few) (t .number) (t .bytes) (t .sent .φ))
+      (filled-in-set k b (t .free) (asked .kind) (asked .grade) (asked .few) (t .number) (t .bytes) (t .sent .φ))
+
+  within-scale : Within (scale k b) frame
+  unfolding filledFrame
+  within-scale = subst (Within (scale k b)) (sym (t .sent .sent))
+      (sent-within k b (asked .kind) (grade-low b (asked .grade)) (t .number) (filled k b (t .free) (t .sent .φ) (t .bytes)))
 
   within-128 : Within 128 frame
-  unfolding filledFrame
-  within-128 = let bytes = filled k (t .grade) (t .free) (t .sent .φ) (t .bytes) in
-      subst (Within 128) (sym (t .sent .sent))
-      (within-to (scale k (t .grade)) 128 (numberedFrame k (t .grade) (t .number) bytes) (scale-128 k (t .grade) (asked .kind) (asked .grade))
-      (sent-within k (t .grade) (asked .kind) (grade-low (t .grade) (asked .grade)) (t .number) bytes))
+  within-128 = within-to (scale k b) 128 frame (scale-128 k b (asked .kind) (asked .grade)) within-scale
 
 pub sent-in-set-all : SentInSet
-sent-in-set-all k [] sent = tt
-sent-in-set-all k (f ∷ fs) sent = (in-set k f (sent .0), sent-in-set-all k fs (sent .1))
+sent-in-set-all k = each-to (λ f t. in-set k (t .grade) f (t .at-grade))
 
-all-within : (k : ℕ) (fs : List (List ℤ)) → AllSent k fs → AllWithin 128 fs
-all-within k [] sent = tt
-all-within k (f ∷ fs) sent = (within-128 k f (sent .0), all-within k fs (sent .1))
+-- a sum of frames within B
+sum-in-range : (B k : ℕ) (fs : List (List ℤ)) → Each (Within B) fs → length fs * B ≤ largestRead → inRange (sumOf k fs) ≡ true
+sum-in-range B k fs h room = within-range (sumOf k fs) (within-to (length fs * B) largestRead (sumOf k fs) room (sum-within B k fs h))
 
 -- 131,072 · 128 is 16,777,216
 pub many-in-range : ManyInRange
-many-in-range k fs many sent = within-range (sumOf k fs)
-    (within-to (length fs * 128) largestRead (sumOf k fs) (omega arith) (sum-within 128 k fs (all-within k fs sent)))
+many-in-range k fs many sent = sum-in-range 128 k fs (each-to (λ f t. within-128 k (t .grade) f (t .at-grade)) fs sent) (omega arith)
+
+pub many-of-one-grade : ManyOfOneGrade
+many-of-one-grade k b fs room sent = sum-in-range (scale k b) k fs (each-to (within-scale k b) fs sent) (omega (arith, room))
 
 -- ---- two frames of kind 6
 
 low-sent : IsSent 6 lowThree
 low-sent = by-hand 1 22 3 32 (omega arith) (sent-four .low-accepted) lowThree (sent-four .low)
 
-low-and-high : AllSent 6 (lowThree ∷ highThree ∷ [])
+low-and-high : Each (IsSent 6) (lowThree ∷ highThree ∷ [])
 low-and-high = (low-sent, (by-hand 1 22 6 1 (omega arith) (sent-four .high-accepted) highThree (sent-four .high), tt))
 
 -- a sum that is 13
@@ -224,18 +228,18 @@ kinds-closed = record {
   lattices = λ k kind h. lattice k kind (omega arith);
   kind-6 = λ all.
       let fs : List (List ℤ) = lowThree ∷ highThree ∷ [] in
-      let set : AllInSet 6 fs = sent-in-set-all 6 fs low-and-high in
+      let set : Each (InCodingSet 6) fs = sent-in-set-all 6 fs low-and-high in
       sums-of-six 1 0 22 refl refl refl fs set (many-in-range 6 fs (omega arith) low-and-high) .refused-outside (sums-of-two .refused) (all fs set);
 }
 
 -- ---- more than 131,072
 
-many-sent : (m : ℕ) (f : List ℤ) → IsSent 6 f → AllSent 6 (replicate m f)
+many-sent : (m : ℕ) (f : List ℤ) → IsSent 6 f → Each (IsSent 6) (replicate m f)
 many-sent zero f s = tt
 many-sent (suc m) f s = (s, many-sent m f s)
 
 -- −128 m times
-far-out : (m : ℕ) → AllInSet 6 (replicate m farthest) → 131072 < m → FarOut (sumOf 6 (replicate m farthest))
+far-out : (m : ℕ) → Each (InCodingSet 6) (replicate m farthest) → 131072 < m → FarOut (sumOf 6 (replicate m farthest))
 far-out m set h = record {
   place = 0;
   inside = omega (arith, sum-length 6 (replicate m farthest) set);

@@ -13,10 +13,11 @@ use Rattle.e8.specs.Ties.{negated}
 use Rattle.e8.proofs.Negation.{negated-at}
 use Rattle.frames.specs.Kind.{kinds, isKind, degrees, levels}
 use Rattle.frames.proofs.Closure.{growing, codes-less, codes-none, set-negated}
+use Rattle.frames.specs.Frame.{InCodingSet}
 use Rattle.frames.proofs.Levels.{Codes}
 use Rattle.frames.proofs.Frame.{at, codes-of}
 use Rattle.frames.proofs.Rows.{each-row}
-use Rattle.sums.specs.Sum.{added, sumOf, AllInSet}
+use Rattle.sums.specs.Sum.{added, sumOf, Each}
 
 -- ---- lists
 
@@ -44,6 +45,11 @@ pub added-zeros : (f : List ℤ) → added f (replicate (length f) (pos 0)) ≡ 
 added-zeros [] = refl
 added-zeros (x ∷ f) = ap₂ _∷_ (eq! (` x ⊕ # 0) (` x) (omega arith)) (added-zeros f)
 
+-- of other frames, where these are such
+pub each-to : {Such Other : List ℤ → Type 0} → ((f : List ℤ) → Such f → Other f) → (fs : List (List ℤ)) → Each Such fs → Each Other fs
+each-to to [] h = tt
+each-to to (f ∷ fs) h = (to f (h .0), each-to to fs (h .1))
+
 -- ---- the size
 
 abs-added : (x y : ℤ) (A B : ℕ) → natAbs x ≤ A → natAbs y ≤ B → natAbs (x +ℤ y) ≤ A + B
@@ -60,13 +66,8 @@ zeros-within : (B n : ℕ) → Within B (replicate n (pos 0))
 zeros-within B zero = tt
 zeros-within B (suc n) = (omega arith, zeros-within B n)
 
--- every frame of the list is within B
-abbrev pub AllWithin : ℕ → List (List ℤ) → Type 0
-AllWithin B [] = Unit {0}
-AllWithin B (f ∷ fs) = Within B f × AllWithin B fs
-
 -- the sum is within as many times B
-pub sum-within : (B k : ℕ) (fs : List (List ℤ)) → AllWithin B fs → Within (length fs * B) (sumOf k fs)
+pub sum-within : (B k : ℕ) (fs : List (List ℤ)) → Each (Within B) fs → Within (length fs * B) (sumOf k fs)
 unfolding sumOf
 sum-within B k [] h = zeros-within (0 * B) (2 ^ k)
 sum-within B k (f ∷ fs) h = let e : B + length fs * B ≡ suc (length fs) * B = omega arith in
@@ -74,18 +75,18 @@ sum-within B k (f ∷ fs) h = let e : B + length fs * B ≡ suc (length fs) * B 
 
 -- ---- the length, the coordinates
 
-pub sum-length : (k : ℕ) (fs : List (List ℤ)) → AllInSet k fs → length (sumOf k fs) ≡ 2 ^ k
+pub sum-length : (k : ℕ) (fs : List (List ℤ)) → Each (InCodingSet k) fs → length (sumOf k fs) ≡ 2 ^ k
 unfolding sumOf
 sum-length k [] h = length-replicate (2 ^ k) (pos 0)
 sum-length k (f ∷ fs) h = added-length f (sumOf k fs) (h .0 .long ∙ sym (sum-length k fs (h .1))) ∙ h .0 .long
 
 -- coordinate p of the sum
-sum-at : (k : ℕ) (f : List ℤ) (fs : List (List ℤ)) → AllInSet k (f ∷ fs) → (p : ℕ) → at (sumOf k (f ∷ fs)) p ≡ at f p +ℤ at (sumOf k fs) p
+sum-at : (k : ℕ) (f : List ℤ) (fs : List (List ℤ)) → Each (InCodingSet k) (f ∷ fs) → (p : ℕ) → at (sumOf k (f ∷ fs)) p ≡ at f p +ℤ at (sumOf k fs) p
 unfolding sumOf
 sum-at k f fs h = added-at f (sumOf k fs) (h .0 .long ∙ sym (sum-length k fs (h .1)))
 
 -- of one frame, m times
-pub copies-at : (k m : ℕ) (f : List ℤ) → AllInSet k (replicate m f) → (p : ℕ) → at (sumOf k (replicate m f)) p ≡ pos m *ℤ at f p
+pub copies-at : (k m : ℕ) (f : List ℤ) → Each (InCodingSet k) (replicate m f) → (p : ℕ) → at (sumOf k (replicate m f)) p ≡ pos m *ℤ at f p
 unfolding sumOf
 copies-at k zero f h p = zeros-at (2 ^ k) p ∙ eq! (# 0) (# 0 ⊗ ` (at f p)) (omega arith)
 copies-at k (suc m) f h p =
@@ -102,7 +103,7 @@ codes-take (suc n) m [] x c = tt
 codes-take (suc n) m (r ∷ rs) x c = (c .0, codes-take n m rs (λ p. shrZ (x p) 2) (c .1))
 
 -- the first n levels of a sum are codewords, where their degrees double: f + s is s less the negated f
-sum-codes : (k n : ℕ) → isKind k ≡ true → growing 0 (take n (degrees k)) (take n (degrees k)) ≡ true → (fs : List (List ℤ)) → AllInSet k fs
+sum-codes : (k n : ℕ) → isKind k ≡ true → growing 0 (take n (degrees k)) (take n (degrees k)) ≡ true → (fs : List (List ℤ)) → Each (InCodingSet k) fs
     → Codes k (take n (degrees k)) (at (sumOf k fs))
 unfolding sumOf levels
 sum-codes k n kind g [] h = subst (Codes k (take n (degrees k))) (sym (fun-ext (zeros-at (2 ^ k)))) (codes-none k (take n (degrees k)))
@@ -117,6 +118,6 @@ sum-codes k n kind g (f ∷ fs) h =
     (codes-take n k (degrees k) (at (negated f)) (codes-of k (degrees k) (negated f) (set-negated k kind f (h .0) .codewords)))
 
 -- THE FIRST TWO LEVELS of a sum: the second degree of a kind is at least twice the first. (The third of kind 6 is 5, and twice 3 is 6)
-pub two-codes : (k : ℕ) → isKind k ≡ true → (fs : List (List ℤ)) → AllInSet k fs → Codes k (take 2 (degrees k)) (at (sumOf k fs))
+pub two-codes : (k : ℕ) → isKind k ≡ true → (fs : List (List ℤ)) → Each (InCodingSet k) fs → Codes k (take 2 (degrees k)) (at (sumOf k fs))
 unfolding degrees kinds
 two-codes k kind = sum-codes k 2 kind (each-row (λ k. growing 0 (take 2 (degrees k)) (take 2 (degrees k))) refl k kind)

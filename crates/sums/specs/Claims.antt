@@ -1,5 +1,5 @@
 -- Request E8, sentence by sentence: what a sum of frames is to the two readings. Assumes nothing.
-use Prim.Native.Nat.{ℕ, _^_, _<_, _≤_}
+use Prim.Native.Nat.{ℕ, _*_, _^_, _<_, _≤_}
 use mathlib.Core.Path.{_≡_}
 use mathlib.Core.Logic.{_⊎_}
 use mathlib.Core.Bool.{true}
@@ -8,15 +8,15 @@ use lib.ListN.{length, getD, replicate}
 use lib.IntN.{ℤ, pos}
 use Rattle.reed_muller.specs.Level.{belongs}
 use Rattle.e8.specs.Ties.{negated}
-use Rattle.frames.specs.Kind.{isKind, isGrade, degrees, levels, messageBytes}
+use Rattle.frames.specs.Kind.{isKind, isGrade, degrees, levels, messageBytes, scale}
 use Rattle.frames.specs.Frame.{levelWord, InCodingSet}
 use Rattle.frames.specs.Free.{isFreeCount}
-use Rattle.frames.specs.Reading.{inRange, openRefusal, strictRefusal}
-use Rattle.sums.specs.Sum.{added, sumOf, AllInSet, AllSent}
+use Rattle.frames.specs.Reading.{largestRead, inRange, openRefusal, strictRefusal}
+use Rattle.sums.specs.Sum.{added, sumOf, Each, SentAt, IsSent}
 
 -- the sum of any number of frames of the coding set of kind k is in the coding set
 abbrev pub Closed : ℕ → Type 0
-Closed k = (fs : List (List ℤ)) → AllInSet k fs → InCodingSet k (sumOf k fs)
+Closed k = (fs : List (List ℤ)) → Each (InCodingSet k) fs → InCodingSet k (sumOf k fs)
 
 -- the coding set of kind k is a lattice: all zeros, the sum of two of its frames and each frame negated are in it
 pub record IsLattice (k : ℕ) : Type 0 where
@@ -55,34 +55,38 @@ pub record ReadOrThirteen (b f : ℕ) (s : List ℤ) (n : ℕ) : Type 0 where
 -- sums of frames of the coding set that are in range, read at any grade, with any free count: of kinds 3, 4 and 5, and of kind 6
 abbrev pub SumsRead : Type 0
 SumsRead = (k b f n : ℕ) → isKind k ≡ true → k ≤ 5 → isGrade b ≡ true → isFreeCount f ≡ true → n ≡ messageBytes k b
-    → (fs : List (List ℤ)) → AllInSet k fs → inRange (sumOf k fs) ≡ true → SumRead k b f (sumOf k fs) n
+    → (fs : List (List ℤ)) → Each (InCodingSet k) fs → inRange (sumOf k fs) ≡ true → SumRead k b f (sumOf k fs) n
 
 abbrev pub SumsOfSix : Type 0
 SumsOfSix = (b f n : ℕ) → isGrade b ≡ true → isFreeCount f ≡ true → n ≡ messageBytes 6 b
-    → (fs : List (List ℤ)) → AllInSet 6 fs → inRange (sumOf 6 fs) ≡ true → ReadOrThirteen b f (sumOf 6 fs) n
+    → (fs : List (List ℤ)) → Each (InCodingSet 6) fs → inRange (sumOf 6 fs) ≡ true → ReadOrThirteen b f (sumOf 6 fs) n
 
 -- "may leave the coding set, and are then 13": two sent frames of kind 6 whose sum is answered so, by the open reading at grade 1, whose messages have 22
 -- bytes
 pub record TwoSent (answer : ℕ) : Type 0 where
   pub x : List ℤ
   pub y : List ℤ
-  pub sent : AllSent 6 (x ∷ y ∷ [])
+  pub sent : Each (IsSent 6) (x ∷ y ∷ [])
   pub answered : openRefusal 6 1 0 (sumOf 6 (x ∷ y ∷ [])) 22 ≡ answer
 
 -- "A repeater that adds many frames brings coordinates up to 16,777,216 in size, in kinds 3 to 6": the sum of 131,072 sent frames and less, whose
 -- coordinates are at most 128 in size, is in range
 abbrev pub ManyInRange : Type 0
-ManyInRange = (k : ℕ) (fs : List (List ℤ)) → length fs ≤ 131072 → AllSent k fs → inRange (sumOf k fs) ≡ true
+ManyInRange = (k : ℕ) (fs : List (List ℤ)) → length fs ≤ 131072 → Each (IsSent k) fs → inRange (sumOf k fs) ≡ true
+
+-- and of one grade as many as 16,777,216 has room for, their coordinates being at most M in size
+abbrev pub ManyOfOneGrade : Type 0
+ManyOfOneGrade = (k b : ℕ) (fs : List (List ℤ)) → length fs * scale k b ≤ largestRead → Each (SentAt k b) fs → inRange (sumOf k fs) ≡ true
 
 -- what is sent is in the coding set, so that such a sum is answered as any other
 abbrev pub SentInSet : Type 0
-SentInSet = (k : ℕ) (fs : List (List ℤ)) → AllSent k fs → AllInSet k fs
+SentInSet = (k : ℕ) (fs : List (List ℤ)) → Each (IsSent k) fs → Each (InCodingSet k) fs
 
 -- and of more it need not be in range: m sent frames whose sum is 6 in both readings, at kind 6 and grade 4, whose messages have 46 bytes
 pub record TooMany (m : ℕ) : Type 0 where
   pub frames : List (List ℤ)
   pub many : length frames ≡ m
-  pub sent : AllSent 6 frames
+  pub sent : Each (IsSent 6) frames
   pub openly : openRefusal 6 4 0 (sumOf 6 frames) 46 ≡ 6
   pub strictly : (number : ℕ) → strictRefusal 6 4 0 number (sumOf 6 frames) 46 ≡ 6
 

@@ -4,7 +4,6 @@ use mathlib.Core.List.{List, [], _∷_}
 use lib.ListN.{replicate}
 use lib.IntN.{ℤ, pos, _+ℤ_}
 use Rattle.frames.specs.Message.{Bytes}
-use Rattle.frames.specs.Frame.{InCodingSet}
 use Rattle.frames.specs.Free.{Quiet}
 use Rattle.frames.specs.Sending.{Accepts}
 
@@ -19,22 +18,21 @@ unfoldable pub sumOf : ℕ → List (List ℤ) → List ℤ
 sumOf k [] = replicate (2 ^ k) (pos 0)
 sumOf k (f ∷ fs) = added f (sumOf k fs)
 
--- every frame of the list is in the coding set of kind k
-abbrev pub AllInSet : ℕ → List (List ℤ) → Type 0
-AllInSet k [] = Unit {0}
-AllInSet k (f ∷ fs) = InCodingSet k f × AllInSet k fs
+-- each frame of the list is such a one
+abbrev pub Each : (List ℤ → Type 0) → List (List ℤ) → Type 0
+Each Such [] = Unit {0}
+Each Such (f ∷ fs) = Such f × Each Such fs
 
--- the frame is sent at kind k: at some grade, with some free count, under some number, for some bytes that sending accepts
-pub record IsSent (k : ℕ) (frame : List ℤ) : Type 0 where
-  pub grade : ℕ
+-- the frame is sent at kind k and grade b: with some free count, under some number, for some bytes that sending accepts
+pub record SentAt (k b : ℕ) (frame : List ℤ) : Type 0 where
   pub free : ℕ
   pub number : ℕ
   pub bytes : List ℕ
   pub each : Bytes bytes
-  pub accepted : Accepts k grade free bytes
-  pub sent : Quiet k grade free number bytes frame
+  pub accepted : Accepts k b free bytes
+  pub sent : Quiet k b free number bytes frame
 
--- every frame of the list is sent at kind k
-abbrev pub AllSent : ℕ → List (List ℤ) → Type 0
-AllSent k [] = Unit {0}
-AllSent k (f ∷ fs) = IsSent k f × AllSent k fs
+-- the frame is sent at kind k: at some grade
+pub record IsSent (k : ℕ) (frame : List ℤ) : Type 0 where
+  pub grade : ℕ
+  pub at-grade : SentAt k grade frame
