@@ -15,6 +15,9 @@ use Rattle.power_account.specs.Opening.{openingRefusal}
 use Rattle.power_account.specs.Counted.{numberFor, countedRefusal, countedAccount}
 use Rattle.queue_turns.specs.Queue.{queueOutcome}
 use Rattle.near_reading.specs.Answer.{nearNumber, nearDistance}
+use Rattle.recordings.specs.declared.Chosen.{Chosen}
+use Rattle.recordings.specs.declared.Chosen.the-variants.{First, Second, Neither}
+use Rattle.recordings.specs.Choice.{choice, chosenNumber}
 
 -- the energy, or minus the refusal number
 unfoldable pub answerOf : ℕ → ℕ → ℤ
@@ -94,3 +97,20 @@ nearCode k b xs n = answerOf (nearNumber k b xs n) 0
 unfoldable pub nearHeld : ℕ → ℕ → List Float → ℕ → Float → Float
 unfolding nearNumber nearDistance
 nearHeld k b xs n lent = cond (eqb (nearNumber k b xs n) 0) (nearDistance k b xs n) lent
+
+-- ---- two recordings of one frame
+
+-- 1 for the first, 2 for the second; 0 where neither is chosen
+abbrev pub whichOf : Chosen → ℕ
+whichOf First = 1
+whichOf Second = 2
+whichOf (Neither n) = 0
+
+-- which of them a choice is, or minus its number
+abbrev pub chosenCode : Chosen → ℤ
+chosenCode c = answerOf (chosenNumber c) (whichOf c)
+
+-- the same of the recordings
+unfoldable pub closerCode : ℕ → ℕ → List Float → List Float → ℤ
+unfolding answerOf choice
+closerCode k b xs ys = chosenCode (choice k b xs ys)

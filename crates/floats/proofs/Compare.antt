@@ -1,12 +1,12 @@
 -- Floats compared, by the fractions that they are. Assumes nothing.
 use Prim.Native.Nat.{ℕ, _*_, _≤_, _<_}
 use mathlib.Core.Path.{_≡_, refl, sym, ap, ap₂, _∙_, subst}
-use mathlib.Core.Bool.{Bool, true, _&&_, _||_, Bool·beq, true≢false}
+use mathlib.Core.Bool.{Bool, true, false, _&&_, _||_, Bool·beq, true≢false}
 use native.Mathlib.Nat.{mul-pos, zero-mul, mul-le-mul-right, mul-lt-mul-of-pos-right, le-of-mul-le-mul-right, lt-of-mul-lt-mul-right, eq-of-mul-eq-mul-right}
 use native.Mathlib.Omega.{arith}
 use native.Mathlib.Decide.{ℕ-discrete, decLt}
 use lib.Dec.{T, eqb, ltb, eqb→eq}
-use lib.Ieee.{Float, nan, inf, fin, up, down, eq, level}
+use lib.Ieee.{Float, nan, inf, fin, up, down, eq, lt, level}
 use lib.Ieee.Exact.{HasValue}
 use lib.Ieee.Fits.{down-pos, and-l}
 use borrow.Author.Tests.{eq-eqb, ne-eqb, lt-ltb, le-ltb}
@@ -62,6 +62,24 @@ eq-values (fin s′ m e) (fin t′ n g) s t a c b d hc hd v w =
     right : q * (c * d) ≡ b * c * (down e * down g)
     right = ap (λ (i : ℕ). q * i) {x = c * d} {y = d * c} (omega arith) ∙ swap (n * up g) d b (down g) (down e) c (w .1)
         ∙ ap (λ (i : ℕ). b * c * i) {x = down g * down e} {y = down e * down g} (omega arith)
+
+-- a / c and b / c are in order as a and b are
+pub lt-parts : (x y : Float) (a b c : ℕ) → 0 < c → HasValue x false a c → HasValue y false b c → lt x y ≡ ltb a b
+unfolding lt
+lt-parts nan y a b c h v w = absurd v
+lt-parts (inf s) y a b c h v w = absurd v
+lt-parts (fin s m e) nan a b c h v w = absurd w
+lt-parts (fin s m e) (inf t) a b c h v w = absurd w
+lt-parts (fin s m e) (fin t n g) a b c h v w =
+    rw (v .0, w .0)
+    (scaled-ltb (m * up e * down g) (n * up g * down e) a b c (down e * down g) h (mul-pos (down-pos e) (down-pos g))
+    (left (m * up e) a (down e) (down g) (v .1)) (right (n * up g) b (down e) (down g) (w .1)))
+  where
+    left : (x a e g : ℕ) → x * c ≡ a * e → x * g * c ≡ a * (e * g)
+    left x a e g p = omega (arith, ap (λ (z : ℕ). z * g) p)
+
+    right : (y b e g : ℕ) → y * c ≡ b * g → y * e * c ≡ b * (e * g)
+    right y b e g q = omega (arith, ap (λ (z : ℕ). z * e) q)
 
 -- what is equal to ± a / c is a / c in size
 pub record Sized (y : Float) (a c : ℕ) : Type 0 where

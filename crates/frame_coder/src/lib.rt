@@ -8,7 +8,7 @@ ghost use Rattle.answers.specs.Answer.{sendAnswer, SendFrame, openAnswer, openB
 ghost use Rattle.answers.specs.Answer.{accountOf, openingAnswer, countedAnswer, CountedFrame, countedHeld, queueAnswer};
 ghost use Rattle.power_account.specs.Opening.{openedWith};
 ghost use Rattle.power_account.specs.Counted.{numberFor};
-ghost use Rattle.answers.specs.Answer.{nearCode, nearHeld};
+ghost use Rattle.answers.specs.Answer.{nearCode, nearHeld, closerCode};
 ghost use Rattle.queue_turns.specs.Queue.{queueOutcome, queueFrames, EachLeast};
 ghost use Rattle.near_reading.specs.Answer.{nearMessage};
 
@@ -187,5 +187,18 @@ pub extern "C" fn coder_read_near(
         }
         near_reading::NearReading::Far => answers::answer(16, 0),
         near_reading::NearReading::Refused(number) => answers::answer(number, 0),
+    }
+}
+
+// Which of two recordings of one frame is chosen: 1 for the first, 2 for the second, or minus the number.
+#[no_mangle]
+pub extern "C" fn coder_closer(kind: u8, grade: u8, first: &[f32], second: &[f32]) -> i64
+    ensures { λ r. ⌜ r ≡ closerCode kind grade (now (first .entry)) (now (second .entry)) ⌝ }
+{
+    let c = closer_recording::choose(kind, grade, first, second);
+    match c {
+        recordings::Chosen::First => answers::answer(0, 1),
+        recordings::Chosen::Second => answers::answer(0, 2),
+        recordings::Chosen::Neither(number) => answers::answer(number, 0),
     }
 }

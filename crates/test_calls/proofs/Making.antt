@@ -11,7 +11,7 @@ use borrow.Author.Tests.{lt-ltb, le-ltb}
 use Rattle.frames.specs.Reading.{sameFrame}
 use Rattle.power_account.specs.declared.Account.{Account}
 use Rattle.account.specs.declared.Counted.{Counted}
-use Rattle.test_data.specs.Alike.{sameBytes}
+use Rattle.bytes.specs.Same.{sameBytes}
 use Rattle.test_data.proofs.Parts.{put-first}
 use Rattle.test_calls.specs.declared.record.Call.{Call}
 use Rattle.test_calls.specs.declared.record.Lent.{Lent}

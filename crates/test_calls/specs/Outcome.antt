@@ -11,7 +11,8 @@ use Rattle.power_account.specs.declared.Account.{Account}
 use Rattle.account.specs.declared.Counted.{Counted}
 use Rattle.power_account.specs.Opening.{openedWith}
 use Rattle.power_account.specs.Counted.{numberFor, countedRefusal, countedAccount}
-use Rattle.test_data.specs.Alike.{sameBytes, sameAccount}
+use Rattle.bytes.specs.Same.{sameBytes}
+use Rattle.test_data.specs.Alike.{sameAccount}
 use Rattle.test_calls.specs.declared.record.Call.{Call}
 use Rattle.test_calls.specs.declared.record.Lent.{Lent}
 

@@ -14,7 +14,7 @@ use test_data::size;
 ghost use mathlib.Core.Path.{_≡_};
 ghost use mathlib.Core.Bool.{_&&_};
 ghost use Rattle.frames.specs.Reading.{sameFrame};
-ghost use Rattle.test_data.specs.Alike.{sameBytes};
+ghost use Rattle.bytes.specs.Same.{sameBytes};
 ghost use Rattle.test_tally.specs.Tally.{GrownBy};
 ghost use Rattle.test_calls.specs.Outcome.{madeOutcome, sameAnswer, isHeld};
 
@@ -90,7 +90,7 @@ fn same_lent(message: [u8; 48], frame: [i32; 68], left: Lent) -> bool
 {
     let m = left.message;
     let f = left.frame;
-    if !test_data::same_bytes(&message, &m) {
+    if !bytes::same_bytes(&message, &m) {
         return false;
     }
     test_data::same_coordinates(&frame, &f)

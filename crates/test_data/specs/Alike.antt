@@ -1,17 +1,10 @@
--- When what a call left is what the data says: bytes, floats by their bits, accounts. For coordinates it is sameFrame of frames. Assumes nothing.
+-- When what a call left is what the data says: floats by their bits, accounts. For bytes it is sameBytes of bytes, for coordinates sameFrame of frames.
+-- Assumes nothing.
 use Prim.Native.Nat.{ℕ}
-use mathlib.Core.Bool.{Bool, true, false, _&&_}
-use mathlib.Core.List.{List, [], _∷_}
+use mathlib.Core.Bool.{Bool, _&&_}
 use lib.Dec.{eqb}
 use lib.Ieee.{Float, binary64, toBits}
 use Rattle.power_account.specs.declared.Account.{Account}
-
--- the same bytes, and as many
-unfoldable pub sameBytes : List ℕ → List ℕ → Bool
-sameBytes [] [] = true
-sameBytes [] (b ∷ y) = false
-sameBytes (a ∷ x) [] = false
-sameBytes (a ∷ x) (b ∷ y) = eqb a b && sameBytes x y
 
 -- two f64 have the same bits
 abbrev pub sameFloat : Float → Float → Bool

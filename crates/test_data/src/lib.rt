@@ -15,7 +15,7 @@ ghost use mathlib.Core.Bool.{true};
 ghost use mathlib.Core.List.{[]};
 ghost use Prim.Native.Nat.{_≤_};
 ghost use Rattle.test_data.specs.Held.{numberIn, countIn, accountIn};
-ghost use Rattle.test_data.specs.Alike.{sameBytes, sameAccount};
+ghost use Rattle.test_data.specs.Alike.{sameAccount};
 ghost use Rattle.test_data.specs.File.{ReadOver};
 
 fn wide(b: u8) -> u64
@@ -96,23 +96,6 @@ pub fn fill(fd: i32, n: usize, out: &mut [u8]) -> bool
         return false;
     }
     io::read_full(fd, &mut out[0..n]) == n
-}
-
-// Whether two rows of bytes are the same.
-pub fn same_bytes(x: &[u8], y: &[u8]) -> bool
-    ensures { λ r. ⌜ r ≡ sameBytes (now (x .entry)) (now (y .entry)) ⌝ }
-{
-    if x.len() != y.len() {
-        return false;
-    }
-    let mut i: usize = 0;
-    while i < y.len() {
-        if x[i] != y[i] {
-            return false;
-        }
-        i += 1;
-    }
-    true
 }
 
 // Writes a text to standard output, and answers whether all of it was taken: no text always is.

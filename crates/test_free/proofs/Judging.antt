@@ -13,8 +13,8 @@ use lib.Seq.{take-all}
 use borrow.Author.Tests.{eq-eqb, ne-eqb, eqb-true}
 use Rattle.frames.specs.Reading.{messageAfter, energyRead}
 use Rattle.power_account.specs.declared.Account.{Account}
-use Rattle.test_data.specs.Alike.{sameBytes}
-use Rattle.test_data.proofs.Compared.{bytes-same}
+use Rattle.bytes.specs.Same.{sameBytes}
+use Rattle.bytes.proofs.Compared.{bytes-same}
 use Rattle.test_tally.specs.Tally.{judged, judgedAll}
 use Rattle.test_tally.proofs.Counted.{then-judged}
 use Rattle.test_free.specs.declared.calls.Under.{Under}

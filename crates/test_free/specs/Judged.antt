@@ -11,7 +11,8 @@ use Rattle.frames.specs.Sending.{sendRefusal, QuietAfter, energySent}
 use Rattle.frames.specs.Reading.{openRefusal, strictRefusal, fixedMessage, energyRead, sameFrame}
 use Rattle.power_account.specs.declared.Account.{Account}
 use Rattle.power_account.specs.Counted.{numberFor, countedRefusal, countedAccount}
-use Rattle.test_data.specs.Alike.{sameBytes, sameAccount}
+use Rattle.bytes.specs.Same.{sameBytes}
+use Rattle.test_data.specs.Alike.{sameAccount}
 use Rattle.test_data.specs.Held.{numberIn, coordinateIn, takenFrom}
 use Rattle.test_tally.specs.Tally.{Judgement}
 use Rattle.test_free.specs.declared.calls.Under.{Under}

@@ -11,15 +11,15 @@ use super::calls::read;
 use super::calls::send;
 use super::judge;
 use account::Account;
+use bytes::same_bytes;
 use test_data::number;
-use test_data::same_bytes;
 use test_data::same_coordinates;
 ghost use mathlib.Core.Path.{_≡_};
 ghost use mathlib.Core.Bool.{_&&_, _||_};
 ghost use Prim.Native.Nat.{_≤_, _/_, _*_, _+_};
 ghost use lib.ListN.{length};
 ghost use Rattle.frames.specs.Reading.{messageAfter};
-ghost use Rattle.test_data.specs.Alike.{sameBytes};
+ghost use Rattle.bytes.specs.Same.{sameBytes};
 ghost use Rattle.test_tally.specs.Tally.{judgedAll};
 ghost use Rattle.test_free.specs.Judged.{
   sameAnswer,

@@ -11,7 +11,7 @@ use lib.Seq.{length-take-le}
 use borrow.Rule.Slice.PartMut.{postOf, post-is}
 use borrow.Author.Tests.{le-leb, lt-leb}
 use Rattle.near_reading.specs.Answer.{nearMessage}
-use Rattle.test_data.specs.Alike.{sameBytes}
+use Rattle.bytes.specs.Same.{sameBytes}
 use Rattle.test_near.specs.declared.judging.Reading.{Reading}
 use Rattle.test_near.specs.Judged.{answersBy, bytesLeft, passes}
 

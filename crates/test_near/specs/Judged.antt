@@ -10,7 +10,8 @@ use Rattle.near_reading.specs.declared.NearReading.{NearReading}
 use Rattle.near_reading.specs.declared.NearReading.the-variants.{Near, Far, Refused}
 use Rattle.near_reading.specs.Answer.{nearMessage, nearAnswer}
 use Rattle.answers.specs.Answer.{answerOf, nearCode, nearHeld}
-use Rattle.test_data.specs.Alike.{sameBytes, sameFloat}
+use Rattle.bytes.specs.Same.{sameBytes}
+use Rattle.test_data.specs.Alike.{sameFloat}
 use Rattle.test_near.specs.declared.judging.Reading.{Reading}
 
 -- the case answers the number and the distance: a distance for 0, too far for 16, a refusal for any other number

@@ -2,9 +2,9 @@
 use super::EXPORTED;
 use super::LIBRARY;
 use super::judge;
+use bytes::same_bytes;
 use near_reading::NearReading;
 use test_data::same_answer;
-use test_data::same_bytes;
 use test_data::same_float;
 ghost use mathlib.Core.Path.{_≡_};
 ghost use lib.ListN.{length};

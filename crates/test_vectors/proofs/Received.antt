@@ -9,7 +9,7 @@ use lib.ListN.{length}
 use borrow.Author.Tests.{le-leb, lt-leb, eq-eqb, ne-eqb}
 use Rattle.e8.specs.Energy.{energy}
 use Rattle.frames.specs.Reading.{openMessage, messageAfter, energyRead}
-use Rattle.test_data.specs.Alike.{sameBytes}
+use Rattle.bytes.specs.Same.{sameBytes}
 use Rattle.test_vectors.specs.declared.checks.Under.{Under}
 use Rattle.test_vectors.specs.Vector.{readRefusal, isReadAs, isAnswered}
 

@@ -11,7 +11,7 @@ use Rattle.e8.specs.Energy.{energy}
 use Rattle.frames.specs.Frame.{numberedFrame}
 use Rattle.frames.specs.Sending.{sendRefusal}
 use Rattle.frames.specs.Reading.{fixedMessage, openRefusal, strictRefusal, sameFrame}
-use Rattle.test_data.specs.Alike.{sameBytes}
+use Rattle.bytes.specs.Same.{sameBytes}
 use Rattle.test_tally.specs.Tally.{Judgement}
 use Rattle.test_vectors.specs.declared.checks.Under.{Under}
 use Rattle.test_vectors.specs.declared.checks.Energies.{Energies}

@@ -10,7 +10,7 @@ use super::STRICT;
 use super::TWO;
 use super::WHOLE;
 use super::judge;
-use test_data::same_bytes;
+use bytes::same_bytes;
 use test_data::same_coordinates;
 ghost use mathlib.Core.Path.{_≡_};
 ghost use mathlib.Core.Bool.{_&&_, cond};

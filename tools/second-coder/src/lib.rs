@@ -3,8 +3,9 @@
 //! It is slow and plain on purpose: codewords come from the definition by masks, and the sent
 //! frame from a search of the leader's class that keeps every member of least energy. Of these an
 //! even number sends the first in reading order, and an odd one the last. The near reading takes
-//! its frame from a list of all whole frames within reach of the samples. Where bits of the message are
-//! free, the class of each filling is searched, and every filling of least energy is kept.
+//! its frame from a list of all whole frames within reach of the samples; of two recordings each is read so,
+//! and messages and distances are compared. Where bits of the message are free, the class of each filling is
+//! searched, and every filling of least energy is kept.
 
 pub mod account;
 pub mod calls;
@@ -16,8 +17,10 @@ pub mod free;
 pub mod free_file;
 pub mod near;
 pub mod noisy;
+pub mod pairs;
 pub mod queues;
 pub mod random;
+pub mod recordings;
 pub mod sheet;
 pub mod test_file;
 pub mod vectors;
@@ -41,4 +44,5 @@ pub mod refusal {
     pub const UNFIT_SAMPLE: u8 = 15;
     pub const TOO_FAR: u8 = 16;
     pub const FREE_COUNT: u8 = 17;
+    pub const AT_ODDS: u8 = 18;
 }

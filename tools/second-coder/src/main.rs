@@ -4,7 +4,7 @@ use std::io::{Read, Write};
 use std::path::{Path, PathBuf};
 use std::process::{Command, ExitCode, Stdio};
 
-use second_coder::{calls, free_file, noisy, queues, random::Random, sheet, test_file::TestFile, vectors};
+use second_coder::{calls, free_file, noisy, pairs, queues, random::Random, sheet, test_file::TestFile, vectors};
 
 /// Where a file for a crate stands: beside the program that holds the library to it.
 fn crates(name: &str) -> PathBuf {
@@ -60,6 +60,12 @@ fn write_files() -> std::io::Result<()> {
     write_test("test_near", "noisy.bin", &file)?;
     let bytes = file.bytes.len();
     println!("noisy.bin: {sorts:?}, {numbers:?} answered by each number, {wrong} with a wrong answer, {bytes} bytes");
+    let (file, pairs::Counts { sorts, numbers, chosen, wrong }) = pairs::pairs_file();
+    write_test("test_recordings", "pairs.bin", &file)?;
+    println!(
+        "pairs.bin: {sorts:?}, {numbers:?} answered by each number, {chosen:?} with none, the first and the second handed back, {wrong} with a wrong answer, {} bytes",
+        file.bytes.len()
+    );
     let (file, free_file::Counts { sorts, sent, counted, open, strict, ties, wrong }) = free_file::free_file();
     write_test("test_free", "free.bin", &file)?;
     println!("\n| kind | grade | records, by free count | with several least fillings | most least fillings |");

@@ -77,6 +77,15 @@ pub struct Near {
     pub distance: f64,
 }
 
+/// The near frame and its distance, of as many samples as the format has coordinates; or the number of what is unfit or too far.
+pub fn near_frame(format: &Format, samples: &[f32]) -> Result<(Vec<i64>, i64), u8> {
+    let samples: Option<Vec<i64>> = samples.iter().map(|&sample| in_256ths(sample)).collect();
+    let samples = samples.ok_or(refusal::UNFIT_SAMPLE)?;
+    let mut near = frames_within(&samples, limit(format.m as u8), format.levels);
+    assert!(near.len() <= 1, "there is never a second one");
+    near.pop().ok_or(refusal::TOO_FAR)
+}
+
 /// The near reading, with the number of message bytes that the caller lends.
 pub fn read_near(kind: u8, grade: u8, samples: &[f32], bytes: usize) -> Result<Near, u8> {
     if !KINDS.contains(&kind) {
@@ -89,11 +98,7 @@ pub fn read_near(kind: u8, grade: u8, samples: &[f32], bytes: usize) -> Result<N
     if bytes != format.message_bytes() {
         return Err(refusal::MESSAGE_LENGTH);
     }
-    let samples: Option<Vec<i64>> = samples.iter().map(|&sample| in_256ths(sample)).collect();
-    let samples = samples.ok_or(refusal::UNFIT_SAMPLE)?;
-    let mut near = frames_within(&samples, limit(kind), format.levels);
-    assert!(near.len() <= 1, "there is never a second one");
-    let (frame, parts) = near.pop().ok_or(refusal::TOO_FAR)?;
+    let (frame, parts) = near_frame(&format, samples)?;
     let (message, _) = read_open_into(kind, grade, &frame, bytes)?;
     Ok(Near { frame, message, distance: parts as f64 / 65_536.0 })
 }

@@ -109,35 +109,43 @@ impl Readings {
 
     /// Samples in 256ths.
     fn put(&mut self, format: &Format, samples: &[i64]) {
-        let samples = samples.iter().map(|&t| t as f32 / 256.0).collect();
-        self.lend(format.m as u8, format.grade as u8, samples, format.message_bytes());
+        self.lend(format.m as u8, format.grade as u8, as_samples(samples), format.message_bytes());
     }
 
-    /// A frame with noise, whose sign is turned where a sample would lie past the ends.
+    /// A frame with noise.
     fn noisy(&mut self, format: &Format, frame: &[i64], noise: &[i64]) {
-        let sample = |(&x, &e): (&i64, &i64)| if (256 * x + e).abs() <= 32_768 { 256 * x + e } else { 256 * x - e };
-        let samples: Vec<i64> = frame.iter().zip(noise).map(sample).collect();
-        self.put(format, &samples);
+        self.put(format, &with_noise(frame, noise));
     }
 }
 
+/// Samples that are given in 256ths.
+pub fn as_samples(samples: &[i64]) -> Vec<f32> {
+    samples.iter().map(|&t| t as f32 / 256.0).collect()
+}
+
+/// A frame with noise, in 256ths; the sign of the noise is turned where a sample would lie past the ends.
+pub fn with_noise(frame: &[i64], noise: &[i64]) -> Vec<i64> {
+    let sample = |(&x, &e): (&i64, &i64)| if (256 * x + e).abs() <= 32_768 { 256 * x + e } else { 256 * x - e };
+    frame.iter().zip(noise).map(sample).collect()
+}
+
 /// A number from −size to size.
-fn signed(size: i64, random: &mut Random) -> i64 {
+pub fn signed(size: i64, random: &mut Random) -> i64 {
     random.below(2 * size as u64 + 1) as i64 - size
 }
 
 /// One of the two signs.
-fn sign(random: &mut Random) -> i64 {
+pub fn sign(random: &mut Random) -> i64 {
     2 * random.below(2) as i64 - 1
 }
 
 /// A choice of so many places out of n.
-fn places(count: usize, n: usize, random: &mut Random) -> Vec<usize> {
+pub fn places(count: usize, n: usize, random: &mut Random) -> Vec<usize> {
     let mut all: Vec<usize> = (0..n).collect();
     (0..count).map(|i| all.swap_remove(random.below((n - i) as u64) as usize)).collect()
 }
 
-fn root(x: i64) -> i64 {
+pub fn root(x: i64) -> i64 {
     (x as u64).isqrt() as i64
 }
 
@@ -162,7 +170,7 @@ fn four_squares(total: i64, random: &mut Random) -> [i64; 4] {
 }
 
 /// Noise of this size, and of random sign, at these places out of n.
-fn off(places: &[usize], size: i64, n: usize, random: &mut Random) -> Vec<i64> {
+pub fn off(places: &[usize], size: i64, n: usize, random: &mut Random) -> Vec<i64> {
     let mut noise = vec![0; n];
     for &p in places {
         noise[p] = size * sign(random);
@@ -171,7 +179,7 @@ fn off(places: &[usize], size: i64, n: usize, random: &mut Random) -> Vec<i64> {
 }
 
 /// Noise whose squares add up to the total, at these places out of n, four or more.
-fn noise_at(places: &[usize], total: i64, n: usize, random: &mut Random) -> Vec<i64> {
+pub fn noise_at(places: &[usize], total: i64, n: usize, random: &mut Random) -> Vec<i64> {
     let mut noise = vec![0; n];
     let mut rest = total;
     let (four, others) = places.split_first_chunk::<4>().unwrap();
@@ -187,7 +195,7 @@ fn noise_at(places: &[usize], total: i64, n: usize, random: &mut Random) -> Vec<
 }
 
 /// The same at all places.
-fn noise(total: i64, n: usize, random: &mut Random) -> Vec<i64> {
+pub fn noise(total: i64, n: usize, random: &mut Random) -> Vec<i64> {
     noise_at(&places(n, n, random), total, n, random)
 }
 
@@ -199,7 +207,7 @@ fn large(format: &Format, random: &mut Random) -> Vec<i64> {
 }
 
 /// A frame of the coding set: sent for a message of random bits or on the edge, or with large coordinates.
-fn coded(format: &Format, random: &mut Random) -> Vec<i64> {
+pub fn coded(format: &Format, random: &mut Random) -> Vec<i64> {
     let message = match random.below(4) {
         0 => return large(format, random),
         1 => edge(format, random),
@@ -222,7 +230,7 @@ fn flat(r: u32, m: u32, random: &mut Random) -> Vec<bool> {
 
 /// Frames of the coding set beside this one, at four times the limit, which is the least distance: moved by 1 at a flat of level 0, by 2
 /// at one of level 1, or past the last level at one place.
-fn beside(format: &Format, frame: &[i64], random: &mut Random) -> Vec<Vec<i64>> {
+pub fn beside(format: &Format, frame: &[i64], random: &mut Random) -> Vec<Vec<i64>> {
     let m = format.m;
     let degrees = format.levels.iter().copied().chain([m]).enumerate();
     let least = degrees.filter(|&(level, r)| 65_536 << (2 * level as u32 + m - r) == 4 * limit(m as u8));

@@ -10,7 +10,8 @@ use mir.Val.{toZ, ofZ}
 use borrow.Author.Needs.{needs}
 use Rattle.integers.proofs.Zed.{tz}
 use Rattle.frames.proofs.Frame.{at}
-use Rattle.test_data.proofs.Compared.{agree-more, agree-all, frames-equal, frames-differ}
+use Rattle.bytes.proofs.Compared.{agree-more, agree-all}
+use Rattle.test_data.proofs.Compared.{frames-equal, frames-differ}
 use Rattle.test_data.proofs.frame.same_coordinates.Statement.{statement}
 use Rattle.test_data.proofs.frame.same_coordinates.Tie as tie
 

@@ -3,7 +3,7 @@ use mathlib.Core.Path.{refl, sym, ap, _∙_}
 use mathlib.Core.List.{List}
 use Prim.Native.Nat.{ℕ}
 use borrow.Author.Tests.{not-true, not-false}
-use Rattle.test_data.specs.Alike.{sameBytes}
+use Rattle.bytes.specs.Same.{sameBytes}
 use Rattle.test_free.specs.declared.calls.Answer.{Answer}
 use Rattle.test_free.specs.Judged.{sameAnswer}
 use borrow.Author.Needs.{needs}

@@ -5,7 +5,7 @@ use mathlib.Core.List.{List}
 use native.Mathlib.Omega.{arith}
 use lib.ListN.{length, take}
 use borrow.Rule.Slice.PartMut.{putMid, mid-len, same-len-mid, put-same}
-use Rattle.test_data.proofs.Compared.{bytes-equal}
+use Rattle.bytes.proofs.Compared.{bytes-equal}
 use Rattle.test_vectors.specs.Vector.{readRefusal}
 use Rattle.test_vectors.proofs.Received.{no-energy, as-lent, no-room, other-number, that-number}
 use borrow.Author.Needs.{needs}

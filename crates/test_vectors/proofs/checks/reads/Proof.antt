@@ -5,7 +5,7 @@ use mathlib.Core.List.{List}
 use native.Mathlib.Omega.{arith}
 use lib.ListN.{length, take}
 use borrow.Rule.Slice.PartMut.{mid-len, same-len-mid}
-use Rattle.test_data.specs.Alike.{sameBytes}
+use Rattle.bytes.specs.Same.{sameBytes}
 use Rattle.test_data.proofs.Parts.{first-put}
 use Rattle.test_vectors.specs.Vector.{readRefusal}
 use Rattle.test_vectors.proofs.Received.{too-long, refused, other-energy, compared}

@@ -5,9 +5,9 @@ use mathlib.Core.List.{List}
 use native.Mathlib.Omega.{arith}
 use lib.ListN.{length, getD, take}
 use borrow.Author.Needs.{needs}
-use Rattle.test_data.proofs.Compared.{agree-more, agree-all, bytes-equal, bytes-differ}
-use Rattle.test_data.proofs.same_bytes.Statement.{statement}
-use Rattle.test_data.proofs.same_bytes.Tie as tie
+use Rattle.bytes.proofs.Compared.{agree-more, agree-all, bytes-equal, bytes-differ}
+use Rattle.bytes.proofs.same_bytes.Statement.{statement}
+use Rattle.bytes.proofs.same_bytes.Tie as tie
 
 abbrev Inv-loop : tie.InvT-loop
 Inv-loop x y i₀ i = (i ≤ length y) × (take i x ≡ take i y)
@@ -16,7 +16,7 @@ abbrev μ-loop : tie.MeasureT-loop
 μ-loop x y i₀ i = length y - i
 
 returns : tie.Need-returns Inv-loop μ-loop
-returns c = bytes-differ (λ e. c .if1 .taken (ap (λ (l : List ℕ). length l) e))
+returns c = bytes-differ (λ e. omega (arith, c .if1 .taken, ap (λ (l : List ℕ). length l) e))
 
 loop-holds : tie.Need-loop-holds Inv-loop μ-loop
 loop-holds c = (omega arith, refl)

@@ -1,0 +1,4 @@
+pub mod Recording
+pub mod Choices
+pub mod Claims
+pub mod Cases

@@ -1,0 +1,4 @@
+pub mod Recording
+pub mod Choice
+pub mod Claims
+pub mod Cases
