@@ -1,17 +1,11 @@
 // Two recordings of one frame: the one whose near reading is closer, as the caller's own slice, and the number that goes with it (request E9).
 ghost use mathlib.Core.Path.{_≡_};
 ghost use lib.ListN.{length};
-ghost use Rattle.near_reading.specs.Answer.{nearNumber, nearDistance, nearMessage};
+ghost use Rattle.near_reading.specs.Answer.{nearMessage};
 ghost use Rattle.recordings.specs.Choice.{choice, handed, handedBack, closerNumber};
 ghost use Rattle.closer_recording.specs.Room.{roomFor};
-use near_reading::NearReading;
+use near_reading::REFUSED;
 use recordings::Chosen;
-
-// A near reading in figures: the number, and the squared distance, 0.0 where the number is another than 0.
-struct Heard {
-    number: u8,
-    distance: f64,
-}
 
 // The bytes of a message, 0 where there is no such kind or grade.
 fn room(kind: u8, grade: u8) -> usize
@@ -23,30 +17,7 @@ fn room(kind: u8, grade: u8) -> usize
     kind_table::message_bytes(kind, grade as usize)
 }
 
-// The near reading of one recording.
-fn hear(kind: u8, grade: u8, samples: &[f32], message: &mut [u8]) -> Heard
-    ensures number { λ r. ⌜ r .number ≡ nearNumber kind grade (now (samples .entry)) (length (now (message .entry))) ⌝ }
-    ensures distance { λ r. ⌜ r .distance ≡ nearDistance kind grade (now (samples .entry)) (length (now (message .entry))) ⌝ }
-    ensures message { λ r. ⌜ now (message .exit) ≡ nearMessage kind grade (now (samples .entry)) (now (message .entry)) ⌝ }
-{
-    let r = near_reading::read_near(kind, grade, samples, message);
-    match r {
-        NearReading::Near(d) => Heard {
-            number: 0,
-            distance: d,
-        },
-        NearReading::Far => Heard {
-            number: 16,
-            distance: 0.0,
-        },
-        NearReading::Refused(n) => Heard {
-            number: n,
-            distance: 0.0,
-        },
-    }
-}
-
-// The choice from both readings, whose messages go to `one` and `two`.
+// The choice from both readings, whose messages go to `one` and `two`. Distances compare as whole numbers of 65,536ths.
 fn decide(
     kind: u8,
     grade: u8,
@@ -60,25 +31,22 @@ fn decide(
     ensures one { λ r. ⌜ now (one .exit) ≡ nearMessage kind grade (now (first .entry)) (now (one .entry)) ⌝ }
     ensures two { λ r. ⌜ now (two .exit) ≡ nearMessage kind grade (now (second .entry)) (now (two .entry)) ⌝ }
 {
-    let p = hear(kind, grade, first, one);
-    let q = hear(kind, grade, second, two);
-    if p.number != 0 {
-        if q.number != 0 {
-            return Chosen::Neither(p.number);
+    let p = near_reading::read_figures(kind, grade, first, one);
+    let q = near_reading::read_figures(kind, grade, second, two);
+    if REFUSED <= p {
+        if REFUSED <= q {
+            let number = (p / REFUSED) as u8;
+            return Chosen::Neither(number);
         }
         return Chosen::Second;
     }
-    if q.number != 0 {
+    if REFUSED <= q {
         return Chosen::First;
     }
     if !bytes::same_bytes(one, two) {
         return Chosen::Neither(18);
     }
-    if q.distance < p.distance {
-        Chosen::Second
-    } else {
-        Chosen::First
-    }
+    if q < p { Chosen::Second } else { Chosen::First }
 }
 
 // Which of two recordings of one frame is chosen. No message has more than 46 bytes.

@@ -1,5 +1,5 @@
 -- What is answered past the tests, by what the search tells: the near frame's message and distance; or too far. Assumes nothing.
-use Prim.Native.Nat.{ℕ, _^_, _≤_, _<_}
+use Prim.Native.Nat.{ℕ, _*_, _^_, _≤_, _<_}
 use mathlib.Core.Path.{_≡_, refl, sym, ap, _∙_}
 use mathlib.Core.Bool.{true, false}
 use mathlib.Core.List.{List, []}
@@ -23,10 +23,9 @@ use Rattle.near_frames.proofs.NearKinds.{near-is-kind}
 use Rattle.near_frames.proofs.Squares.{root-lt, le-abs}
 use Rattle.near_frames.proofs.Sum.{nearness-sum}
 use Rattle.near_frames.proofs.Frames.{limit-low, near-is, is-near}
-use Rattle.near_reading.specs.declared.NearReading.the-variants as answer
-use Rattle.near_reading.specs.Answer.{nearNumber, inParts, nearMessage, nearAnswer}
+use Rattle.near_reading.specs.Answer.{nearNumber, nearFigures, nearMessage}
 use Rattle.near_reading.specs.Claims.{Readable}
-use Rattle.near_reading.proofs.Tests.{number-read, answer-far, answer-near, distance-near, message-near, message-kept}
+use Rattle.near_reading.proofs.Tests.{number-read, message-near, message-kept}
 
 -- a whole number less than 2 away from a sample of at most 128
 small-number : (z t : ℤ) → natAbs t ≤ 32768 → sq (pos 256 *ℤ z -ℤ t) < 262144 → natAbs z ≤ largestRead
@@ -68,8 +67,9 @@ module _ (k b : ℕ) (xs : List Float) (bytes : List ℕ) (r : Readable k b xs (
     pub number-16 : nearNumber k b xs (length bytes) ≡ 16
     number-16 = rw (number-read k b xs (length bytes) r, none)
 
-    pub far-answer : answer.Far ≡ nearAnswer k b xs (length bytes)
-    far-answer = answer-far k b xs (length bytes) number-16
+    pub far-figures : 16 * 4294967296 ≡ nearFigures k b xs (length bytes)
+    unfolding nearFigures
+    far-figures = rw number-16
 
     pub far-message : bytes ≡ nearMessage k b xs bytes
     far-message = sym (message-kept k b xs bytes (λ e. omega (arith, e, number-16)))
@@ -80,8 +80,9 @@ module _ (k b : ℕ) (xs : List Float) (bytes : List ℕ) (r : Readable k b xs (
     pub number-0 : nearNumber k b xs (length bytes) ≡ 0
     number-0 = rw (number-read k b xs (length bytes) r, near)
 
-    pub near-answer : answer.Near (inParts (nearCost k t)) ≡ nearAnswer k b xs (length bytes)
-    near-answer = ap answer.Near (sym (distance-near k b xs (length bytes) number-0)) ∙ answer-near k b xs (length bytes) number-0
+    pub near-figures : nearCost k t ≡ nearFigures k b xs (length bytes)
+    unfolding nearFigures
+    near-figures = rw number-0
 
     -- what the open reading of the near frame leaves, whatever coordinates were lent for it
     pub near-message : (lent f : List ℤ) (number : ℕ) → f ≡ nearFrame k t lent → number ≡ openRefusal k b 0 f (length bytes)

@@ -1,5 +1,5 @@
 -- The tests of the near reading, one by one, the number that they give, and what is answered by the number. Assumes nothing.
-use Prim.Native.Nat.{ℕ, _^_, _<_}
+use Prim.Native.Nat.{ℕ, _*_, _^_, _≤_, _<_}
 use mathlib.Core.Path.{_≡_, refl, sym, _∙_}
 use mathlib.Core.Bool.{Bool, true, false, cond}
 use mathlib.Core.List.{List, []}
@@ -15,7 +15,7 @@ use Rattle.frames.proofs.Refusals.{passed}
 use Rattle.samples.specs.Sample.{allFit, samplesIn256ths}
 use Rattle.near_frames.specs.Near.{nearKind, someNear, nearFrame, nearCost}
 use Rattle.near_reading.specs.declared.NearReading.the-variants.{Near, Far, Refused}
-use Rattle.near_reading.specs.Answer.{nearRefusal, nearNumber, zero64, inParts, nearDistance, nearMessage, numberOf, distanceOf, nearAnswer}
+use Rattle.near_reading.specs.Answer.{nearRefusal, nearNumber, zero64, inParts, nearDistance, nearFigures, nearMessage, numberOf, distanceOf, nearAnswer}
 use Rattle.near_reading.specs.Claims.{Readable}
 
 module _ (k b : ℕ) (xs : List Float) (n : ℕ) where
@@ -99,16 +99,25 @@ module _ (k b : ℕ) (xs : List Float) (n : ℕ) where
           let h = eqb-false (nearRefusal k b xs n) 0 z in
           absurd (h (sym (number-refused h) ∙ e))
 
+  -- it is at most 16
+  pub number-low : nearNumber k b xs n ≤ 16
+  unfolding nearNumber
+  number-low = go (eqb (nearRefusal k b xs n) 0) (someNear k (samplesIn256ths xs))
+    where
+      go : (s t : Bool) → cond s (unless t 16 0) (nearRefusal k b xs n) ≤ 16
+      go true true = omega arith
+      go true false = omega arith
+      go false t = omega (arith, refusal-low)
+
   -- ---- the answer by the number
 
-  pub answer-refused : (nearRefusal k b xs n ≡ 0 → ⊥) → Refused (nearRefusal k b xs n) ≡ nearAnswer k b xs n
+  pub answer-refused : (nearNumber k b xs n ≡ 0 → ⊥) → (nearNumber k b xs n ≡ 16 → ⊥) → Refused (nearNumber k b xs n) ≡ nearAnswer k b xs n
   unfolding nearAnswer
-  answer-refused h =
-      rw (
-        number-refused h,
-        ne-eqb (nearRefusal k b xs n) 0 h,
-        ne-eqb (nearRefusal k b xs n) 16 (λ e. omega (arith, e, refusal-low)),
-      )
+  answer-refused h g = rw (ne-eqb (nearNumber k b xs n) 0 h, ne-eqb (nearNumber k b xs n) 16 g)
+
+  pub refused-figures : (nearRefusal k b xs n ≡ 0 → ⊥) → nearRefusal k b xs n * 4294967296 ≡ nearFigures k b xs n
+  unfolding nearFigures
+  refused-figures h = rw (number-refused h, ne-eqb (nearRefusal k b xs n) 0 h)
 
   pub answer-far : nearNumber k b xs n ≡ 16 → Far ≡ nearAnswer k b xs n
   unfolding nearAnswer

@@ -1,6 +1,6 @@
 -- What the near reading answers (request E6): the number of the first test that is not passed, the near frame's message and its squared distance.
 -- Assumes nothing.
-use Prim.Native.Nat.{ℕ, _^_}
+use Prim.Native.Nat.{ℕ, _*_, _^_}
 use mathlib.Core.Bool.{false, cond}
 use mathlib.Core.List.{List, []}
 use lib.Dec.{eqb}
@@ -42,6 +42,12 @@ inParts d = round binary64 false d 65536
 unfoldable pub nearDistance : ℕ → ℕ → List Float → ℕ → Float
 unfolding nearNumber inParts nearCost samplesIn256ths
 nearDistance k b xs n = cond (eqb (nearNumber k b xs n) 0) (inParts (nearCost k (samplesIn256ths xs))) zero64
+
+-- number and distance in one number: of a refusal its number times 4,294,967,296, and else the squared distance in parts of 1 / 65,536, which is less
+-- (law Figures)
+unfoldable pub nearFigures : ℕ → ℕ → List Float → ℕ → ℕ
+unfolding nearNumber nearCost samplesIn256ths
+nearFigures k b xs n = cond (eqb (nearNumber k b xs n) 0) (nearCost k (samplesIn256ths xs)) (nearNumber k b xs n * 4294967296)
 
 -- THE LENT BYTES afterwards: the message of the near frame, no bit free, or as they were where the number is another than 0
 unfoldable pub nearMessage : ℕ → ℕ → List Float → List ℕ → List ℕ

@@ -11,10 +11,8 @@ use Rattle.e8.specs.Energy.{Within}
 use Rattle.samples.specs.Sample.{samplesIn256ths}
 use Rattle.samples.proofs.Samples.{samples-length, samples-within}
 use Rattle.near_frames.specs.Near.{someNear, nearFrame, nearCost}
-use Rattle.near_reading.specs.declared.NearReading.the-variants.{Near}
-use Rattle.near_reading.specs.Answer.{inParts}
 use Rattle.near_reading.specs.Claims.{Readable}
-use Rattle.near_reading.proofs.Outcome.{far-answer, far-message, near-answer, near-message}
+use Rattle.near_reading.proofs.Outcome.{far-figures, far-message, near-figures, near-message}
 use Rattle.near_reading.proofs.read_fit.Statement.{statement}
 use Rattle.near_reading.proofs.read_fit.Tie as tie
 
@@ -55,6 +53,9 @@ locate-requires c κs =
     let e = w .all-256ths .ensures in
     (s w .pre .0, ap length e ∙ samples-length (xs w) ∙ s w .pre .2, s w .pre .5, subst (Within 32768) (sym e) (samples-within (xs w) (s w .pre .3)))
 
+mul-result : tie.Need-mul-result
+mul-result c = search needs
+
 same-length : tie.Need-same-length
 same-length c = search needs
 
@@ -67,15 +68,15 @@ returns c =
     let x = w l in
     let a = s x .args in
     let none : someNear (a .kind) (t x) ≡ false = sym (found l) ∙ not-true (l .locate .result .found) (c .if1 .taken) in (
-      far-answer (a .kind) (a .grade) (xs x) (a .message .now) (readable x) none,
+      far-figures (a .kind) (a .grade) (xs x) (a .message .now) (readable x) none,
       (far-message (a .kind) (a .grade) (xs x) (a .message .now) (readable x) none, (x .all-256ths .ensures, left l)),
     )
 
 read-open-requires : tie.Need-read-open-requires
 read-open-requires c κs = search needs
 
-distance-of-requires : tie.Need-distance-of-requires
-distance-of-requires c κs = search needs
+cast-result : tie.Need-cast-result
+cast-result c = search needs
 
 same-length-3 : tie.Need-same-length-3
 same-length-3 c = search needs
@@ -94,7 +95,7 @@ returns-2 c =
     let x = w l in
     let a = s x .args in
     let near : someNear (a .kind) (t x) ≡ true = sym (found l) ∙ not-false (l .locate .result .found) (e .if1 .left) in (
-      ap Near (c .distance-of .ensures .0 ∙ ap inParts (cost l)) ∙ near-answer (a .kind) (a .grade) (xs x) (a .message .now) (readable x) near,
+      cost l ∙ near-figures (a .kind) (a .grade) (xs x) (a .message .now) (readable x) near,
       (
         r .read-open .ensures .1 .0
             ∙ near-message (a .kind) (a .grade) (xs x) (a .message .now) (readable x) near (a .frame .now) _ _ (left l) (r .read-open .ensures .0),
@@ -108,11 +109,12 @@ read-fit-spec =
     (tie.spec
     all-256ths-requires
     locate-requires
+    mul-result
     same-length
     same-length-2
     returns
     read-open-requires
-    distance-of-requires
+    cast-result
     same-length-3
     same-length-4
     same-length-5

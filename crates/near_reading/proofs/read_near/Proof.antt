@@ -1,27 +1,23 @@
--- `read_near`: by whether the number is 0. Assumes nothing.
-use Prim.Native.Nat.{ℕ, _-_, _^_, _≤_}
-use mathlib.Core.Path.{_≡_, refl, sym, ap, _∙_}
+-- `read_near`: by the number that the figures tell. Assumes nothing.
+use Prim.Native.Nat.{ℕ}
+use mathlib.Core.Path.{_≡_, sym, ap, _∙_}
 use mathlib.Core.List.{List}
-use native.Mathlib.Nat.{sub-zero}
 use native.Mathlib.Omega.{arith}
-use lib.IntN.{ℤ, pos}
-use lib.ListN.{length, take, replicate}
-use lib.Seq.{length-take-le}
+use lib.ListN.{length}
 use lib.Ieee.{Float}
 use borrow.Author.Needs.{needs}
-use Rattle.near_frames.proofs.NearKinds.{size}
 use Rattle.near_reading.specs.declared.NearReading.{NearReading}
-use Rattle.near_reading.specs.declared.NearReading.the-variants.{Refused}
-use Rattle.near_reading.specs.Answer.{nearRefusal, nearNumber, nearDistance, nearMessage, nearAnswer, numberOf, distanceOf}
-use Rattle.near_reading.specs.Claims.{Readable}
-use Rattle.near_reading.proofs.Tests.{readable, answer-refused, message-refused, case-number, case-distance}
+use Rattle.near_reading.specs.declared.NearReading.the-variants.{Near, Refused}
+use Rattle.near_reading.specs.Answer.{nearNumber, nearDistance, nearMessage, nearAnswer, numberOf, distanceOf, inParts}
+use Rattle.near_reading.proofs.Tests.{answer-refused, answer-far, answer-near, distance-near, case-number, case-distance}
+use Rattle.near_reading.proofs.Figures.{Refusal, told-distance, told-refusal}
 use Rattle.near_reading.proofs.read_near.Statement.{statement}
 use Rattle.near_reading.proofs.read_near.Tie as tie
 
--- the number
-module _ (c : tie.After-refusal) where
+-- the figures are known
+module _ (c : tie.After-read-figures) where
   abbrev s : tie.Start
-  s = c .before .before .before
+  s = c .before .before .before .before
 
   abbrev k : ℕ
   k = s .args .kind
@@ -32,90 +28,75 @@ module _ (c : tie.After-refusal) where
   abbrev xs : List Float
   xs = s .args .samples .now
 
-  abbrev bytes : List ℕ
-  bytes = s .args .message .now
+  abbrev n : ℕ
+  n = length (s .args .message .now)
 
-  is : c .refusal .result ≡ nearRefusal k b xs (length bytes)
-  is = c .refusal .ensures
+  abbrev figures : ℕ
+  figures = c .read-figures .result
 
   -- the number and the distance are those of the answer
-  by-answer : {a : NearReading} {after : List ℕ} → a ≡ nearAnswer k b xs (length bytes) → after ≡ nearMessage k b xs bytes
-      → (a ≡ nearAnswer k b xs (length bytes))
-      × ((numberOf a ≡ nearNumber k b xs (length bytes)) × ((distanceOf a ≡ nearDistance k b xs (length bytes)) × (after ≡ nearMessage k b xs bytes)))
-  by-answer e m = (e, (ap numberOf e ∙ case-number k b xs (length bytes), (ap distanceOf e ∙ case-distance k b xs (length bytes), m)))
+  by-answer : {a : NearReading} → a ≡ nearAnswer k b xs n → (a ≡ nearAnswer k b xs n)
+      × ((numberOf a ≡ nearNumber k b xs n) × ((distanceOf a ≡ nearDistance k b xs n) × (c .read-figures .last .1 .1 .1 .0 ≡ nearMessage k b xs (s .args .message .now))))
+  by-answer e = (e, (ap numberOf e ∙ case-number k b xs n, (ap distanceOf e ∙ case-distance k b xs n, c .read-figures .ensures .1)))
 
--- no refusal
+-- a refusal
 module _ (c : tie.Else1) where
-  none : let r = c .before in nearRefusal (k r) (b r) (xs r) (length (bytes r)) ≡ 0
-  none = sym (is (c .before)) ∙ c .if1 .left
+  abbrev r : tie.After-read-figures
+  r = c .before .before .before
 
-  every : let r = c .before in Readable (k r) (b r) (xs r) (length (bytes r))
-  every = let r = c .before in readable (k r) (b r) (xs r) (length (bytes r)) none
+  refusal : Refusal (k r) (b r) (xs r) (n r) (figures r)
+  refusal = told-refusal (k r) (b r) (xs r) (n r) (figures r) (r .read-figures .ensures .0) (c .if1 .left)
 
-  short : length (xs (c .before)) ≤ 32
-  short = omega (arith, every .samples, size (k (c .before)) (every .kind) .positions)
+read-figures-requires : tie.Need-read-figures-requires
+read-figures-requires c κs = search needs
 
--- a part of 32 from the beginning on
-part-length : (zs : List ℤ) (n : ℕ) → length zs ≡ 32 → n ≤ 32 → length (take (n - 0) zs) ≡ n
-part-length zs n e h = ap (λ (m : ℕ). length (take m zs)) (sub-zero n) ∙ length-take-le n zs (omega arith)
+cast-distance-of : tie.Need-cast-distance-of
+cast-distance-of c = search needs
 
-long : (e : tie.Else1) (zs : List ℤ) → length zs ≡ 32 → length (take (length (xs (e .before)) - 0) zs) ≡ 2 ^ k (e .before)
-long e zs q = part-length zs (length (xs (e .before))) q (short e) ∙ every e .samples
-
-refusal-requires : tie.Need-refusal-requires
-refusal-requires c κs = search needs
-
-returns : tie.Need-returns
-returns c =
-    let r = c .before in
-    let n : nearRefusal (k r) (b r) (xs r) (length (bytes r)) ≡ 0 → ⊥ = λ z. c .if1 .taken (is r ∙ z) in
-    by-answer r (ap Refused (is r) ∙ answer-refused (k r) (b r) (xs r) (length (bytes r)) n) (message-refused (k r) (b r) (xs r) (bytes r) n)
-
-sub-read-fit : tie.Need-sub-read-fit
-sub-read-fit c = search needs
-
-part-whole-start : tie.Need-part-whole-start
-part-whole-start c = search needs
-
-part-whole-end : tie.Need-part-whole-end
-part-whole-end c = short c
-
-sub-read-fit-2 : tie.Need-sub-read-fit-2
-sub-read-fit-2 c = search needs
-
-part-frame-start : tie.Need-part-frame-start
-part-frame-start c = search needs
-
-part-frame-end : tie.Need-part-frame-end
-part-frame-end c = short (c .before)
-
-read-fit-requires : tie.Need-read-fit-requires
-read-fit-requires c κs =
-    let e = c .before .before .before in
-    let p = every e in
-    (p .kind, p .grade, p .samples, p .fit, long e (replicate 32 (pos 0)) refl, long e (replicate 32 (pos 0)) refl, p .bytes)
+distance-of-requires : tie.Need-distance-of-requires
+distance-of-requires c κs = search needs
 
 same-length : tie.Need-same-length
 same-length c = search needs
 
+returns : tie.Need-returns
+returns c =
+    let f = c .before .before .before .before in
+    let t = told-distance (k f) (b f) (xs f) (n f) (figures f) (f .read-figures .ensures .0) (c .before .if1 .taken) in
+    let d = c .distance-of .ensures .0 ∙ ap inParts (t .cost) ∙ sym (distance-near (k f) (b f) (xs f) (n f) (t .number)) in
+    by-answer f (ap Near d ∙ answer-near (k f) (b f) (xs f) (n f) (t .number))
+
+cast-number : tie.Need-cast-number
+cast-number c = record { fits = omega (arith, refusal c .low) }
+
+same-length-2 : tie.Need-same-length-2
+same-length-2 c = search needs
+
 returns-2 : tie.Need-returns-2
 returns-2 c =
-    let f = c .before .before .before .before in
-    let r = f .before .before .before .before .before in
-    by-answer r (f .read-fit .ensures .0) (f .read-fit .ensures .1 .0)
+    let f = r (c .before) in
+    by-answer f (answer-far (k f) (b f) (xs f) (n f) (sym (refusal (c .before) .number) ∙ c .if2 .taken))
+
+same-length-3 : tie.Need-same-length-3
+same-length-3 c = search needs
+
+returns-3 : tie.Need-returns-3
+returns-3 c =
+    let f = r (c .before) in
+    let t = refusal (c .before) in
+    by-answer f (ap Refused (t .number) ∙ answer-refused (k f) (b f) (xs f) (n f) (t .some) (λ e. c .if2 .left (t .number ∙ e)))
 
 pub read-near-spec : {M : Type 1} → statement M
 read-near-spec =
     tie.close
     (tie.spec
-    refusal-requires
-    returns
-    sub-read-fit
-    part-whole-start
-    part-whole-end
-    sub-read-fit-2
-    part-frame-start
-    part-frame-end
-    read-fit-requires
+    read-figures-requires
+    cast-distance-of
+    distance-of-requires
     same-length
-    returns-2)
+    returns
+    cast-number
+    same-length-2
+    returns-2
+    same-length-3
+    returns-3)
