@@ -1,6 +1,7 @@
 /* Sends the message 00 08 at kind 3, grade 1, under an even and an odd number, prints the energy and both frames, and reads them
  * back openly and strictly, under their own number and under the other; then sums of two frames, a message with free bits, noisy
- * samples of a frame, refusals by name, an account across its changeover, and a queue that stops at its third message. */
+ * samples of a frame, two recordings of one, refusals by name, an account across its changeover, and a queue that stops at its third
+ * message. */
 #include <inttypes.h>
 #include <stdio.h>
 #include <string.h>
@@ -99,6 +100,26 @@ int main(void)
             printf("noisy samples: squared distance %g, below %d, message %02x %02x\n", distance, CODER_NEAR_LIMIT(3),
                    (unsigned)back[0], (unsigned)back[1]);
         samples[7] += times == 0 ? 0.875f : 1.0f / 512; /* then no whole number of 256ths */
+    }
+
+    /* What two receivers have of it: the closer recording comes back as the caller's own samples, and is read. The third is too far,
+     * and leaves the first; the fourth is of another message. */
+    const float recordings[4][CODER_FRAME_LENGTH(3)] = {{3.5f, 0.5f, 0.25f, 0.0f, 0.0f, 0.0f, -0.25f, 0.0f},
+                                                        {4.25f, 0.0f, -0.5f, 0.0f, 0.0f, 0.25f, 0.0f, 0.0f},
+                                                        {3.0f, 0.5f, 0.0f, 0.0f, 0.5f, 0.0f, 0.0f, 0.0f},
+                                                        {0.0f, 1.25f, 0.0f, 0.5f, -0.25f, 1.0f, 0.0f, 1.0f}};
+    for (int i = 1; i < 4; i++) {
+        double distance;
+        const struct coder_recording closer =
+            coder_closer_recording(kind, grade, recordings[0], coordinates, recordings[i], coordinates);
+        if (closer.answer < 0) {
+            printf("two recordings: refused %" PRId64 " (%s)\n", -closer.answer, coder_refusal_name(closer.answer));
+            continue;
+        }
+        if (coder_read_near(kind, grade, closer.samples, closer.length, back, bytes, &distance) < 0)
+            return 1;
+        printf("two recordings: recording %" PRId64 ", squared distance %g, message %02x %02x\n", closer.answer, distance,
+               (unsigned)back[0], (unsigned)back[1]);
     }
 
     /* Nothing is lent: a null pointer may stand where the length is 0. */

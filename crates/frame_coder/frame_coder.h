@@ -1,10 +1,11 @@
 /* The frame coder for C99 and C++: link with libframe_coder.a, which `rt staticlib frame_coder` makes in target/staticlib.
  *
  * A message is bytes, a frame is 8, 16, 32 or 64 whole numbers (int32_t). Sending makes the frame of a message, or the frames of a
- * queue of messages; reading makes the message of a frame, or of the noisy samples (float) that a receiver has of it. Each is lent
- * as a pointer and a length. An answer is the energy of the frame, 0 or more (for a queue, for the opening of an account and for
- * noisy samples, 0), or minus the number of a refusal. Bad input is refused, and a refusal changes nothing that was lent; in a
- * queue this is true of the refused message, and what was sent before it stands; an account whose opening is refused is zero.
+ * queue of messages; reading makes the message of a frame, or of the noisy samples (float) that a receiver has of it; of the samples
+ * of two receivers the closer ones can be chosen. Each is lent as a pointer and a length. An answer is the energy of the frame, 0 or
+ * more (for a queue, for the opening of an account and for noisy samples 0, for a choice 1 or 2), or minus the number of a refusal.
+ * Bad input is refused, and a refusal changes nothing that was lent; in a queue this is true of the refused message, and what was
+ * sent before it stands; an account whose opening is refused is zero.
  * docs/GUIDE.md explains the words, docs/example.c shows the calls.
  *
  * LENGTHS, by kind (3 to 6) and grade (1 to 4). A lent length must be exactly the table's; for a queue see QUEUES.
@@ -75,17 +76,31 @@
  *     first, each to the nearest one (in C: roundf(x * 256) / 256); the distance is then that of the rounded samples, of which each
  *     has been moved by up to 1/512. Kind 6 has no near reading and is answered 1.
  *
+ * TWO RECORDINGS, the samples that two receivers have of one frame. coder_closer reads each as coder_read_near does, and says which
+ *     is to be taken:
+ *
+ *         both near, to one message              the closer, of the smaller distance; on equal distance the first
+ *         one refused, too far included          the other
+ *         both refused                           none: minus the number of the first, whatever that of the second
+ *         both near, to different messages       none: minus 18 (at odds)
+ *
+ *     Distances are compared exactly. It is the messages that are compared: recordings near to two frames of one class, as a message
+ *     has under an even and an odd number, are not at odds. Kind and grade are those of both recordings; where either is wrong, both
+ *     are refused. Nothing is written: the message of the chosen recording, and its distance, are had by coder_read_near. A choice
+ *     does not say whether the other was near too.
+ *
  * WHAT A CALLER HAS TO SEE TO, since nothing here can test it:
  *   - a pointer is valid for as many elements as its length says, and aligned for its type. Where the length is 0 it may be
  *     anything, null too, and is not looked at: no message and no frame has length 0, so that the call is refused, unless it is a
- *     queue of no messages, which has nothing to read and nothing to write;
+ *     queue of no messages, which has nothing to read and nothing to write, or the other of two recordings is chosen;
  *   - `count`, `sum`, `largest`, `kept`, `sent` and `distance`, or `account`, are valid in every call that takes them, and never null,
  *     also where the call is refused (coder_send_queue and coder_open store to all four of theirs in every call);
  *   - a frame is read strictly under its own number, and an account goes on with its own changeover: nothing in a frame tells its
  *     number, and coder_send_counted and coder_send_queue take any changeover, as they take any count;
  *   - a frame is read with the free count that it was sent with: nothing in a frame tells that either. With a smaller one the
  *     filling is read too, and with a larger one fixed bits are lost;
- *   - what is lent to one call does not overlap, and nobody else writes to it during the call.
+ *   - what is lent to be written overlaps nothing else that is lent to the call, and nobody else writes to what is lent during the
+ *     call. What is only read may overlap: two recordings can share samples, or be the same.
  * What is lent to be written (a sender's frames, `sent`, an account to be opened, a reading's message, `distance`) need not be set
  *     before: nothing of it is loaded that the call has not stored (tested under valgrind).
  *
@@ -98,30 +113,31 @@
  * FOR FIRMWARE. The archive is for x86-64, ELF and the System V calling convention (Linux); there is none for other processors
  *     today. It needs nothing beyond the base of x86-64 (SSE2), and links into fixed and position-independent programs. It calls
  *     nothing (no libc, no allocation, no system call) and has no data that is written, so it is reentrant and safe in threads.
- *     Only coder_send_counted, coder_send_queue (double) and coder_read_near (float and double) compute in floating point; but every
- *     function save coder_open uses the vector registers (xmm), which whoever interrupts a thread must save. The mode of rounding
- *     does not matter to coder_read_near; where mxcsr takes denormals for zero, as -ffast-math may set it, a denormal sample is 0 and
- *     not unfit. A call ends on every input; its time depends on the input (docs/BENCHMARKS.md), that of a queue on the number of
- *     its messages above all, that of coder_read_near on the noise.
+ *     Only coder_send_counted, coder_send_queue (double), coder_read_near and coder_closer (float and double) compute in floating
+ *     point; but every function save coder_open uses the vector registers (xmm), which whoever interrupts a thread must save. The
+ *     mode of rounding does not matter to the last two; where mxcsr takes denormals for zero, as -ffast-math may set it, a denormal
+ *     sample is 0 and not unfit. A call ends on every input; its time depends on the input (docs/BENCHMARKS.md), that of a queue on
+ *     the number of its messages above all, that of coder_read_near and coder_closer on the noise.
  *     Measured on the archive of this version, A=target/staticlib/libframe_coder.a:
  *
  *       nm -u $A        no undefined symbols: it prints the name of the member and nothing more
- *       size $A         text 23112 (code and constants), data 0, bss 0
- *       size -A $A      a section for each function, so that -Wl,--gc-sections leaves out what is not called: of 22268 bytes of
- *                       code coder_send alone needs 10817, the open and the strict reading 11243, coder_read_near alone 13139
+ *       size $A         text 23499 (code and constants), data 0, bss 0
+ *       size -A $A      a section for each function, so that -Wl,--gc-sections leaves out what is not called: of 22655 bytes of
+ *                       code coder_send alone needs 10817, the open and the strict reading 17582, coder_read_near alone 13194,
+ *                       coder_closer alone 13450
  *       cc -I crates/frame_coder tools/c/stack.c $A -o target/stack && target/stack
  *                       the most stack that a call used, in bytes, with its return address and the arguments on the stack:
  *                       coder_open 8, coder_send 1408, coder_send_counted 1472, coder_send_queue 1568, coder_read_open 624,
- *                       coder_read_strict 1776, coder_read_near 1576
+ *                       coder_read_strict 1776, coder_read_near 1608, coder_closer 1736
  *       objdump -dr $A | grep -E '>:$|push|sub .*,%rsp|-0x[0-9a-f]*\(%rsp\)|PLT32'
- *                       where it goes: the frames on the way down add up to the same, nothing recurs, and 128 of the bytes of
- *                       sending and of the strict reading, and 8 of those of the open and the near reading, lie below the stack
- *                       pointer, in the red zone of the calling convention: an interrupt on the same stack must leave out 128
- *                       bytes there
+ *                       where it goes: the frames on the way down add up to the same (of coder_read_near and coder_closer to 8
+ *                       more, which nothing is stored to), nothing recurs, and 128 of the bytes of sending and of the strict
+ *                       reading, and 8 of those of the open reading, lie below the stack pointer, in the red zone of the calling
+ *                       convention: an interrupt on the same stack must leave out 128 bytes there
  *
  * Every function of the archive is proved to answer, and to leave in what it is lent, what crates/frame_coder/src/lib.rt says.
- * The functions that are written out in this header (lengths, limits, names, account) are plain C and tested only, by tools/c/run; so
- * are pointers where the length is 0, which no contract speaks of.
+ * The functions that are written out in this header (lengths, limits, names, account, recording) are plain C and tested only, by
+ * tools/c/run; so are pointers where the length is 0, which no contract speaks of.
  */
 #ifndef FRAME_CODER_H
 #define FRAME_CODER_H
@@ -129,7 +145,7 @@
 #include <stddef.h>
 #include <stdint.h>
 
-#define FRAME_CODER_VERSION "0.10.0"
+#define FRAME_CODER_VERSION "0.11.0"
 
 #ifdef __cplusplus
 extern "C" {
@@ -188,7 +204,8 @@ CODER_INLINE size_t coder_message_length(int kind, int grade)
 /* The numbers of the refusals. Sending tests 1, 2, 17, 3, 4, 5, and with an account 11; sending a queue tests 1, 2, 3, 4 before any
  * message is sent, then 5 and 11 of each message in its turn; reading tests 1, 2, 17, 4, 3, then 6 over all coordinates, then 7, 8,
  * 13, and if it is strict 9; reading noisy samples tests 1, 2, 4, 3, then 15 over all samples, then 16; opening an account tests 14
- * alone. The first that holds is answered. (10 and 12 are refusals of a sheet.) */
+ * alone. The first that holds is answered. Choosing a recording tests each of the two like noisy samples, but for 3, since no message
+ * is lent, and where neither is refused 18. (10 and 12 are refusals of a sheet.) */
 enum coder_refusal {
     CODER_REFUSED_KIND = 1,            /* the kind is not 3 to 6; noisy samples: not 3 to 5 */
     CODER_REFUSED_GRADE = 2,           /* the grade is not 1 to 4 */
@@ -204,7 +221,8 @@ enum coder_refusal {
     CODER_REFUSED_CHANGEOVER = 14,     /* opening an account: the changeover is above 1,000,000 */
     CODER_REFUSED_UNFIT_SAMPLE = 15,   /* noisy samples: one is no number, or no whole number of 256ths from -128 to 128 */
     CODER_REFUSED_TOO_FAR = 16,        /* noisy samples: no frame of the coding set is near */
-    CODER_REFUSED_FREE_COUNT = 17      /* more than 4 bits are to be free */
+    CODER_REFUSED_FREE_COUNT = 17,     /* more than 4 bits are to be free */
+    CODER_REFUSED_AT_ODDS = 18         /* two recordings: both are near, and their messages differ */
 };
 
 /* The name of the refusal that an answer tells, in the words of the trade; "none" for an answer of 0 or more. */
@@ -228,6 +246,7 @@ CODER_INLINE const char *coder_refusal_name(int64_t answer)
     case CODER_REFUSED_UNFIT_SAMPLE: return "unfit sample";
     case CODER_REFUSED_TOO_FAR: return "too far";
     case CODER_REFUSED_FREE_COUNT: return "free count";
+    case CODER_REFUSED_AT_ODDS: return "at odds";
     default: return "not known";
     }
 }
@@ -254,6 +273,10 @@ int64_t coder_read_strict(uint8_t kind, uint8_t grade, uint32_t number, uint8_t 
  * none it answers -16. `distance` is stored to on success only. It takes no number, as the open reading takes none. */
 int64_t coder_read_near(uint8_t kind, uint8_t grade, const float *samples, size_t samples_len, uint8_t *message, size_t message_len,
                         double *distance);
+
+/* Chooses between two recordings of one frame (kinds 3 to 5): 1 for the first, 2 for the second, or minus the number where there is
+ * none to choose, -18 where both are near and their messages differ. coder_closer_recording hands the recording itself back. */
+int64_t coder_closer(uint8_t kind, uint8_t grade, const float *first, size_t first_len, const float *second, size_t second_len);
 
 /* Opens an account with a changeover: leaves 0, 0.0 and 0 in the count of frames, the sum of powers and `largest`, and the changeover
  * in `kept`, and answers 0. For a changeover above 1,000,000 it answers -14, and leaves zero in each of the four. */
@@ -330,6 +353,34 @@ CODER_INLINE int64_t coder_account_send_queue(struct coder_account *account, int
         return -CODER_REFUSED_GRADE;
     return coder_send_queue((uint8_t)kind, (uint8_t)grade, messages, messages_len, frames, frames_len, &account->count,
                             &account->sum, &account->largest, account->changeover, sent);
+}
+
+/* A recording that was chosen: the caller's own samples, the first's or the second's, and what coder_closer answered. Where none was
+ * chosen it is the empty beginning of the first: its pointer, and length 0. */
+struct coder_recording {
+    const float *samples;
+    size_t length;
+    int64_t answer;
+};
+
+/* coder_closer with the chosen recording as a struct, and with kind and grade tested before they are narrowed. */
+CODER_INLINE struct coder_recording coder_closer_recording(int kind, int grade, const float *first, size_t first_len,
+                                                           const float *second, size_t second_len)
+{
+    struct coder_recording chosen = {first, 0, -CODER_REFUSED_KIND};
+    if (CODER_NEAR_LIMIT(kind) == 0)
+        return chosen;
+    chosen.answer = -CODER_REFUSED_GRADE;
+    if (coder_message_length(kind, grade) == 0)
+        return chosen;
+    chosen.answer = coder_closer((uint8_t)kind, (uint8_t)grade, first, first_len, second, second_len);
+    if (chosen.answer == 1)
+        chosen.length = first_len;
+    if (chosen.answer == 2) {
+        chosen.samples = second;
+        chosen.length = second_len;
+    }
+    return chosen;
 }
 
 #ifdef __cplusplus

@@ -1,7 +1,7 @@
 /* Measures the most stack that a call of each function uses: the call is made on a stack that was filled with one byte, and the
  * lowest place that differs afterwards is looked up. Random messages of every kind and grade, 4000 of each, under even and odd numbers
- * by turns and with 0 to 4 bits free, and with each two more behind it as a queue; and of kinds 3 to 5 noisy samples of the frame, near
- * and too far; x86-64 Linux.
+ * by turns and with 0 to 4 bits free, and with each two more behind it as a queue; and of kinds 3 to 5 noisy samples of the frame, and
+ * two recordings of it, near and too far; x86-64 Linux.
  *
  *     cc -I crates/frame_coder tools/c/stack.c target/staticlib/libframe_coder.a -o target/stack && target/stack
  */
@@ -15,14 +15,14 @@
 enum { TURNS = 4000, ROOM = 65536, FILL = 0xA7, QUEUE = 3 };
 
 static const char *const names[] = {"coder_open", "coder_send", "coder_send_counted", "coder_send_queue", "coder_read_open",
-                                    "coder_read_strict", "coder_read_near"};
+                                    "coder_read_strict", "coder_read_near", "coder_closer"};
 enum { FUNCTIONS = sizeof names / sizeof names[0] };
 
 static unsigned char stack[ROOM];
 static ucontext_t here, there;
 static uint8_t kind, grade, bits, messages[QUEUE * CODER_MAX_MESSAGE_LENGTH];
 static int32_t frame[CODER_MAX_FRAME_LENGTH], frames[QUEUE * CODER_MAX_FRAME_LENGTH];
-static float samples[CODER_MAX_FRAME_LENGTH];
+static float samples[2][CODER_MAX_FRAME_LENGTH];
 static double distance;
 static uint32_t number;
 static size_t bytes, coordinates, sent;
@@ -48,7 +48,8 @@ static void call(void)
         break;
     case 4: answer = coder_read_open(kind, grade, bits, frame, coordinates, messages, bytes); break;
     case 5: answer = coder_read_strict(kind, grade, number, bits, frame, coordinates, messages, bytes); break;
-    default: answer = coder_read_near(kind, grade, samples, coordinates, messages, bytes, &distance); break;
+    case 6: answer = coder_read_near(kind, grade, samples[0], coordinates, messages, bytes, &distance); break;
+    default: answer = coder_closer(kind, grade, samples[0], coordinates, samples[1], coordinates); break;
     }
 }
 
@@ -87,10 +88,12 @@ int main(void)
                     messages[k / 8] &= (uint8_t)~(1u << k % 8);
                 for (function = 0; function < FUNCTIONS; function++) {
                     account.count = number; /* its next frame has this number: the account was opened with 0 */
-                    for (size_t p = 0; p < coordinates; p++)
-                        samples[p] = (float)frame[p] + (float)(rand() % 193 - 96) / 256;
+                    for (size_t p = 0; p < 2 * coordinates; p++)
+                        samples[p % 2][p / 2] = (float)frame[p / 2] + (float)(rand() % 193 - 96) / 256;
                     size_t now = used();
-                    if (answer < 0 && (function < 6 || answer != (kind == 6 ? -CODER_REFUSED_KIND : -CODER_REFUSED_TOO_FAR))) {
+                    const int far = answer == (kind == 6 ? -CODER_REFUSED_KIND : -CODER_REFUSED_TOO_FAR) ||
+                                    (function == 7 && answer == -CODER_REFUSED_AT_ODDS);
+                    if (answer < 0 && (function < 6 || !far)) {
                         printf("refused %" PRId64 " (%s)\n", -answer, coder_refusal_name(answer));
                         return 1;
                     }

@@ -2,8 +2,9 @@
  * their names, pointers that are not looked at where the length is 0, int arguments, the account as a struct; frames by hand under
  * even and odd numbers, and every frame judged under its own number and under others; accounts opened, and across their changeover;
  * messages with free bits against their fillings; coordinates at the ends of the range and past them, and sums of frames; queues
- * against sending one by one; and noisy samples, near and too far, unfit and refused in their order. Every buffer is on the heap
- * with its exact length, so that valgrind sees a byte too far. It ends with status 1 where something differs. */
+ * against sending one by one; noisy samples, near and too far, unfit and refused in their order; and two recordings, the closer chosen
+ * and handed back, one refused or both, and at odds. Every buffer is on the heap with its exact length, so that valgrind sees a byte
+ * too far. It ends with status 1 where something differs. */
 #include <inttypes.h>
 #include <stdio.h>
 #include <stdlib.h>
@@ -125,6 +126,18 @@ static void queue(const char *what, int kind, int grade, const uint8_t *messages
     expect("queue, account kept", kind, grade, same_account(account, before), 1);
 }
 
+/* Two recordings as they are lent: coder_closer's answer, and of coder_closer_recording the same with the caller's own pointer and
+ * length, or with the first's pointer and 0. */
+static void choice(const char *what, int kind, int grade, const float *first, size_t first_len, const float *second, size_t second_len,
+                   int64_t expected)
+{
+    expect(what, kind, grade, coder_closer((uint8_t)kind, (uint8_t)grade, first, first_len, second, second_len), expected);
+    const struct coder_recording chosen = coder_closer_recording(kind, grade, first, first_len, second, second_len);
+    expect("recording, answer", kind, grade, chosen.answer, expected);
+    expect("recording, samples", kind, grade, chosen.samples == (expected == 2 ? second : first), 1);
+    expect("recording, length", kind, grade, chosen.length == (expected == 1 ? first_len : expected == 2 ? second_len : 0), 1);
+}
+
 /* Nothing is lent, with a pointer to nowhere. */
 static void empty(int kind, int grade, void *nowhere)
 {
@@ -156,6 +169,10 @@ static void empty(int kind, int grade, void *nowhere)
     expect("near, no message", kind, grade, coder_read_near(k, g, samples, coordinates, lost, 0, distance), no_bytes);
     expect("near, neither", kind, grade, coder_read_near(k, g, quiet, 0, lost, 0, distance), no_samples);
     expect("near, distance", kind, grade, *distance == -1.5, 1);
+    choice("closer, no first", kind, grade, quiet, 0, samples, coordinates, near_early != 0 ? near_early : 2);
+    choice("closer, no second", kind, grade, samples, coordinates, quiet, 0, near_early != 0 ? near_early : 1);
+    choice("closer, neither", kind, grade, quiet, 0, quiet, 0, no_samples);
+    choice("closer, null", kind, grade, NULL, 0, quiet, 0, no_samples);
     free(samples);
     free(distance);
     expect("counted, no message", kind, grade,
@@ -934,6 +951,186 @@ static void near_by_hand(void)
         expect("near limit", kind, 0, CODER_NEAR_LIMIT(kind), kind == 3 ? 1 : kind == 4 ? 2 : kind == 5 ? 4 : 0);
 }
 
+/* Copies of two recordings with their exact lengths, in both orders: the answers, and every bit as before. */
+static void both_orders(const char *what, int kind, int grade, const float *one, size_t one_len, const float *other, size_t other_len,
+                        int64_t expected, int64_t turned)
+{
+    float *first = (float *)room(one_len * sizeof *first), *second = (float *)room(other_len * sizeof *second);
+    memcpy(first, one, one_len * sizeof *first);
+    memcpy(second, other, other_len * sizeof *second);
+    choice(what, kind, grade, first, one_len, second, other_len, expected);
+    choice(what, kind, grade, second, other_len, first, one_len, turned);
+    expect("recordings kept", kind, grade, memcmp(first, one, one_len * sizeof *first), 0);
+    expect("recordings kept", kind, grade, memcmp(second, other, other_len * sizeof *second), 0);
+    free(first);
+    free(second);
+}
+
+/* The samples of a frame with noise, in 256ths, at as many places as it is given for, from one on. */
+static void recorded(int kind, const int32_t *frame, size_t place, const int *noise, size_t places, float *samples)
+{
+    const size_t n = coder_frame_length(kind);
+    for (size_t p = 0; p < n; p++) {
+        const size_t i = (p + n - place) % n;
+        samples[p] = (float)(256 * frame[p] + (i < places ? noise[i] : 0)) / 256;
+    }
+}
+
+/* What coder_closer has to answer, by two near readings into messages of the right length. */
+static int64_t by_readings(int kind, int grade, const float *first, const float *second)
+{
+    const uint8_t k = (uint8_t)kind, g = (uint8_t)grade;
+    const size_t bytes = coder_message_length(kind, grade), n = coder_frame_length(kind);
+    uint8_t messages[2][CODER_MAX_MESSAGE_LENGTH];
+    double distances[2];
+    const int64_t one = coder_read_near(k, g, first, n, messages[0], bytes, &distances[0]);
+    const int64_t other = coder_read_near(k, g, second, n, messages[1], bytes, &distances[1]);
+    if (one < 0 || other < 0)
+        return other == 0 ? 2 : one == 0 ? 1 : one;
+    if (memcmp(messages[0], messages[1], bytes) != 0)
+        return -CODER_REFUSED_AT_ODDS;
+    return distances[0] <= distances[1] ? 1 : 2;
+}
+
+/* Two recordings of a frame, with less noise and more, with as much, and with one part of 1/65536 more below the limit; with noise on
+ * the limit at one of them and at both; of two frames of one class, and of two messages; a recording twice, and samples shared; and
+ * noise of all sorts, against two near readings. */
+static void recordings(int kind, int grade)
+{
+    static const int nearly[][7] = {{255, 22, 5, 1}, {362, 5, 1, 1}, {-511, 31, 7, 3, 1, 1, 1}}; /* the limit less one part */
+    static const size_t last[] = {3, 3, 6};
+    static const int on_limit[][4] = {{256, 0, 0, 0}, {256, -256, 0, 0}, {-256, 256, 256, 256}};
+    const uint8_t k = (uint8_t)kind, g = (uint8_t)grade;
+    const size_t bytes = coder_message_length(kind, grade), n = coder_frame_length(kind), place = (size_t)rand() % n;
+    const int scale = 1 << (grade + (kind == 3 ? 1 : 2)), *most = nearly[kind - 3];
+    uint8_t message[CODER_MAX_MESSAGE_LENGTH], changed[CODER_MAX_MESSAGE_LENGTH];
+    int32_t frame[CODER_MAX_FRAME_LENGTH], other[CODER_MAX_FRAME_LENGTH];
+    int noise[CODER_MAX_FRAME_LENGTH] = {0}, moved[CODER_MAX_FRAME_LENGTH] = {0};
+    float exact[CODER_MAX_FRAME_LENGTH], less[CODER_MAX_FRAME_LENGTH + 1], more[CODER_MAX_FRAME_LENGTH + 1], far[CODER_MAX_FRAME_LENGTH];
+    fill_one(kind, grade, message);
+    const uint32_t number = (uint32_t)rand();
+    expect("recordings, sent", kind, grade, coder_send(k, g, number, 0, message, bytes, frame, n) >= 0, 1);
+    recorded(kind, frame, place, NULL, 0, exact);
+    recorded(kind, frame, place, on_limit[kind - 3], 4, far);
+
+    for (size_t p = 0; p < n; p++)
+        noise[p] = rand() % 161 - 80;
+    recorded(kind, frame, place, noise, n, less);
+    for (size_t p = 0; p < n; p++)
+        moved[p] = rand() % 2 ? noise[(p + place) % n] : -noise[(p + place) % n];
+    recorded(kind, frame, place, moved, n, more);
+    both_orders("equal distance", kind, grade, less, n, more, n, 1, 1);
+    moved[place] += moved[place] < 0 ? -1 : 1;
+    recorded(kind, frame, place, moved, n, more);
+    both_orders("closer", kind, grade, less, n, more, n, 1, 2);
+    both_orders("closer", kind, grade, exact, n, more, n, 1, 2);
+    recorded(kind, frame, place, most, last[kind - 3], less);
+    recorded(kind, frame, (place + 3) % n, most, last[kind - 3] + 1, more);
+    both_orders("closer by one part", kind, grade, less, n, more, n, 1, 2);
+    both_orders("one too far", kind, grade, more, n, far, n, 1, 2);
+    both_orders("both too far", kind, grade, far, n, far, n, -CODER_REFUSED_TOO_FAR, -CODER_REFUSED_TOO_FAR);
+
+    /* another frame of the class, then the frame of the other rule, then that of another message */
+    memcpy(other, frame, sizeof other);
+    other[place] += frame[place] > 0 ? -2 * scale : 2 * scale;
+    recorded(kind, other, (place + 1) % n, most, 2, more);
+    both_orders("one class", kind, grade, exact, n, more, n, 1, 2);
+    expect("recordings, sent", kind, grade, coder_send(k, g, number + 1, 0, message, bytes, other, n) >= 0, 1);
+    recorded(kind, other, place, most, 2, more);
+    both_orders("one class", kind, grade, exact, n, more, n, 1, 2);
+    do
+        fill_one(kind, grade, changed);
+    while (memcmp(changed, message, bytes) == 0);
+    expect("recordings, sent", kind, grade, coder_send(k, g, number, 0, changed, bytes, other, n) >= 0, 1);
+    recorded(kind, other, place, most, 2, more);
+    both_orders("at odds", kind, grade, exact, n, more, n, -CODER_REFUSED_AT_ODDS, -CODER_REFUSED_AT_ODDS);
+
+    choice("twice", kind, grade, less, n, less, n, 1);
+    choice("twice, too far", kind, grade, far, n, far, n, -CODER_REFUSED_TOO_FAR);
+    for (size_t p = 0; p < n; p++)
+        more[p] = 2;
+    more[n] = 2.25f;
+    choice("shared", kind, grade, more, n, more + 1, n, 1);
+    choice("shared", kind, grade, more + 1, n, more, n, 2);
+    more[n] = 2;
+    choice("shared, equal", kind, grade, more, n, more + 1, n, 1);
+    choice("shared, equal", kind, grade, more + 1, n, more, n, 1);
+    choice("shared, lengths", kind, grade, more, n + 1, more, n, 2);
+    choice("shared, lengths", kind, grade, more, n, more, n - 1, 1);
+
+    for (int turn = 0; turn < 20; turn++) {
+        const int sizes[] = {40, 80, 100, 120, 160, 300}, one = sizes[rand() % 6], two = sizes[rand() % 6];
+        for (size_t p = 0; p < n; p++) {
+            noise[p] = rand() % (2 * one + 1) - one;
+            moved[p] = rand() % (2 * two + 1) - two;
+        }
+        recorded(kind, frame, 0, noise, n, less);
+        recorded(kind, frame, 0, moved, n, more);
+        both_orders("by readings", kind, grade, less, n, more, n, by_readings(kind, grade, less, more),
+                    by_readings(kind, grade, more, less));
+    }
+}
+
+/* One recording refused by each number, with all that is tested later wrong too, or both; and kinds and grades that refuse both. */
+static void refused_recordings(int kind, int grade)
+{
+    const size_t n = coder_frame_length(kind);
+    float good[CODER_MAX_FRAME_LENGTH + 1] = {0}, far[CODER_MAX_FRAME_LENGTH], unfit[CODER_MAX_FRAME_LENGTH + 1];
+    for (size_t p = 0; p <= n; p++) {
+        far[p] = 0.5f;
+        unfit[p] = p == n - 2 ? 1.0f / 512 : 0.5f;
+    }
+    const struct {
+        const float *samples;
+        size_t length;
+        int number;
+    } refused[] = {{far, n, CODER_REFUSED_TOO_FAR},            {unfit, n, CODER_REFUSED_UNFIT_SAMPLE},
+                   {unfit, n + 1, CODER_REFUSED_FRAME_LENGTH}, {unfit, n - 1, CODER_REFUSED_FRAME_LENGTH},
+                   {good, 0, CODER_REFUSED_FRAME_LENGTH},      {good, n / 2, CODER_REFUSED_FRAME_LENGTH}};
+    enum { REFUSED = sizeof refused / sizeof refused[0] };
+    for (size_t i = 0; i < REFUSED; i++) {
+        const float *samples = refused[i].samples;
+        const size_t length = refused[i].length;
+        both_orders("one refused", kind, grade, good, n, samples, length, 1, 2);
+        for (size_t j = 0; j < REFUSED; j++)
+            both_orders("both refused", kind, grade, samples, length, refused[j].samples, refused[j].length, -refused[i].number,
+                        -refused[j].number);
+        for (int other = 0; other < 256; other += other == 0 ? 5 : 25) {
+            both_orders("grade", kind, other, good, n, samples, length, -CODER_REFUSED_GRADE, -CODER_REFUSED_GRADE);
+            both_orders("kind", other < 250 ? 6 + other : 2, other, good, n, samples, length, -CODER_REFUSED_KIND, -CODER_REFUSED_KIND);
+        }
+        both_orders("kind", 6, grade, good, n, samples, length, -CODER_REFUSED_KIND, -CODER_REFUSED_KIND);
+    }
+}
+
+/* By hand, at grade 1; at kind 6, which has no near reading, 1; and ints that would be a good kind or grade if they were narrowed. */
+static void recordings_by_hand(void)
+{
+    static const float quiet[8] = {0.0f, 1.25f, 0.0f, 0.5f, -0.25f, 1.0f, -0.0f, 1.0f};       /* 02 00, at 0.375 */
+    static const float as_far[8] = {0.25f, 1.0f, 0.0f, 1.0f, 0.0f, 1.5f, 0.0f, 0.75f};        /* 02 00, at 0.375 */
+    static const float farther[8] = {0.25f, 1.0f, 0.0f, 1.0f, 0.0f, 1.5f, 0.00390625f, 0.75f}; /* and 1/65536 more */
+    static const float near_four[8] = {3.5f, 0.5f, 0.25f, 0.0f, 0.0f, 0.0f, -0.25f, 0.0f};    /* 00 08, at 0.625 */
+    static const float below_four[8] = {-4.0f, 0.5f, 0.25f, 0.0f, 0.5f, 0.0f, -0.25f, 0.0f};  /* 00 08 too, of the other sign */
+    static const float middle[8] = {0.5f, 0.5f, 0.5f, 0.5f, 0.5f, 0.5f, 0.5f, 0.5f};
+    static const float many[CODER_MAX_FRAME_LENGTH] = {0};
+    both_orders("by hand", 3, 1, quiet, 8, as_far, 8, 1, 1);
+    both_orders("by hand", 3, 1, quiet, 8, farther, 8, 1, 2);
+    both_orders("by hand", 3, 1, as_far, 8, farther, 8, 1, 2);
+    both_orders("by hand", 3, 1, near_four, 8, below_four, 8, 1, 1);
+    both_orders("by hand", 3, 1, quiet, 8, near_four, 8, -CODER_REFUSED_AT_ODDS, -CODER_REFUSED_AT_ODDS);
+    both_orders("by hand", 3, 1, middle, 8, near_four, 8, 2, 1);
+    both_orders("by hand", 3, 1, middle, 8, quiet, 7, -CODER_REFUSED_TOO_FAR, -CODER_REFUSED_FRAME_LENGTH);
+    for (int grade = 0; grade <= 5; grade++)
+        both_orders("kind 6", 6, grade, many, 64, many, 64, -CODER_REFUSED_KIND, -CODER_REFUSED_KIND);
+    static const int beyond[][3] = {{259, 1, 1}, {-253, 1, 1}, {3, 257, 2}, {3, -255, 2}, {259, 257, 1}, {6, 257, 1}, {65539, 1, 1},
+                                    {INT32_MIN + 3, 1, 1}, {3, INT32_MIN + 1, 2}, {5, 0, 2}, {2, 0, 1}};
+    for (size_t i = 0; i < sizeof beyond / sizeof beyond[0]; i++) {
+        const struct coder_recording none = coder_closer_recording(beyond[i][0], beyond[i][1], quiet, 8, as_far, 8);
+        expect("recording, int", beyond[i][0], beyond[i][1], none.answer, -beyond[i][2]);
+        expect("recording, int, samples", beyond[i][0], beyond[i][1], none.samples == quiet && none.length == 0, 1);
+    }
+}
+
 int main(void)
 {
     static const struct {
@@ -950,8 +1147,9 @@ int main(void)
 
     static const char *const names[] = {"none", "kind", "grade", "message length", "frame length", "spare bits", "over range",
                                         "broken level 0", "broken level 1", "unshaped", "not known", "account full", "not known",
-                                        "broken level 2", "changeover", "unfit sample", "too far", "free count", "not known"};
-    for (int number = 0; number <= 18; number++)
+                                        "broken level 2", "changeover", "unfit sample", "too far", "free count", "at odds",
+                                        "not known"};
+    for (int number = 0; number <= 19; number++)
         expect("name", 0, number, strcmp(coder_refusal_name(-number), names[number]), 0);
 
     void *const nowhere[] = {NULL, (void *)1, (void *)UINTPTR_MAX};
@@ -1003,12 +1201,17 @@ int main(void)
         _mm_setcsr((_mm_getcsr() & ~(unsigned)_MM_ROUND_MASK) | mode << 13);
         near_by_hand();
         fit_or_not(4, 1);
+        recordings_by_hand();
+        recordings(4, 1);
     }
     for (int kind = 3; kind <= 5; kind++)
         for (int grade = 1; grade <= 4; grade++) {
             fit_or_not(kind, grade);
-            for (int turn = 0; turn < 100; turn++)
+            refused_recordings(kind, grade);
+            for (int turn = 0; turn < 100; turn++) {
                 near_and_far(kind, grade);
+                recordings(kind, grade);
+            }
         }
     printf("%lu tests, %lu wrong\n", calls, wrong);
     return wrong != 0;

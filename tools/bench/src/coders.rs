@@ -1,11 +1,11 @@
 //! The coders that are compared, with one form of call: each fills what it is lent and gives the
 //! energy, or gives the number of a refusal and leaves what it is lent as it was. Of a queue each gives
-//! how many are sent, and the number of the refusal, 0 where all are. A near reading gives 0 for the energy. With free bits
-//! each may send another frame.
+//! how many are sent, and the number of the refusal, 0 where all are. A near reading gives 0 for the energy, and a choice between
+//! two recordings 1 or 2. With free bits each may send another frame.
 
 use bench::{exported, hand};
 use frame_coder::{by_number, Account, Refusal};
-use second_coder::{account, free, near};
+use second_coder::{account, free, near, recordings};
 
 pub use bench::exported::Figures;
 
@@ -17,6 +17,7 @@ type Queueing = fn(u8, u8, &[u8], &mut [i32], &mut Figures) -> (usize, u8);
 type Reading = fn(u8, u8, u8, &[i32], &mut [u8]) -> Answer;
 type Judging = fn(u8, u8, u32, u8, &[i32], &mut [u8]) -> Answer;
 type Nearing = fn(u8, u8, &[f32], &mut [u8], &mut f64) -> Answer;
+type Choosing = fn(u8, u8, &[f32], &[f32]) -> Result<u8, u8>;
 
 pub struct Coder {
     pub name: &'static str,
@@ -27,6 +28,7 @@ pub struct Coder {
     pub read_open: Reading,
     pub read_strict: Judging,
     pub read_near: Nearing,
+    pub closer: Choosing,
 }
 
 /// The library, the hand-tuned coder and the second coder.
@@ -60,6 +62,9 @@ pub const CODERS: [Coder; 3] = [
         read_near: |kind, grade, samples, message, distance| {
             answered(exported::read_near(kind, grade, samples, message, distance))
         },
+        closer: |kind, grade, first, second| {
+            answered(exported::closer(kind, grade, first, second)).map(|chosen| chosen as u8)
+        },
     },
     Coder {
         name: "by hand",
@@ -87,6 +92,7 @@ pub const CODERS: [Coder; 3] = [
             *distance = hand::read_near(kind, grade, samples, message)?;
             Ok(0)
         },
+        closer: hand::closer,
     },
     Coder {
         name: "second coder",
@@ -130,6 +136,7 @@ pub const CODERS: [Coder; 3] = [
             *distance = read.distance;
             Ok(0)
         },
+        closer: recordings::closer,
     },
 ];
 

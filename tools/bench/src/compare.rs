@@ -21,13 +21,15 @@ pub struct Plan {
 }
 
 /// The comparisons made, by answer (0 for success; for a block alone, refused and shaped), those of frames sent with free bits, of near
-/// readings and of queues among them and the messages sent in these, the sums of frames that are read, outside the coding set and past
-/// the range, the comparisons of sending both ways, and those that differ.
+/// readings, of pairs of recordings by which is chosen, the first, the second or none, and of queues among them and the messages sent in
+/// these, the sums of frames that are read, outside the coding set and past the range, the comparisons of sending both ways, and those
+/// that differ.
 struct Tally {
     coders: &'static [Coder],
-    answers: [u64; 18],
+    answers: [u64; 19],
     free: u64,
     near: u64,
+    pairs: [u64; 3],
     queues: u64,
     queued: u64,
     sums: [u64; 3],
@@ -68,6 +70,7 @@ impl Tally {
         self.answers.iter_mut().zip(other.answers).for_each(|(sum, count)| *sum += count);
         self.blocks.iter_mut().zip(other.blocks).for_each(|(sum, count)| *sum += count);
         self.sums.iter_mut().zip(other.sums).for_each(|(sum, count)| *sum += count);
+        self.pairs.iter_mut().zip(other.pairs).for_each(|(sum, count)| *sum += count);
         self.free += other.free;
         self.near += other.near;
         self.queues += other.queues;
@@ -351,6 +354,74 @@ fn near_readings(kind: u8, grade: u8, frame: &[i32], bytes: usize, random: &mut 
     }
 }
 
+/// Two recordings, of which one is chosen or none.
+fn choice(kind: u8, grade: u8, first: &[f32], second: &[f32], tally: &mut Tally) {
+    let chosen = tally.ask("closer", &(kind, grade, first, second), |coder| {
+        let chosen = (coder.closer)(kind, grade, first, second);
+        (chosen.map(u64::from), chosen)
+    });
+    tally.pairs[chosen.map_or(2, |number| number as usize - 1)] += 1;
+}
+
+/// A recording of a frame, with noise that is mostly inside the limit.
+fn recording(kind: u8, frame: &[i32], random: &mut Random) -> Vec<f32> {
+    let part = [0.0, 0.25, 0.25, 0.7, 0.97, 0.97, 1.0, 1.03][random.below(8) as usize];
+    let squared = part * noise::limit(kind.min(5));
+    let noise = match random.below(2) {
+        0 => noise::spread(frame.len(), squared, random),
+        _ => noise::at_places(frame.len(), 1 << random.below(4), squared, 0.0, random),
+    };
+    noise::samples(frame, &noise)
+}
+
+/// A second recording: of the same frame, or with the noise of the first at other places and of other signs, at times and a 256th
+/// more; of another frame of the class; of another message; or of any samples about the frame.
+fn second_recording(kind: u8, grade: u8, frame: &[i32], first: &[f32], random: &mut Random) -> Vec<f32> {
+    let place = random.below(frame.len() as u64) as usize;
+    match random.below(8) {
+        0..=1 => recording(kind, frame, random),
+        2..=3 => {
+            let mut noise: Vec<f64> = first.iter().zip(frame).map(|(&t, &x)| t as f64 - x as f64).collect();
+            for i in 1..noise.len() {
+                noise.swap(i, random.below(i as u64 + 1) as usize);
+                noise[i] *= [-1.0, 1.0][random.below(2) as usize];
+            }
+            noise[place] += [0.0, 0.0, 1.0 / 256.0][random.below(3) as usize];
+            noise::samples(frame, &noise)
+        }
+        4 => {
+            // The scale at two places of a block is a point of the lattice.
+            let mut other = frame.to_vec();
+            for place in [place, place ^ 1 << random.below(3)] {
+                other[place] += scale(kind, grade) * if other[place] > 0 { -1 } else { 1 };
+            }
+            recording(kind, &other, random)
+        }
+        5..=6 => {
+            let mut other = vec![0; frame.len()];
+            hand::send(kind, grade, 0, &dense(kind, grade, random), &mut other).expect("the message is good");
+            recording(kind, &other, random)
+        }
+        _ => noisy(kind, frame, random),
+    }
+}
+
+/// Two recordings of a frame; at times with a strange sample in one or in both, with samples too few or too many, or twice the same.
+fn recordings(kind: u8, grade: u8, frame: &[i32], random: &mut Random, tally: &mut Tally) {
+    let mut pair = [recording(kind, frame, random), vec![]];
+    pair[1] = second_recording(kind, grade, frame, &pair[0], random);
+    let which = random.below(2) as usize;
+    match random.below(16) {
+        0..=1 => pair[which][random.below(frame.len() as u64) as usize] = strange(random),
+        2 => pair.iter_mut().for_each(|one| one[random.below(frame.len() as u64) as usize] = strange(random)),
+        3 => pair[which].resize(random.below(2 * frame.len() as u64) as usize, 0.0),
+        4 => pair.iter_mut().for_each(|one| one.resize(random.below(2 * frame.len() as u64) as usize, 0.0)),
+        5 => return choice(kind, grade, &pair[which], &pair[which], tally),
+        _ => {}
+    }
+    choice(kind, grade, &pair[which], &pair[1 - which], tally);
+}
+
 /// Wrong kinds, grades, free counts and lengths, with something in every buffer.
 fn misfits(random: &mut Random, tally: &mut Tally) {
     let (kind, grade) = match random.below(3) {
@@ -376,6 +447,14 @@ fn misfits(random: &mut Random, tally: &mut Tally) {
         samples[random.below(length as u64) as usize] = strange(random);
     }
     near_reading(kind, grade, &samples, bytes, tally);
+    let mut other = vec![0.0; if random.below(2) == 0 { length } else { random.below(72) as usize }];
+    if !other.is_empty() && random.below(4) == 0 {
+        let place = random.below(other.len() as u64) as usize;
+        other[place] = strange(random);
+    }
+    let pair = [samples, other];
+    let which = random.below(2) as usize;
+    choice(kind, grade, &pair[which], &pair[1 - which], tally);
 }
 
 /// Eight coordinates, up to the scale in size or up to all that is shaped, which is the range of the readings, in steps of 1, or
@@ -526,7 +605,8 @@ fn sums(plan: &Plan, random: &mut Random, tally: &mut Tally) {
 }
 
 /// One message, its frame under a number, judged by it and by the other rule, another frame of its class far out, both damaged, and
-/// noisy samples of it; at times an unfit sample, calls that do not fit, an account opened, a sum of frames, and a queue.
+/// noisy samples and two recordings of it; at times an unfit sample, calls that do not fit, an account opened, a sum of frames, and a
+/// queue.
 fn frame(plan: &Plan, random: &mut Random, tally: &mut Tally) {
     let (kind, grade) = format(plan, random);
     let (length, bytes) = lengths(kind, grade);
@@ -554,6 +634,7 @@ fn frame(plan: &Plan, random: &mut Random, tally: &mut Tally) {
         // Kind 6 is refused, and at kind 5 the second coder takes milliseconds.
         if kind < 5 || kind == 5 && !plan.all || random.below(16) == 0 {
             near_readings(kind, grade, &frame, bytes, random, tally);
+            recordings(kind, grade, &frame, random, tally);
         }
     }
     if random.below(8) == 0 {
@@ -595,9 +676,10 @@ pub fn run(plan: &Plan) -> u64 {
         let coders = if plan.all { &CODERS[..] } else { &CODERS[..2] };
         Tally {
             coders,
-            answers: [0; 18],
+            answers: [0; 19],
             free: 0,
             near: 0,
+            pairs: [0; 3],
             queues: 0,
             queued: 0,
             sums: [0; 3],
@@ -629,6 +711,8 @@ pub fn run(plan: &Plan) -> u64 {
     }
     println!("frames sent with free bits: {}", sum.free);
     println!("near readings: {}", sum.near);
+    let [first, second, none] = sum.pairs;
+    println!("pairs of recordings: {}, of which {first} first, {second} second, {none} none", first + second + none);
     println!("queues: {}, with {} messages sent", sum.queues, sum.queued);
     let [read, outside, past] = sum.sums;
     println!("sums of frames: {read} read, {outside} outside the coding set, {past} past the range");

@@ -43,6 +43,14 @@ mod archive {
             bytes: usize,
             distance: *mut f64,
         ) -> i64;
+        pub fn coder_closer(
+            k: u8,
+            b: u8,
+            first: *const f32,
+            first_length: usize,
+            second: *const f32,
+            second_length: usize,
+        ) -> i64;
         pub fn coder_open(changeover: u32, count: *mut u32, sum: *mut f64, largest: *mut u64, kept: *mut u32) -> i64;
         pub fn coder_send_counted(
             k: u8,
@@ -165,6 +173,13 @@ pub fn read_near(kind: u8, grade: u8, samples: &[f32], message: &mut [u8], dista
     let (samples, length, message, bytes) = (samples.as_ptr(), samples.len(), message.as_mut_ptr(), message.len());
     // SAFETY: as in `read_open`; the distance is lent for the call alone.
     unsafe { archive::coder_read_near(kind, grade, samples, length, message, bytes, distance) }
+}
+
+/// Chooses between two recordings: 1 or 2, or minus the number.
+#[inline(always)]
+pub fn closer(kind: u8, grade: u8, first: &[f32], second: &[f32]) -> i64 {
+    // SAFETY: both slices are lent for the call, to be read; the lengths are theirs.
+    unsafe { archive::coder_closer(kind, grade, first.as_ptr(), first.len(), second.as_ptr(), second.len()) }
 }
 
 /// Fills the least member of the block's class at scale 2^(k + 1) and gives true; or gives false

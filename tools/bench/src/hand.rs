@@ -82,6 +82,7 @@ pub mod refusal {
     pub const UNFIT_SAMPLE: u8 = 15;
     pub const TOO_FAR: u8 = 16;
     pub const FREE_COUNT: u8 = 17;
+    pub const AT_ODDS: u8 = 18;
 }
 
 /// What is asked of a block, each compiled by itself: nothing, as in the open reading; to be the first of the least members
@@ -742,6 +743,29 @@ pub fn read_near(kind: u8, grade: u8, samples: &[f32], message: &mut [u8]) -> Re
         (5, 4) => Format::<5, 4>::read_near(samples, message),
         (3..=5, _) => Err(refusal::GRADE),
         _ => Err(refusal::KIND),
+    }
+}
+
+/// Chooses between two recordings of one frame, each read like that into a message of its own: 1 or 2, or the number by which there is
+/// none to choose.
+#[inline(never)]
+pub fn closer(kind: u8, grade: u8, first: &[f32], second: &[f32]) -> Result<u8, u8> {
+    let (b, mut one, mut other) = (grade as usize, [0; 20], [0; 20]);
+    let bytes = match (kind, grade) {
+        (3, 1..=4) => b + 1,
+        (4, 1..=4) => 2 * b + 3,
+        (5, 1..=4) => 4 * b + 4,
+        (3..=5, _) => return Err(refusal::GRADE),
+        _ => return Err(refusal::KIND),
+    };
+    let first = read_near(kind, grade, first, &mut one[..bytes]);
+    let second = read_near(kind, grade, second, &mut other[..bytes]);
+    match (first, second) {
+        (Ok(_), Ok(_)) if one != other => Err(refusal::AT_ODDS),
+        (Ok(first), Ok(second)) => Ok(if first <= second { 1 } else { 2 }),
+        (Ok(_), Err(_)) => Ok(1),
+        (Err(_), Ok(_)) => Ok(2),
+        (Err(number), Err(_)) => Err(number),
     }
 }
 

@@ -6,7 +6,7 @@
 //!     bench free                              the table of free bits alone
 //!     bench near                              the tables of noisy samples alone
 //!     bench compare FRAMES [SEED]             compares all answers on fresh messages, frames, sums of frames, samples,
-//!                                             queues and blocks
+//!                                             pairs of recordings, queues and blocks
 //!     bench compare-all FRAMES [SEED] [KIND]  the same with the second coder as a third, without the
 //!                                             blocks; of one kind where one is given
 

@@ -1,5 +1,6 @@
 //! Sends a message and prints its energy and its frame, then reads the frame back both ways, and at kinds 3 to 5
-//! from noisy samples too; and says what energy it has with its last bits free, as many as are 0. By itself it sends 00 08 at kind 3, grade 1, under number 0; a kind, a grade, a number
+//! from noisy samples too, and from the closer of two recordings; and says what energy it has with its last bits
+//! free, as many as are 0. By itself it sends 00 08 at kind 3, grade 1, under number 0; a kind, a grade, a number
 //! and bytes in hexadecimal can be given:
 //!
 //!     cargo run --offline --example send -- 4 1 7 20 00 00 00 00
@@ -8,8 +9,8 @@ use std::error::Error;
 use std::process::ExitCode;
 
 use frame_coder::{
-    read_near_to_vec, read_open_to_vec, read_strict_free_to_vec, read_strict_to_vec, send_free_to_vec, send_to_vec,
-    Grade, Kind, Refusal, MAX_FREE,
+    closer, read_near_to_vec, read_open_to_vec, read_strict_free_to_vec, read_strict_to_vec, send_free_to_vec,
+    send_to_vec, Grade, Kind, Refusal, MAX_FREE,
 };
 
 fn hexadecimal(message: &[u8]) -> String {
@@ -32,12 +33,17 @@ fn run(words: &[&str]) -> Result<(), Box<dyn Error>> {
     let (strictly, _) = read_strict_to_vec(kind, grade, number, &frame)?;
     println!("read strictly:{}", hexadecimal(&strictly));
 
-    // Every sample off by a quarter.
+    // Two recordings: every sample off by a quarter, and by an eighth.
     if let Some(limit) = kind.near_limit() {
-        let samples: Vec<f32> =
-            frame.iter().zip([0.25, -0.25].iter().cycle()).map(|(&x, off)| x as f32 + off).collect();
-        let (nearly, distance) = read_near_to_vec(kind, grade, &samples)?;
-        println!("read from noisy samples:{}; squared distance {distance}, below {limit}", hexadecimal(&nearly));
+        let [first, second] = [0.25, 0.125].map(|off| {
+            let offs = [off, -off].into_iter().cycle();
+            frame.iter().zip(offs).map(|(&x, off)| x as f32 + off).collect::<Vec<f32>>()
+        });
+        let chosen = closer(kind, grade, &first, &second)?;
+        for (what, samples) in [("noisy samples", &first[..]), ("the closer of two recordings", chosen)] {
+            let (nearly, distance) = read_near_to_vec(kind, grade, samples)?;
+            println!("read from {what}:{}; squared distance {distance}, below {limit}", hexadecimal(&nearly));
+        }
     }
 
     // Each of the last bits that is 0 can be left to the sender.

@@ -1,5 +1,6 @@
 //! The archive's functions, as `crates/frame_coder/frame_coder.h` has them: a slice is a pointer and
-//! a length; the answer is the energy, of a queue, of an opening and of a near reading 0, or minus the number of the refusal.
+//! a length; the answer is the energy, of a queue, of an opening and of a near reading 0, of a choice of recordings 1 or 2, or
+//! minus the number of the refusal.
 
 extern "C" {
     pub fn coder_send(
@@ -39,6 +40,14 @@ extern "C" {
         message: *mut u8,
         message_len: usize,
         distance: *mut f64,
+    ) -> i64;
+    pub fn coder_closer(
+        kind: u8,
+        grade: u8,
+        first: *const f32,
+        first_len: usize,
+        second: *const f32,
+        second_len: usize,
     ) -> i64;
     pub fn coder_open(changeover: u32, count: *mut u32, sum: *mut f64, largest: *mut u64, kept: *mut u32) -> i64;
     pub fn coder_send_counted(

@@ -22,8 +22,12 @@ pub(crate) fn answer(answer: i64) -> Result<u64, Refusal> {
     }
     match u8::try_from(answer.unsigned_abs()).map(Refusal::try_from) {
         Ok(Ok(refusal)) => Err(refusal),
-        _ => panic!("the archive answered {answer}, which version {} does not know", crate::VERSION),
+        _ => unknown(answer),
     }
+}
+
+fn unknown(answer: i64) -> ! {
+    panic!("the archive answered {answer}, which version {} does not know", crate::VERSION)
 }
 
 /// As [`crate::send`].
@@ -121,6 +125,23 @@ pub fn read_near(kind: u8, grade: u8, samples: &[f32], message: &mut [u8]) -> Re
         archive::coder_read_near(kind, grade, samples.as_ptr(), length, message.as_mut_ptr(), bytes, &mut distance)
     })?;
     Ok(distance)
+}
+
+/// As [`crate::closer`].
+///
+/// # Errors
+///
+/// Where both are refused, as the near reading of the first: kind, which has to be 3 to 5, grade, the number of samples, an
+/// unfit sample, too far. Last, where both are near, different messages.
+pub fn closer<'a>(kind: u8, grade: u8, first: &'a [f32], second: &'a [f32]) -> Result<&'a [f32], Refusal> {
+    let (one, length, other, other_length) = (first.as_ptr(), first.len(), second.as_ptr(), second.len());
+    // SAFETY: both slices are lent for the call, to be read; the lengths are theirs.
+    let chosen = unsafe { archive::coder_closer(kind, grade, one, length, other, other_length) };
+    match answer(chosen)? {
+        1 => Ok(first),
+        2 => Ok(second),
+        _ => unknown(chosen),
+    }
 }
 
 /// As [`Account::send`].

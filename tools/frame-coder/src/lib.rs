@@ -36,7 +36,8 @@
 //! filling whose frame has the least energy, and [`read_open_free`] and [`read_strict_free`] give the other bits.
 //!
 //! What a receiver has of a frame is noisy samples. Of kinds 3 to 5 [`read_near`] finds the frame of the coding set
-//! that is near to them, of which there is never a second one, and gives its message and how far it is.
+//! that is near to them, of which there is never a second one, and gives its message and how far it is. Of two receivers'
+//! samples [`closer`] gives back those whose near reading is closer.
 //!
 //! A repeater adds sent frames of one kind, whatever their grades and numbers. [`read_open`] takes the sum as it takes any frame
 //! with coordinates up to [`MAX_COORDINATE`] in size, which those of up to 131,072 frames added are, and gives the message of the
@@ -255,6 +256,41 @@ pub fn read_strict_free(
 /// then as it was.
 pub fn read_near(kind: Kind, grade: Grade, samples: &[f32], message: &mut [u8]) -> Result<f64, Refusal> {
     by_number::read_near(kind.number(), grade.number(), samples, message)
+}
+
+/// Chooses between the recordings that two receivers have of one frame: gives the slice back, the first or the second, whose near
+/// reading ([`read_near`]) is closer.
+///
+/// Where both are near to one message, it is the one at the smaller squared distance, and on equal distance the first; distances
+/// are compared exactly. Where one is refused, too far included, it is the other. The messages are compared, not the frames:
+/// recordings of two frames of one class, as a message has under an even and an odd number, are not at odds. The slices may
+/// overlap, or be the same.
+///
+/// ```
+/// use frame_coder::{closer, read_near_to_vec, Grade, Kind, Refusal};
+///
+/// let (kind, grade) = (Kind::Three, Grade::One);
+/// // Of the frame 0 1 0 1 0 1 0 1, with noise of the squares 0.375 and 0.3125.
+/// let first = [0.0, 1.25, 0.0, 0.5, -0.25, 1.0, 0.0, 1.0];
+/// let second = [0.25, 1.0, 0.0, 1.0, 0.0, 1.5, 0.0, 1.0];
+/// let chosen = closer(kind, grade, &first, &second)?;
+/// assert!(std::ptr::eq(chosen, &second));
+/// assert_eq!(read_near_to_vec(kind, grade, chosen)?, (vec![0x02, 0x00], 0.3125));
+///
+/// // Too far, and the other is taken; near to another message; and refused both, by the number of the first.
+/// let (far, another) = ([0.5; 8], [0.0; 8]);
+/// assert!(std::ptr::eq(closer(kind, grade, &first, &far)?, &first));
+/// assert_eq!(closer(kind, grade, &first, &another), Err(Refusal::AtOdds));
+/// assert_eq!(closer(kind, grade, &far, &first[..7]), Err(Refusal::TooFar));
+/// # Ok::<(), Refusal>(())
+/// ```
+///
+/// # Errors
+///
+/// Where both are refused, why the first is: [`Refusal::Kind`] for kind 6, the number of samples ([`Refusal::FrameLength`]),
+/// [`Refusal::UnfitSample`] or [`Refusal::TooFar`], in this order. Where both are near to different messages, [`Refusal::AtOdds`].
+pub fn closer<'a>(kind: Kind, grade: Grade, first: &'a [f32], second: &'a [f32]) -> Result<&'a [f32], Refusal> {
+    by_number::closer(kind.number(), grade.number(), first, second)
 }
 
 /// Sends under a number: the frame of the message, and its energy.

@@ -51,6 +51,8 @@ pub enum Refusal {
     TooFar = 16,
     /// More than [`MAX_FREE`](crate::MAX_FREE) bits are to be free.
     FreeCount = 17,
+    /// Two recordings: both are near, and their messages differ.
+    AtOdds = 18,
 }
 
 impl Refusal {
@@ -71,6 +73,7 @@ impl Refusal {
         Refusal::UnfitSample,
         Refusal::TooFar,
         Refusal::FreeCount,
+        Refusal::AtOdds,
     ];
 
     /// Its number.
@@ -98,6 +101,7 @@ impl Refusal {
             Refusal::UnfitSample => "a sample is not a whole number of 256ths from -128 to 128",
             Refusal::TooFar => "no frame of the coding set is near to the samples",
             Refusal::FreeCount => "more than 4 bits are to be free",
+            Refusal::AtOdds => "the two recordings are near to different messages",
         }
     }
 }

@@ -1,7 +1,7 @@
 //! The cases of document 01 and of the requests of document 02, through the static library.
 
 use frame_coder::{
-    by_number, message_bits, message_length, read_near, read_near_to_vec, read_open, read_open_free,
+    by_number, closer, message_bits, message_length, read_near, read_near_to_vec, read_open, read_open_free,
     read_open_free_to_vec, read_open_to_vec, read_strict, read_strict_free, read_strict_free_to_vec,
     read_strict_to_vec, send, send_free, send_free_to_vec, send_to_vec, Account, Grade, Kind, Refusal, Stopped,
     MAX_COORDINATE, MAX_FRAME_LENGTH, MAX_FREE, MAX_MESSAGE_LENGTH,
@@ -637,6 +637,169 @@ fn near_refusals_in_order() {
     }
 }
 
+/// What a choice of two recordings gives: 1 or 2 where it is the slice itself, also by number, or the refusal.
+fn choice(kind: Kind, grade: Grade, first: &[f32], second: &[f32]) -> Result<u8, Refusal> {
+    let chosen = closer(kind, grade, first, second);
+    let by_number = by_number::closer(kind.number(), grade.number(), first, second);
+    let number = |chosen: &[f32]| if std::ptr::eq(chosen, first) { 1 } else { 2 };
+    assert_eq!(chosen.map(number), by_number.map(number));
+    assert!(chosen.map_or(true, |chosen| std::ptr::eq(chosen, first) || std::ptr::eq(chosen, second)));
+    chosen.map(number)
+}
+
+/// The choices in both orders.
+fn choices(kind: Kind, grade: Grade, one: &[f32], other: &[f32]) -> [Result<u8, Refusal>; 2] {
+    [choice(kind, grade, one, other), choice(kind, grade, other, one)]
+}
+
+const FIRST: Result<u8, Refusal> = Ok(1);
+const SECOND: Result<u8, Refusal> = Ok(2);
+
+/// Frames of every message of one bit, recorded with less noise and with more, also by one part of 1/65,536 just below the limit; with
+/// as much at other places; with noise on the limit; and beside the frame of the other rule, and one far out in the class.
+#[test]
+fn closer_recording() {
+    for (kind, grade, limit) in near_formats() {
+        let (length, bytes) = (kind.frame_length(), message_length(kind, grade));
+        // The limit less one part, as a sum of squares.
+        let most: &[i32] = match kind {
+            Kind::Three => &[255, 22, 5, 1],
+            Kind::Four => &[362, 5, 1, 1],
+            _ => &[511, 31, 7, 3, 1, 1, 1],
+        };
+        let less = &most[..most.len() - 1];
+        assert_eq!(most.iter().map(|x| x * x).sum::<i32>(), limit - 1);
+        let on_limit: &[i32] = match kind {
+            Kind::Three => &[-256],
+            Kind::Four => &[256, -256],
+            _ => &[256, 256, -256, 256],
+        };
+        let turned: Vec<i32> = most.iter().rev().map(|x| -x).collect();
+        // Twice the scale at one place is a point of the lattice.
+        let lattice = 2 << ([1, 2, 2][kind as usize - 3] + grade.number());
+        for k in 0..message_bits(kind, grade) {
+            let mut message = vec![0; bytes];
+            message[k / 8] = 1 << (k % 8);
+            let [even, odd] = [0, 1].map(|number| send_to_vec(kind, grade, number, &message).unwrap().0);
+            let [exact, near, nearest] = [&[][..], most, less].map(|noise| noisy(&even, k, noise));
+            assert_eq!(choices(kind, grade, &exact, &near), [FIRST, SECOND]);
+            assert_eq!(choices(kind, grade, &nearest, &near), [FIRST, SECOND]);
+            assert_eq!(choices(kind, grade, &near, &noisy(&even, k + 3, &turned)), [FIRST, FIRST]);
+            assert_eq!(choices(kind, grade, &near, &noisy(&odd, k + 1, &turned)), [FIRST, FIRST]);
+            assert_eq!(choices(kind, grade, &near, &noisy(&odd, k + 1, less)), [SECOND, FIRST]);
+            let far = noisy(&even, k, on_limit);
+            assert_eq!(choices(kind, grade, &far, &near), [SECOND, FIRST]);
+            assert_eq!(choices(kind, grade, &far, &noisy(&odd, k, on_limit)), [Err(Refusal::TooFar); 2]);
+            let mut distant = even.clone();
+            distant[k % length] += if even[k % length] > 0 { -lattice } else { lattice };
+            assert_eq!(read_open_to_vec(kind, grade, &distant).unwrap().0, message);
+            assert_eq!(choices(kind, grade, &near, &noisy(&distant, k + 1, less)), [SECOND, FIRST]);
+            // All 0 is the frame of another message.
+            let zeros = vec![0.0; length];
+            assert_eq!(choices(kind, grade, &near, &zeros), [Err(Refusal::AtOdds); 2]);
+            assert_eq!(choices(kind, grade, &far, &zeros), [SECOND, FIRST]);
+        }
+    }
+}
+
+/// One slice as both recordings, and slices that share samples.
+#[test]
+fn shared_recordings() {
+    for (kind, grade, _) in near_formats() {
+        let length = kind.frame_length();
+        let mut samples = vec![2.0; length + 1];
+        let equal = closer(kind, grade, &samples[1..], &samples[..length]).unwrap();
+        assert!(std::ptr::eq(equal, &samples[1..]));
+        samples[length] = 2.25;
+        let (first, second) = (&samples[..length], &samples[1..]);
+        assert!(std::ptr::eq(closer(kind, grade, first, second).unwrap(), first));
+        assert!(std::ptr::eq(closer(kind, grade, second, first).unwrap(), first));
+        assert!(std::ptr::eq(closer(kind, grade, second, second).unwrap(), second));
+        assert!(std::ptr::eq(closer(kind, grade, &samples, first).unwrap(), first));
+        assert_eq!(closer(kind, grade, &samples, &samples), Err(Refusal::FrameLength));
+        let far = vec![0.5; length];
+        assert_eq!(closer(kind, grade, &far, &far), Err(Refusal::TooFar));
+    }
+}
+
+/// One recording refused by each number, with all that is tested later wrong too: the other is taken; and of two the number of the
+/// first is given. A wrong kind or grade refuses both.
+#[test]
+fn refused_recordings() {
+    for (kind, grade, _) in near_formats() {
+        let length = kind.frame_length();
+        let good = vec![0.0; length];
+        let mut unfit = vec![0.5; length];
+        unfit[length - 2] = f32::NAN;
+        let refused = [
+            (vec![0.5; length], Refusal::TooFar),
+            (unfit, Refusal::UnfitSample),
+            (vec![f32::NAN; length - 1], Refusal::FrameLength),
+            (vec![f32::NAN; length + 1], Refusal::FrameLength),
+            (vec![], Refusal::FrameLength),
+        ];
+        for (one, refusal) in &refused {
+            assert_eq!(choices(kind, grade, &good, one), [FIRST, SECOND]);
+            for (other, second) in &refused {
+                assert_eq!(choices(kind, grade, one, other), [Err(*refusal), Err(*second)]);
+            }
+            for wrong in [0, 5, 255] {
+                assert_eq!(by_number::closer(kind.number(), wrong, &good, one), Err(Refusal::Grade));
+                assert_eq!(by_number::closer(kind.number(), wrong, one, &good), Err(Refusal::Grade));
+            }
+            for wrong in (0..=255).filter(|kind| !(3..=5).contains(kind)) {
+                for grade in [0, 1, 255] {
+                    assert_eq!(by_number::closer(wrong, grade, &good, one), Err(Refusal::Kind));
+                }
+            }
+        }
+    }
+    for &grade in Grade::ALL {
+        assert_eq!(closer(Kind::Six, grade, &[0.0; 64], &[0.0; 64]), Err(Refusal::Kind));
+        assert_eq!(closer(Kind::Six, grade, &[], &[]), Err(Refusal::Kind));
+    }
+}
+
+/// Recordings with noise of all sizes, of one frame or of two: chosen as the near readings of both say.
+#[test]
+fn closer_by_near_readings() {
+    let mut state = 9u64;
+    let mut random = |bound: u32| {
+        state = state.wrapping_mul(6_364_136_223_846_793_005).wrapping_add(1_442_695_040_888_963_407);
+        (state >> 32) as u32 % bound
+    };
+    let mut counts = [0; 4];
+    for (kind, grade, _) in near_formats() {
+        for _ in 0..500 {
+            let mut message = vec![0; message_length(kind, grade)];
+            message[0] = random(256) as u8;
+            let changed = u8::from(random(4) == 0);
+            let mut record = |message: &[u8]| {
+                let (frame, _) = send_to_vec(kind, grade, random(2), message).unwrap();
+                let most = [30, 80, 130, 150, 200][random(5) as usize];
+                let noise: Vec<i32> = frame.iter().map(|_| random(2 * most + 1) as i32 - most as i32).collect();
+                noisy(&frame, 0, &noise)
+            };
+            let first = record(&message);
+            message[0] ^= changed;
+            let second = record(&message);
+            let expected = match [&first, &second].map(|samples| read_near_to_vec(kind, grade, samples)) {
+                [Ok(first), Ok(second)] if first.0 != second.0 => Err(Refusal::AtOdds),
+                [Ok(first), Ok(second)] => Ok(if first.1 <= second.1 { 1 } else { 2 }),
+                [Ok(_), Err(_)] => Ok(1),
+                [Err(_), Ok(_)] => Ok(2),
+                [Err(refusal), Err(_)] => Err(refusal),
+            };
+            assert_eq!(choice(kind, grade, &first, &second), expected);
+            counts[match expected {
+                Ok(number) => number as usize - 1,
+                Err(refusal) => 2 + usize::from(refusal == Refusal::AtOdds),
+            }] += 1;
+        }
+    }
+    assert!(counts.iter().all(|count| *count > 300), "{counts:?}");
+}
+
 #[test]
 fn opening() {
     for changeover in [0, 1, 999_999, 1_000_000] {
@@ -876,7 +1039,7 @@ fn refusals() {
         }
     }
     let numbers: Vec<u8> = Refusal::ALL.iter().map(|refusal| refusal.number()).collect();
-    assert_eq!(numbers, [1, 2, 3, 4, 5, 6, 7, 8, 9, 11, 13, 14, 15, 16, 17]);
+    assert_eq!(numbers, [1, 2, 3, 4, 5, 6, 7, 8, 9, 11, 13, 14, 15, 16, 17, 18]);
     let unshaped = "refused 9: the frame is not one that may be sent for its message under the number";
     assert_eq!(Refusal::Unshaped.to_string(), unshaped);
     let over_range = "refused 6: a coordinate is outside -16777216 to 16777216";
@@ -887,4 +1050,5 @@ fn refusals() {
     assert_eq!(Refusal::UnfitSample.to_string(), unfit);
     assert_eq!(Refusal::TooFar.to_string(), "refused 16: no frame of the coding set is near to the samples");
     assert_eq!(Refusal::FreeCount.to_string(), "refused 17: more than 4 bits are to be free");
+    assert_eq!(Refusal::AtOdds.to_string(), "refused 18: the two recordings are near to different messages");
 }

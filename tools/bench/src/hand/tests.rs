@@ -4,7 +4,7 @@ use super::refusal::{BROKEN_LEVEL_0, BROKEN_LEVEL_1, BROKEN_LEVEL_2};
 use super::*;
 use crate::far;
 use crate::random::Random;
-use second_coder::{account, class, frame, free, near, random, vectors};
+use second_coder::{account, class, frame, free, near, random, recordings, vectors};
 
 /// The blocks of x that are sent under even and odd numbers, by the hand-tuned coder.
 fn both(x: &[i64; 8], k: u32) -> [[i64; 8]; 2] {
@@ -699,6 +699,76 @@ fn near_refusals_in_order() {
                         let _ = check_near(kind, grade, &vec![sample; length], bytes);
                     }
                 }
+            }
+        }
+    }
+}
+
+/// Compares the choice between two recordings, in both orders.
+fn check_closer(kind: u8, grade: u8, first: &[f32], second: &[f32]) -> Result<u8, u8> {
+    for (first, second) in [(second, first), (first, second)] {
+        let expected = recordings::closer(kind, grade, first, second);
+        assert_eq!(closer(kind, grade, first, second), expected, "{kind} {grade} {first:?} {second:?}");
+    }
+    closer(kind, grade, first, second)
+}
+
+/// The samples of the frame that is sent for a message, with noise in 256ths.
+fn recorded(kind: u8, grade: u8, number: u32, message: &[u8], noise: &[i32]) -> Vec<f32> {
+    let mut sent = vec![0; noise.len()];
+    send(kind, grade, number, message, &mut sent).unwrap();
+    sent.iter().zip(noise).map(|(x, off)| (256 * x + off) as f32 / 256.0).collect()
+}
+
+/// Recordings of one frame with noise, or with the same noise at other places, or of two messages; gives for each kind how often the
+/// first was chosen, the second, or none by each number.
+fn check_recordings(rounds: usize, seed: u64) -> [[usize; 19]; 3] {
+    let mut own = Random(seed);
+    let mut random = random::Random::new(seed);
+    let mut counts = [[0; 19]; 3];
+    for round in 0..rounds {
+        // The second coder takes longest at kind 5.
+        let (kind, grade) = ([3, 4, 3, 4, 3, 4, 3, 5][round % 8], 1 + (round / 8 % 4) as u8);
+        let format = frame::Format::new(kind, grade).unwrap();
+        let [message, other] = [0; 2].map(|_| vectors::dense(&format, &mut random));
+        let [noise, more] = [0; 2].map(|_| few(format.length(), &mut own));
+        let turned: Vec<i32> = noise.iter().rev().map(|off| -off).collect();
+        let (message_2, noise_2) = [(&message, &turned), (&other, &more), (&message, &more)][own.below(3) as usize];
+        let first = recorded(kind, grade, own.word() as u32, &message, &noise);
+        let second = recorded(kind, grade, own.word() as u32, message_2, noise_2);
+        let answer = check_closer(kind, grade, &first, &second);
+        counts[kind as usize - 3][answer.unwrap_or_else(|number| number) as usize] += 1;
+        if own.below(8) == 0 {
+            let mut unfit = first.clone();
+            unfit[own.below(first.len() as u64) as usize] += 1.0 / 512.0;
+            assert_ne!(check_closer(kind, grade, &unfit, &second), Ok(1));
+            assert_eq!(check_closer(kind, grade, &unfit, &first[1..]), Err(refusal::UNFIT_SAMPLE));
+        }
+    }
+    counts
+}
+
+/// 1 and 2 chosen, and none by 16 and 18.
+#[test]
+fn two_recordings() {
+    let counts = check_recordings(1_600, 1);
+    assert!(counts.iter().all(|counts| [1, 2, 16, 18].iter().all(|answer| counts[*answer] > 5)), "{counts:?}");
+}
+
+/// A few minutes; run with `--ignored`.
+#[test]
+#[ignore]
+fn many_recordings() {
+    println!("by kind and answer: {:?}", check_recordings(40_000, 2));
+}
+
+#[test]
+fn recordings_refused_in_order() {
+    let lengths = [0, 7, 8, 9, 16, 17, 32, 64];
+    for (kind, grade) in (0..=8).flat_map(|kind| (0..=6).map(move |grade| (kind, grade))) {
+        for (one, other) in lengths.iter().flat_map(|one| lengths.map(|other| (*one, other))) {
+            for samples in [[0.0, 0.0], [0.0, 0.5], [0.5, f32::NAN]] {
+                let _ = check_closer(kind, grade, &vec![samples[0]; one], &vec![samples[1]; other]);
             }
         }
     }

@@ -1,5 +1,5 @@
-//! The tables of near readings: by the sort of noise, and the worst samples that a search finds. All are at one grade: the search
-//! does not hang on it, only the reading of the frame that is found.
+//! The tables of near readings: by the sort of noise, of two recordings, and the worst samples that a search finds. All are at one
+//! grade: the search does not hang on it, only the reading of the frame that is found.
 
 use std::hint::black_box;
 use std::time::{Duration, Instant};
@@ -73,6 +73,51 @@ fn noises(random: &mut Random) {
             let [library, hand] = least(&times).map(|time| time / TIMES as f64);
             let near = samples.iter().filter(|samples| BY_HAND(kind, GRADE, samples, &mut vec![0; bytes])).count();
             line(&format!("{kind} | {what} | {} %", 100 * near / samples.len()), library, hand);
+        }
+    }
+}
+
+/// Two recordings of a frame.
+type Pair = [Vec<f32>; 2];
+
+/// The noise of both, in each row.
+const PAIRS: [(&str, [Noise; 2]); 2] = [
+    ("both a quarter of the limit", [TYPICAL, TYPICAL]),
+    ("a quarter, and 1.03: too far", [TYPICAL, |kind, frame, random| anywhere(kind, frame, 1.03, random)]),
+];
+
+/// The choice between two recordings by the library, and by hand.
+#[inline(always)]
+fn closer(kind: u8, grade: u8, [first, second]: &Pair, _: &mut [u8]) -> i64 {
+    exported::closer(kind, grade, first, second)
+}
+
+#[inline(always)]
+fn closer_by_hand(kind: u8, grade: u8, [first, second]: &Pair, _: &mut [u8]) -> Result<u8, u8> {
+    hand::closer(kind, grade, first, second)
+}
+
+/// The near readings of both by the library, one after the other.
+#[inline(always)]
+fn read_both(kind: u8, grade: u8, pair: &Pair, message: &mut [u8]) -> [(i64, f64); 2] {
+    [0, 1].map(|i| read_near(kind, grade, &pair[i], message))
+}
+
+fn recordings(random: &mut Random) {
+    println!("| kind | two recordings, noise squared | library, ns a pair | by hand, ns a pair | ratio | two near readings of the library, ns |");
+    println!("|---|---|---|---|---|---|");
+    for kind in 3..=5 {
+        for (what, noises) in PAIRS {
+            let frames = (0..TIMES).flat_map(|_| sent(kind, GRADE, random).1).collect::<Vec<_>>();
+            let pairs: Vec<Pair> = frames.iter().map(|frame| noises.map(|noise| noise(kind, frame, random))).collect();
+            let bytes = lengths(kind, GRADE).1;
+            let mut library = pass!(closer, kind, GRADE, &pairs, vec![]);
+            let mut hand = pass!(closer_by_hand, kind, GRADE, &pairs, vec![]);
+            let mut both = pass!(read_both, kind, GRADE, &pairs, vec![0; bytes]);
+            let times: Vec<[f64; 3]> =
+                (0..PASSES).map(|_| [turn(&mut library), turn(&mut hand), turn(&mut both)]).collect();
+            let [library, hand, both] = least(&times).map(|time| time / TIMES as f64);
+            println!("| {kind} | {what} | {library:.1} | {hand:.1} | {:.2} | {both:.1} |", library / hand);
         }
     }
 }
@@ -185,6 +230,8 @@ fn worst_samples(random: &mut Random) {
 pub fn print() {
     let mut random = Random(2);
     noises(&mut random);
+    println!();
+    recordings(&mut random);
     println!();
     worst_samples(&mut random);
 }
