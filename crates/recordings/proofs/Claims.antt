@@ -14,6 +14,7 @@ use Rattle.bytes.proofs.Compared.{same-exactly, no-truth}
 use Rattle.frames.specs.Kind.{isGrade, messageBytes}
 use Rattle.frames.specs.Message.{Message}
 use Rattle.frames.specs.Frame.{numberedFrame}
+use Rattle.frames.proofs.Demands.{sent-in-set}
 use Rattle.frames.proofs.Reading.{read-sent}
 use Rattle.samples.specs.Sample.{samplesIn256ths}
 use Rattle.near_frames.specs.Near.{nearKind, nearness}
@@ -326,6 +327,7 @@ sent-near k b kind grade number message m xs r = record {
   kind = kind;
   grade = grade;
   frame = numberedFrame k b number message;
+  coded = sent-in-set k b (near-is-kind k kind) grade number message;
   recorded = r;
   message = read-sent k b (near-is-kind k kind) grade number message m;
   distance = refl;

@@ -66,19 +66,23 @@ never-3 k b xs =
     (λ e. omega (arith, e)) (λ e. omega (arith, e))
 
 module _ {k b : ℕ} {xs : List Float} {m : List ℕ} {d : ℕ} (at : NearTo k b xs m d) where
+  -- the frame is near
+  near : IsNear k (samplesIn256ths xs) (at .frame)
+  near = record { samples = samples-length xs ∙ at .recorded .samples; coded = at .coded; close = at .recorded .inside }
+
   -- what the near reading asks
   readable : (n : ℕ) → n ≡ messageBytes k b → Readable k b xs n
   readable n e = record {
     kind = at .kind;
     grade = at .grade;
-    samples = sym (samples-length xs) ∙ at .recorded .near .samples;
+    samples = at .recorded .samples;
     bytes = e;
     fit = at .recorded .fit;
   }
 
   pub reads-to : (lent : List ℕ) → length lent ≡ messageBytes k b → ReadsTo k b xs lent m d
   reads-to lent e =
-      let f = finds k b xs lent (readable (length lent) e) (at .frame) (at .recorded .near) in
+      let f = finds k b xs lent (readable (length lent) e) (at .frame) near in
       record {
         number = f .number;
         message = f .message ∙ at .message;
@@ -91,33 +95,34 @@ module _ {k b : ℕ} {xs : List Float} {m : List ℕ} {d : ℕ} (at : NearTo k b
   number-0 = rw (
     at .kind,
     at .grade,
-    eq-eqb (length xs) (2 ^ k) (sym (samples-length xs) ∙ at .recorded .near .samples),
+    eq-eqb (length xs) (2 ^ k) (at .recorded .samples),
     at .recorded .fit,
-    near-is k (at .kind) (samplesIn256ths xs) (at .frame) (at .recorded .near) .0,
+    near-is k (at .kind) (samplesIn256ths xs) (at .frame) near .0,
   )
 
   -- the near frame is this one, and so its message and its distance
   pub one-message : recordingMessage k b xs ≡ m
   unfolding recordingMessage
-  one-message = ap (openMessage k b) (near-is k (at .kind) (samplesIn256ths xs) (at .frame) (at .recorded .near) .1 []) ∙ at .message
+  one-message = ap (openMessage k b) (near-is k (at .kind) (samplesIn256ths xs) (at .frame) near .1 []) ∙ at .message
 
   pub one-distance : recordingDistance k xs ≡ d
   unfolding recordingDistance
-  one-distance = near-is k (at .kind) (samplesIn256ths xs) (at .frame) (at .recorded .near) .2 ∙ at .distance
+  one-distance = near-is k (at .kind) (samplesIn256ths xs) (at .frame) near .2 ∙ at .distance
 
 -- where the number is 0 the recording is near to its message, at its distance
 pub near-to : (k b : ℕ) (xs : List Float) (n : ℕ) → nearNumber k b xs n ≡ 0 → NearTo k b xs (recordingMessage k b xs) (recordingDistance k xs)
 unfolding recordingMessage recordingDistance
 near-to k b xs n z =
     let s = success k b xs n z .0 in
-    let near = found-one k b xs n z .near in
+    let found = found-one k b xs n z .near in
     record {
       kind = s .kind;
       grade = s .grade;
       frame = nearFrame k (samplesIn256ths xs) [];
-      recorded = record { fit = s .fit; near = near };
+      coded = found .coded;
+      recorded = record { samples = s .samples; fit = s .fit; inside = found .close };
       message = refl;
-      distance = sym (near-is k (s .kind) (samplesIn256ths xs) (nearFrame k (samplesIn256ths xs) []) near .2);
+      distance = sym (near-is k (s .kind) (samplesIn256ths xs) (nearFrame k (samplesIn256ths xs) []) found .2);
     }
 
 -- EACH RECORDING IS JUDGED by its near reading
