@@ -92,7 +92,7 @@ read-figures-requires-2 c κs = search needs
 cast-number : tie.Need-cast-number
 cast-number c =
     let r = c .before .before in
-    record { fits = omega (arith, first-turned-down r (c .before .if1 .taken) .low, second-turned-down r (c .if2 .taken) .low) }
+    record { fits = omega (arith, first-turned-down r (c .before .if1 .taken) .low, second-turned-down r (omega (arith, c .if2 .taken)) .low) }
 
 same-length : tie.Need-same-length
 same-length c = search needs
@@ -104,7 +104,7 @@ returns : tie.Need-returns
 returns c =
     let r = c .before .before in
     let t = first-turned-down r (c .before .if1 .taken) in
-    (ap Neither (t .number) ∙ both-refused (k r) (b r) (xs r) (ys r) (t .some) (second-turned-down r (c .if2 .taken) .some), left r)
+    (ap Neither (t .number) ∙ both-refused (k r) (b r) (xs r) (ys r) (t .some) (second-turned-down r (omega (arith, c .if2 .taken)) .some), left r)
 
 same-length-3 : tie.Need-same-length-3
 same-length-3 c = search needs
