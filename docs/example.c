@@ -77,16 +77,30 @@ int main(void)
         print_message("sum read openly", coder_read_open(6, 1, 0, sum, CODER_FRAME_LENGTH(6), back, sizeof first), back, sizeof first);
     }
 
-    /* The last bits of a message left to the sender, who sends a filling of least energy. Where several fillings have it, which of
-     * them is sent is open, so that the frame is not printed here. It is read back with as many free bits, which are given as 0. */
+    /* The last bits of a message left to the sender, who sends the smallest filling of least energy. It is read back with as many free
+     * bits, which are given as 0. */
     const uint8_t quiet[CODER_MESSAGE_LENGTH(3, 1)] = {0x12, 0x00};
     for (uint8_t bits = 0; bits <= CODER_MAX_FREE + 1; bits++) {
-        int64_t quiet_answer = coder_send(kind, grade, 0, bits, quiet, bytes, frame, coordinates);
-        if (quiet_answer >= 0)
-            quiet_answer = coder_read_strict(kind, grade, 0, bits, frame, coordinates, back, bytes);
+        const int64_t quiet_answer = coder_send(kind, grade, 0, bits, quiet, bytes, frame, coordinates);
         printf("free count %d, ", (int)bits);
-        print_message("read strictly", quiet_answer, back, bytes);
+        if (quiet_answer < 0) {
+            printf("refused %" PRId64 " (%s)\n", -quiet_answer, coder_refusal_name(quiet_answer));
+            continue;
+        }
+        printf("energy %" PRId64 ":", quiet_answer);
+        print_frame(frame, coordinates);
+        print_message("read strictly", coder_read_strict(kind, grade, 0, bits, frame, coordinates, back, bytes), back, bytes);
     }
+
+    /* With two bits free filling 1 was sent, which is 12 04. Filling 2, 12 08, has the same energy: its frame is read openly, but not
+     * strictly. */
+    const uint8_t as_quiet[CODER_MESSAGE_LENGTH(3, 1)] = {0x12, 0x08};
+    if (coder_send(kind, grade, 0, 0, as_quiet, bytes, frame, coordinates) != 4)
+        return 1;
+    printf("another filling, energy 4:");
+    print_frame(frame, coordinates);
+    print_message("read openly", coder_read_open(kind, grade, 2, frame, coordinates, back, bytes), back, bytes);
+    print_message("read strictly", coder_read_strict(kind, grade, 0, 2, frame, coordinates, back, bytes), back, bytes);
 
     /* What a receiver has of a frame: samples, each a whole number of 256ths, with noise. It is read as long as the squared distance
      * is below the limit; on the limit it is too far. */

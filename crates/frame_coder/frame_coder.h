@@ -38,14 +38,14 @@
  *
  * FREE BITS. The last bits of a message, 0 to 4 of them, can be left to the sender, who makes the frame quieter by them: `free`
  *     says how many, and they are the message bits from coder_message_bits(kind, grade) - free on. They must be given as 0, else
- *     the message is refused by 5, as for a spare bit. Each way to set them is a filling of the message, and has a frame under the
- *     number, by the rules above. Sent is the frame of some filling whose frame has the least energy of all fillings: never more
- *     than without free bits. Where several fillings have that energy, which of them is sent is left open, and may differ from
- *     version to version. The energy and what is added to an account are the same for each of them. A reading with the same `free`
- *     gives the other bits, which are fixed, and writes the free bits as 0. A strict reading takes the frame of any least filling
- *     under its number, and no other. Messages that differ in a bit that is fixed for both keep their distance, whatever their
- *     fillings, numbers and free counts. With `free` 0 nothing is left to the sender, and all is as said above. In a queue, and in
- *     a near reading, no bit is free.
+ *     the message is refused by 5, as for a spare bit. Each way to set them is a filling of the message: the free bits read as a
+ *     number, lowest bit first. Each has a frame under the frame's number, by the rules above. Sent is the frame of the smallest
+ *     filling among those of least energy, which is the same one under every number: two sets send the same frame, and never one of
+ *     more energy than without free bits. A reading with the same `free` gives the other bits, which are fixed, and writes the free
+ *     bits as 0. A strict reading takes the sent frame of its number alone: that of any other filling is 9, also of one with the same
+ *     energy. Messages that differ in a bit that is fixed for both keep their distance, whatever their fillings, numbers and free
+ *     counts. With `free` 0 nothing is left to the sender, and all is as said above. In a queue, and in a near reading, no bit is
+ *     free.
  *
  * ACCOUNTS AND THE CHANGEOVER. An account is opened with a changeover, a count from 0 to 1,000,000. With an account the number of a
  *     frame is the count before the send; but the frames below the changeover follow the old rule, which is that of number 0. So
@@ -97,8 +97,8 @@
  *     also where the call is refused (coder_send_queue and coder_open store to all four of theirs in every call);
  *   - a frame is read strictly under its own number, and an account goes on with its own changeover: nothing in a frame tells its
  *     number, and coder_send_counted and coder_send_queue take any changeover, as they take any count;
- *   - a frame is read with the free count that it was sent with: nothing in a frame tells that either. With a smaller one the
- *     filling is read too, and with a larger one fixed bits are lost;
+ *   - a frame is read with the free count that it was sent with: nothing in a frame tells that either. With a smaller one bits of
+ *     the filling are read too, strictly as well, and with a larger one fixed bits are lost, or strictly the frame may be 9;
  *   - what is lent to be written overlaps nothing else that is lent to the call, and nobody else writes to what is lent during the
  *     call. What is only read may overlap: two recordings can share samples, or be the same.
  * What is lent to be written (a sender's frames, `sent`, an account to be opened, a reading's message, `distance`) need not be set
@@ -145,7 +145,7 @@
 #include <stddef.h>
 #include <stdint.h>
 
-#define FRAME_CODER_VERSION "0.11.0"
+#define FRAME_CODER_VERSION "0.12.0"
 
 #ifdef __cplusplus
 extern "C" {
@@ -215,7 +215,7 @@ enum coder_refusal {
     CODER_REFUSED_OVER_RANGE = 6,      /* reading: a coordinate is outside -16777216 .. 16777216 */
     CODER_REFUSED_BROKEN_LEVEL_0 = 7,  /* reading: the coordinates' bits of weight 1 are not a codeword */
     CODER_REFUSED_BROKEN_LEVEL_1 = 8,  /* reading, kinds 4 to 6: the coordinates' bits of weight 2 are not a codeword */
-    CODER_REFUSED_UNSHAPED = 9,        /* strict reading: the frame is not one that may be sent for its message under the number */
+    CODER_REFUSED_UNSHAPED = 9,        /* strict reading: the frame is not the one that is sent for its message under the number */
     CODER_REFUSED_ACCOUNT_FULL = 11,   /* sending with an account: the count is 1,000,000 or more; a queue: has become so */
     CODER_REFUSED_BROKEN_LEVEL_2 = 13, /* reading, kind 6: the coordinates' bits of weight 4 are not a codeword */
     CODER_REFUSED_CHANGEOVER = 14,     /* opening an account: the changeover is above 1,000,000 */
@@ -251,9 +251,9 @@ CODER_INLINE const char *coder_refusal_name(int64_t answer)
     }
 }
 
-/* Sends a message under a number, with its last `free` bits left to the sender: writes every coordinate of the frame that some
- * filling of least energy has under the number. With `free` 0 that is the frame of the message itself: the first in reading order
- * among the least where the number is even, the last where it is odd. */
+/* Sends a message under a number, with its last `free` bits left to the sender: writes every coordinate of the frame that the
+ * smallest filling of least energy has under the number. With `free` 0 that is the frame of the message itself: the first in reading
+ * order among the least where the number is even, the last where it is odd. */
 int64_t coder_send(uint8_t kind, uint8_t grade, uint32_t number, uint8_t free, const uint8_t *message, size_t message_len,
                    int32_t *frame, size_t frame_len);
 
@@ -263,8 +263,8 @@ int64_t coder_send(uint8_t kind, uint8_t grade, uint32_t number, uint8_t free, c
 int64_t coder_read_open(uint8_t kind, uint8_t grade, uint8_t free, const int32_t *frame, size_t frame_len, uint8_t *message,
                         size_t message_len);
 
-/* The strict reading under a number: takes the frames alone that coder_send may write under it with the same `free`, which with
- * `free` 0 is one for each message, and writes every byte of the message, the last `free` bits as 0. */
+/* The strict reading under a number: takes the frame alone that coder_send writes under it with the same `free`, and writes every
+ * byte of its message, the last `free` bits as 0. */
 int64_t coder_read_strict(uint8_t kind, uint8_t grade, uint32_t number, uint8_t free, const int32_t *frame, size_t frame_len,
                           uint8_t *message, size_t message_len);
 

@@ -76,6 +76,18 @@ static void fill_one(int kind, int grade, uint8_t *message)
     }
 }
 
+/* A message whose fillings come in pairs of the same energy, those that differ in the last bit: half the scale at a coordinate of the
+ * last block, the second to the fifth, anything at its eighth, and zeros. */
+static void fill_pairs(int kind, int grade, uint8_t *message)
+{
+    const size_t bits = coder_message_bits(kind, grade), g = (size_t)grade;
+    const size_t half = bits - 8 * g + (2 + (size_t)rand() % 4) * g - 2; /* the highest of the coordinate's bits */
+    memset(message, 0, coder_message_length(kind, grade));
+    message[half / 8] |= (uint8_t)(1u << half % 8);
+    for (size_t k = bits - g - 1; k < bits; k++)
+        message[k / 8] |= (uint8_t)((rand() >> 7 & 1) << k % 8);
+}
+
 /* So many messages of a kind and grade end to end. */
 static void fill(int kind, int grade, uint8_t *messages, size_t number)
 {
@@ -332,9 +344,10 @@ static void set_filling(int kind, int grade, int bits, int filling, uint8_t *mes
     }
 }
 
-/* Every frame of a filling is read as the message with its free bits 0: openly, and strictly where it has the least energy. */
+/* Every frame of a filling is read as the message with its free bits 0: openly, and strictly where it is the one that is sent; any
+ * other is 9 under numbers of both parities, and leaves the bytes. */
 static void read_filling(int kind, int grade, uint32_t number, int bits, const uint8_t *message, const int32_t *frame, int64_t energy,
-                         int least)
+                         int sent)
 {
     const uint8_t k = (uint8_t)kind, g = (uint8_t)grade, f = (uint8_t)bits;
     const size_t bytes = coder_message_length(kind, grade), coordinates = coder_frame_length(kind);
@@ -343,16 +356,20 @@ static void read_filling(int kind, int grade, uint32_t number, int bits, const u
     expect("filling, open message", kind, grade, memcmp(back, message, bytes), 0);
     memset(back, 0xA5, bytes);
     memset(kept, 0xA5, bytes);
+    if (!sent)
+        expect("filling, other number", kind, grade, coder_read_strict(k, g, number ^ 1, f, frame, coordinates, back, bytes),
+               -CODER_REFUSED_UNSHAPED);
     expect("filling, strict", kind, grade, coder_read_strict(k, g, number, f, frame, coordinates, back, bytes),
-           least ? energy : -CODER_REFUSED_UNSHAPED);
-    expect("filling, strict message", kind, grade, memcmp(back, least ? message : kept, bytes), 0);
+           sent ? energy : -CODER_REFUSED_UNSHAPED);
+    expect("filling, strict message", kind, grade, memcmp(back, sent ? message : kept, bytes), 0);
     free(back);
     free(kept);
 }
 
-/* A message with so many bits free, against its fillings sent by themselves: sent is the frame of one of least energy, alone and with an
- * account, which grows by it as by any other; and each is read. With a free bit set it is refused. */
-static void quiet(int kind, int grade, uint32_t number, int bits, const uint8_t *given)
+/* A message with so many bits free, against its fillings sent by themselves: sent is the frame of the smallest of least energy, alone
+ * and with an account, which grows by it as by any other; and each is read. What is sent is read strictly with fewer free bits too.
+ * With a free bit set the message is refused. Gives the number of fillings that are as quiet and not sent. */
+static int quiet(int kind, int grade, uint32_t number, int bits, const uint8_t *given)
 {
     const uint8_t k = (uint8_t)kind, g = (uint8_t)grade, f = (uint8_t)bits;
     const size_t bytes = coder_message_length(kind, grade), coordinates = coder_frame_length(kind);
@@ -366,26 +383,35 @@ static void quiet(int kind, int grade, uint32_t number, int bits, const uint8_t 
     const struct coder_account before = {number % 1000, 0.25, 3, 0}; /* its next frame has a number of the same parity */
     struct coder_account account = before;
     expect("quiet, account", kind, grade, coder_account_send(&account, kind, grade, bits, message, bytes, counted, coordinates), energy);
-    int64_t least = INT64_MAX, found = 0, again = 0;
+    int64_t least = INT64_MAX;
     uint64_t block = 0, largest = before.largest;
+    int smallest = 0, as_quiet = 0;
     for (int filling = 0; filling < 1 << bits; filling++) {
         set_filling(kind, grade, bits, filling, filled);
         const int64_t one = coder_send(k, g, number, 0, filled, bytes, own, coordinates);
+        smallest = one < least ? filling : smallest;
         least = one < least ? one : least;
-        found += one == energy && memcmp(own, frame, size) == 0;
-        again += one == energy && memcmp(own, counted, size) == 0;
-        read_filling(kind, grade, number, bits, message, own, one, one == energy);
     }
     expect("quiet, energy", kind, grade, energy, least);
-    expect("quiet, frame", kind, grade, found, 1);
-    expect("quiet, frame with an account", kind, grade, again, 1);
+    for (int filling = 0; filling < 1 << bits; filling++) {
+        set_filling(kind, grade, bits, filling, filled);
+        const int64_t one = coder_send(k, g, number, 0, filled, bytes, own, coordinates);
+        expect("quiet, frame", kind, grade, memcmp(own, frame, size) == 0, filling == smallest);
+        expect("quiet, frame with an account", kind, grade, memcmp(own, counted, size) == 0, filling == smallest);
+        read_filling(kind, grade, number, bits, message, own, one, filling == smallest);
+        as_quiet += one == least && filling != smallest;
+    }
+    for (int fewer = 0; fewer < bits; fewer++) {
+        set_filling(kind, grade, bits, smallest, filled);
+        set_filling(kind, grade, fewer, 0, filled);
+        read_filling(kind, grade, number, fewer, filled, frame, energy, 1);
+    }
     for (size_t p = 0; p < coordinates; p++) {
         block = (p % 8 == 0 ? 0 : block) + (uint64_t)((int64_t)counted[p] * counted[p]);
         largest = block > largest ? block : largest;
     }
     const struct coder_account grown = {before.count + 1, 0.25 + (double)energy / (double)coordinates, largest, 0};
     expect("quiet, account grown", kind, grade, same_account(account, grown), 1);
-    read_filling(kind, grade, number, bits, message, frame, energy, 1);
     for (int t = 0; t < bits; t++) {
         set_filling(kind, grade, bits, 1 << t, filled);
         memcpy(own, frame, size);
@@ -401,6 +427,7 @@ static void quiet(int kind, int grade, uint32_t number, int bits, const uint8_t 
     free(frame);
     free(counted);
     free(own);
+    return as_quiet;
 }
 
 /* Free counts above 4, which come before all but kind and grade; and ints that would be good ones if they were narrowed. */
@@ -445,7 +472,8 @@ static void free_counts(int kind, int grade)
     free(frame);
 }
 
-/* Free bits by hand: 12 00 at kind 3, grade 1, whose fillings with two bits free have the energies 12, 4, 4 and 12. */
+/* Free bits by hand: 12 00 at kind 3, grade 1, whose fillings with two bits free have the energies 12, 4, 4 and 12. Filling 1 is
+ * sent. */
 static void quiet_by_hand(void)
 {
     static const uint8_t message[2] = {0x12, 0x00};
@@ -454,14 +482,18 @@ static void quiet_by_hand(void)
     for (uint32_t number = 0; number < 2; number++) {
         int32_t frame[8];
         expect("quiet by hand", 3, 1, coder_send(3, 1, number, 2, message, 2, frame, 8), 4);
-        expect("quiet by hand, frame", 3, 1, !memcmp(frame, frames[0], sizeof frame) + !memcmp(frame, frames[1], sizeof frame), 1);
+        expect("quiet by hand, frame", 3, 1, memcmp(frame, frames[0], sizeof frame), 0);
+        struct coder_account account = {number, 0.25, 3, 0};
+        memset(frame, 0, sizeof frame);
+        expect("quiet by hand, account", 3, 1, coder_account_send(&account, 3, 1, 2, message, 2, frame, 8), 4);
+        expect("quiet by hand, frame with an account", 3, 1, memcmp(frame, frames[0], sizeof frame), 0);
         for (int filling = 0; filling < 4; filling++) {
             uint8_t filled[2] = {0x12, 0x00};
             set_filling(3, 1, 2, filling, filled);
             expect("filling by hand", 3, 1, coder_send(3, 1, number, 0, filled, 2, frame, 8), energies[filling]);
             if (filling == 1 || filling == 2)
                 expect("filling by hand, frame", 3, 1, memcmp(frame, frames[filling - 1], sizeof frame), 0);
-            read_filling(3, 1, number, 2, message, frame, energies[filling], filling == 1 || filling == 2);
+            read_filling(3, 1, number, 2, message, frame, energies[filling], filling == 1);
         }
     }
 }
@@ -1178,6 +1210,8 @@ int main(void)
                 for (int bits = 0; bits <= CODER_MAX_FREE; bits++) {
                     fill_one(kind, grade, message);
                     quiet(kind, grade, (uint32_t)rand(), bits, message);
+                    fill_pairs(kind, grade, message);
+                    expect("pairs", kind, grade, quiet(kind, grade, (uint32_t)rand(), bits, message) > 0, bits > 0);
                 }
         }
     for (int grade = 1; grade <= 4; grade++)

@@ -1,10 +1,10 @@
 // Sending with an account: the frame, and the account grown by it. The account's count is the frame's number.
 ghost use mathlib.Core.Path.{_≡_};
 ghost use lib.ListN.{length};
-ghost use Prim.Native.Nat.{_^_};
-ghost use Rattle.frames.specs.Free.{Quiet, quietEnergy, quietLargest};
-ghost use Rattle.frames.specs.Sending.{QuietAfter, energySent, LeastOfFillings};
-ghost use Rattle.power_account.specs.Power.{grownWith};
+ghost use Rattle.e8.specs.Energy.{energy as energyOf};
+ghost use Rattle.frames.specs.Free.{quietFrame};
+ghost use Rattle.frames.specs.Sending.{frameAfter, energySent, LeastOfFillings};
+ghost use Rattle.power_account.specs.Power.{grown};
 ghost use Rattle.power_account.specs.Counted.{numberFor, countedRefusal, countedAccount};
 pub use power_account::Account;
 pub use power_account::Opened;
@@ -42,7 +42,7 @@ fn refused(number: u8, account: Account) -> Counted
     }
 }
 
-// Writes a quiet frame of a message that passes the tests, under the number that the account has for it, and gives its energy and the account grown by it.
+// Writes the frame of a message that passes the tests, under the number that the account has for it, and gives its energy and the account grown by it.
 pub fn write_counted(
     kind: u8,
     grade: u8,
@@ -52,10 +52,9 @@ pub fn write_counted(
     account: Account,
 ) -> Counted
     requires { ⌜ countedRefusal kind grade free (now message) (length (now frame)) account ≡ 0 ⌝ }
-    ensures frame { λ _. ⌜ Quiet kind grade free (numberFor account) (now (message .entry)) (now (frame .exit)) ⌝ }
-    ensures energy { λ r. ⌜ (r .number ≡ 0) × (r .energy ≡ quietEnergy kind grade free (numberFor account) (now (message .entry))) ⌝ }
-    ensures account { λ r. ⌜ r .account ≡ grownWith account (quietEnergy kind grade free (numberFor account) (now (message .entry))) (2 ^ kind)
-        (quietLargest kind grade free (numberFor account) (now (message .entry))) ⌝ }
+    ensures frame { λ _. ⌜ now (frame .exit) ≡ quietFrame kind grade free (numberFor account) (now (message .entry)) ⌝ }
+    ensures energy { λ r. ⌜ (r .number ≡ 0) × (r .energy ≡ energyOf (quietFrame kind grade free (numberFor account) (now (message .entry)))) ⌝ }
+    ensures account { λ r. ⌜ r .account ≡ grown account (quietFrame kind grade free (numberFor account) (now (message .entry))) ⌝ }
 {
     let n = frame.len();
     let sent = sending::write_sent(
@@ -83,7 +82,7 @@ pub fn send_counted(
     account: Account,
 ) -> Counted
     ensures number { λ r. ⌜ r .number ≡ countedRefusal kind grade free (now (message .entry)) (length (now (frame .entry))) account ⌝ }
-    ensures frame { λ r. ⌜ QuietAfter (r .number) kind grade free (numberFor account) (now (message .entry)) (now (frame .entry)) (now (frame .exit)) ⌝ }
+    ensures frame { λ r. ⌜ now (frame .exit) ≡ frameAfter (r .number) kind grade free (numberFor account) (now (message .entry)) (now (frame .entry)) ⌝ }
     ensures energy { λ r. ⌜ r .energy ≡ energySent (r .number) kind grade free (numberFor account) (now (message .entry)) ⌝ }
     ensures account { λ r. ⌜ r .account ≡ countedAccount (r .number) kind grade free (now (message .entry)) account ⌝ }
     ensures least { λ r. ⌜ (r .number ≡ 0 → LeastOfFillings kind grade free (numberFor account) (now (message .entry)) (now (frame .exit)) (r .energy)) ⌝ }

@@ -11,8 +11,8 @@ use lib.IntN.{ℤ, pos, negsuc, negℤ, natAbs}
 use lib.Ieee.{Float}
 use borrow.Author.Tests.{eqb-true, eq-eqb, ne-eqb}
 use Rattle.e8.specs.Energy.{energy}
-use Rattle.frames.specs.Free.{quietEnergy}
-use Rattle.frames.specs.Sending.{sendRefusal, QuietAfter, energySent, LeastOfFillings}
+use Rattle.frames.specs.Free.{quietFrame}
+use Rattle.frames.specs.Sending.{sendRefusal, energySent, LeastOfFillings}
 use Rattle.frames.specs.Reading.{largestRead, openRefusal, strictRefusal, energyRead}
 use Rattle.frames.proofs.Accepted.{all-passed}
 use Rattle.frames.proofs.Refusals.{accepted, range-within}
@@ -52,16 +52,11 @@ module _ (k b f number : ℕ) (bytes : List ℕ) (frame : List ℤ) where
       let o : _≡_ {A = ℕ} 1 0 = ap is-negative (sym is ∙ p) in
       absurd (omega (arith, o))
 
--- what is left, by the refusal under another name
-pub quiet-as : (k b f number : ℕ) (bytes : List ℕ) (before after : List ℤ) {refusal other : ℕ} → refusal ≡ other
-    → QuietAfter refusal k b f number bytes before after → QuietAfter other k b f number bytes before after
-quiet-as k b f number bytes before after e q = subst (λ (n : ℕ). QuietAfter n k b f number bytes before after) e q
-
 pub send-answer : (refusal k b f number : ℕ) (bytes : List ℕ) (n : ℕ) → refusal ≡ sendRefusal k b f bytes n
     → answerOf refusal (energySent refusal k b f number bytes) ≡ sendAnswer k b f number bytes n
 unfolding sendAnswer energySent
 send-answer refusal k b f number bytes n e =
-    answer-is refusal (quietEnergy k b f number bytes) ∙ ap (λ (m : ℕ). answerOf m (quietEnergy k b f number bytes)) e
+    answer-is refusal (energy (quietFrame k b f number bytes)) ∙ ap (λ (m : ℕ). answerOf m (energy (quietFrame k b f number bytes))) e
 
 pub open-answer : (refusal k b f : ℕ) (frame : List ℤ) (n : ℕ) → refusal ≡ openRefusal k b f frame n
     → answerOf refusal (energyRead refusal frame) ≡ openAnswer k b f frame n
@@ -80,7 +75,7 @@ either false e B h = omega arith
 
 pub sent-fits : (refusal k b f number : ℕ) (bytes : List ℕ) (n : ℕ) → refusal ≡ sendRefusal k b f bytes n → energySent refusal k b f number bytes ≤ 2 ^ 54
 unfolding energySent
-sent-fits refusal k b f number bytes n e = either (eqb refusal 0) (quietEnergy k b f number bytes) (2 ^ 54) (λ t.
+sent-fits refusal k b f number bytes n e = either (eqb refusal 0) (energy (quietFrame k b f number bytes)) (2 ^ 54) (λ t.
     let p = all-passed k b f bytes n (sym e ∙ eqb-true refusal 0 t) in
     omega (arith, quiet-energy-small k b f (p .kind) (p .grade) (p .few) number bytes))
 
@@ -103,14 +98,14 @@ strict-fits refusal k b f number frame n e =
 module _ (k b f : ℕ) (bytes : List ℕ) (n : ℕ) (a : Account) (refusal : ℕ) (is : refusal ≡ countedRefusal k b f bytes n a) where
   pub counted-fits : energySent refusal k b f (numberFor a) bytes ≤ 2 ^ 54
   unfolding energySent
-  counted-fits = either (eqb refusal 0) (quietEnergy k b f (numberFor a) bytes) (2 ^ 54) (λ t.
+  counted-fits = either (eqb refusal 0) (energy (quietFrame k b f (numberFor a) bytes)) (2 ^ 54) (λ t.
       let p = all-passed k b f bytes n (passed k b f bytes n a (sym is ∙ eqb-true refusal 0 t)) in
       omega (arith, quiet-energy-small k b f (p .kind) (p .grade) (p .few) (numberFor a) bytes))
 
   pub counted-answer : answerOf refusal (energySent refusal k b f (numberFor a) bytes) ≡ countedAnswer k b f bytes n a
   unfolding countedAnswer energySent
   counted-answer =
-      answer-is refusal (quietEnergy k b f (numberFor a) bytes) ∙ ap (λ (m : ℕ). answerOf m (quietEnergy k b f (numberFor a) bytes)) is
+      answer-is refusal (energy (quietFrame k b f (numberFor a) bytes)) ∙ ap (λ (m : ℕ). answerOf m (energy (quietFrame k b f (numberFor a) bytes))) is
 
 -- an account of a changeover, from its three other numbers
 pub account-of : (a : Account) (changeover : ℕ) → a .changeover ≡ changeover → accountOf (a .count) (a .sum) (a .largest) changeover ≡ a

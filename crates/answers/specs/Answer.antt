@@ -7,8 +7,8 @@ use lib.IntN.{ℤ, pos, negℤ}
 use lib.ListN.{length}
 use lib.Ieee.{Float}
 use Rattle.e8.specs.Energy.{energy}
-use Rattle.frames.specs.Free.{quietEnergy}
-use Rattle.frames.specs.Sending.{sendRefusal, QuietAfter, frameAfter}
+use Rattle.frames.specs.Free.{quietFrame}
+use Rattle.frames.specs.Sending.{sendRefusal, frameAfter}
 use Rattle.frames.specs.Reading.{openRefusal, strictRefusal, messageAfter}
 use Rattle.power_account.specs.declared.Account.{Account}
 use Rattle.power_account.specs.Opening.{openingRefusal}
@@ -23,18 +23,14 @@ use Rattle.recordings.specs.Choice.{choice, chosenNumber}
 unfoldable pub answerOf : ℕ → ℕ → ℤ
 answerOf number energy = cond (eqb number 0) (pos energy) (negℤ (pos number))
 
--- sending under a number, with f free bits: the least energy of the fillings' frames, or minus the refusal number; n coordinates are lent
+-- sending under a number, with f free bits: the energy of the sent frame, or minus the refusal number; n coordinates are lent
 unfoldable pub sendAnswer : ℕ → ℕ → ℕ → ℕ → List ℕ → ℕ → ℤ
-unfolding answerOf quietEnergy
-sendAnswer k b f number bytes n = answerOf (sendRefusal k b f bytes n) (quietEnergy k b f number bytes)
+unfolding answerOf quietFrame
+sendAnswer k b f number bytes n = answerOf (sendRefusal k b f bytes n) (energy (quietFrame k b f number bytes))
 
--- the lent frame afterwards: a quiet frame under the number, or as it was where sending is refused
-abbrev pub SendFrame : ℕ → ℕ → ℕ → ℕ → List ℕ → List ℤ → List ℤ → Type 0
-SendFrame k b f number bytes before after = QuietAfter (sendRefusal k b f bytes (length before)) k b f number bytes before after
-
--- where no bit is free: the frame of the number, or as it was
-abbrev pub wholeFrame : ℕ → ℕ → ℕ → List ℕ → List ℤ → List ℤ
-wholeFrame k b number bytes frame = frameAfter (sendRefusal k b 0 bytes (length frame)) k b number bytes frame
+-- the lent frame afterwards: the sent one, or as it was where sending is refused
+abbrev pub sendFrame : ℕ → ℕ → ℕ → ℕ → List ℕ → List ℤ → List ℤ
+sendFrame k b f number bytes frame = frameAfter (sendRefusal k b f bytes (length frame)) k b f number bytes frame
 
 -- the open reading of a frame, with f free bits: its energy, or minus the refusal number; n message bytes are lent
 unfoldable pub openAnswer : ℕ → ℕ → ℕ → List ℤ → ℕ → ℤ
@@ -66,14 +62,14 @@ openingAnswer changeover = answerOf (openingRefusal changeover) 0
 
 -- ---- sending with an account a and f free bits
 
--- the least energy of the fillings' frames, or minus the refusal number; n coordinates are lent
+-- the energy of the sent frame, or minus the refusal number; n coordinates are lent
 unfoldable pub countedAnswer : ℕ → ℕ → ℕ → List ℕ → ℕ → Account → ℤ
-unfolding answerOf quietEnergy
-countedAnswer k b f bytes n a = answerOf (countedRefusal k b f bytes n a) (quietEnergy k b f (numberFor a) bytes)
+unfolding answerOf quietFrame
+countedAnswer k b f bytes n a = answerOf (countedRefusal k b f bytes n a) (energy (quietFrame k b f (numberFor a) bytes))
 
 -- the lent frame afterwards
-abbrev pub CountedFrame : ℕ → ℕ → ℕ → List ℕ → Account → List ℤ → List ℤ → Type 0
-CountedFrame k b f bytes a before after = QuietAfter (countedRefusal k b f bytes (length before) a) k b f (numberFor a) bytes before after
+abbrev pub countedFrame : ℕ → ℕ → ℕ → List ℕ → Account → List ℤ → List ℤ
+countedFrame k b f bytes a frame = frameAfter (countedRefusal k b f bytes (length frame) a) k b f (numberFor a) bytes frame
 
 -- the account that the lent numbers hold afterwards: grown by the sent frame, or as it came where sending is refused
 abbrev pub countedHeld : ℕ → ℕ → ℕ → List ℕ → ℕ → Account → Account

@@ -11,7 +11,7 @@ ghost use Rattle.e8.specs.Energy.{energy as energyOf};
 ghost use Rattle.frames.specs.Kind.{isKind, degrees, levelBits, messageBytes};
 ghost use Rattle.frames.specs.Message.{widths, numbers, stacked, leader};
 ghost use Rattle.frames.specs.Frame.{numberedFrame};
-ghost use Rattle.answers.specs.Answer.{sendAnswer, wholeFrame};
+ghost use Rattle.answers.specs.Answer.{sendAnswer, sendFrame};
 
 // Number o of the block whose message bits begin at `from`.
 fn number_at(message: &[u8], from: usize, grade: usize, o: usize) -> u64
@@ -82,7 +82,7 @@ pub extern "C" fn plain_send(
     frame: &mut [i32],
 ) -> i64
     ensures answer { λ r. ⌜ r ≡ sendAnswer kind grade 0 number (now (message .entry)) (length (now (frame .entry))) ⌝ }
-    ensures frame { λ r. ⌜ now (frame .exit) ≡ wholeFrame kind grade number (now (message .entry)) (now (frame .entry)) ⌝ }
+    ensures frame { λ r. ⌜ now (frame .exit) ≡ sendFrame kind grade 0 number (now (message .entry)) (now (frame .entry)) ⌝ }
 {
     let refusal = sending::test(kind, grade, 0, message, frame.len());
     if refusal != 0 {

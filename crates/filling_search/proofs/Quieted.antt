@@ -23,8 +23,7 @@ use Rattle.e8.specs.Ties.{leastBlockBy}
 use Rattle.frames.specs.Kind.{isKind, degrees, levels, blocks, levelBits, messageBits}
 use Rattle.frames.specs.Message.{widths, numbers, blockNumbers, stacked, coordinate, leader}
 use Rattle.frames.specs.Frame.{half, isOdd}
-use Rattle.frames.specs.Free.{freeFrom, filled, FreeMessage}
-use Rattle.free_bits.specs.Search.{quietFilling}
+use Rattle.frames.specs.Free.{freeFrom, filled, FreeMessage, quietFilling}
 use Rattle.frames.proofs.Numbers.{total, total-widths}
 use Rattle.frames.proofs.Frame.{at, part-length, part-at}
 use Rattle.frames.proofs.One.{leader-length, leader-at}

@@ -22,7 +22,7 @@ use Rattle.e8.proofs.Within.{within-to, within-at, within-all}
 use Rattle.e8.proofs.Ties.{leastFrameBy-size, leastFrameBy-within, leastFrameBy-part}
 use Rattle.coordinates.proofs.Size.{sum-abs}
 use Rattle.frames.specs.Message.{widths}
-use Rattle.free_bits.specs.Search.{firstLeast}
+use Rattle.frames.specs.Free.{firstLeast}
 use Rattle.free_bits.proofs.First.{firstLeast-at, firstLeast-ext}
 use Rattle.e8.proofs.Blockwise.{Made}
 use Rattle.filling_search.specs.Filling.{fillingNumbers, raise, filledBlock, filledBlocks, shapedBlocks, quietOf, quietLast}

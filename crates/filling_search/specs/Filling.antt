@@ -8,7 +8,7 @@ use lib.IntN.{ℤ, pos, _+ℤ_}
 use Rattle.e8.specs.Energy.{energy}
 use Rattle.e8.specs.Ties.{leastBlockBy, leastFrameBy}
 use Rattle.frames.specs.Message.{widths, numbers}
-use Rattle.free_bits.specs.Search.{firstLeast}
+use Rattle.frames.specs.Free.{firstLeast}
 
 -- the numbers s1 to s8 of a block whose last f bits hold φ, and whose other bits are 0
 unfoldable pub fillingNumbers : ℕ → ℕ → ℕ → List ℕ

@@ -6,7 +6,7 @@ ghost use lib.IntN.{pos, natAbs, _+ℤ_};
 ghost use lib.ListN.{length};
 ghost use Rattle.e8.specs.Energy.{energy as energyOf, Within};
 ghost use Rattle.e8.specs.Lattice.{part};
-ghost use Rattle.free_bits.specs.Search.{firstLeast};
+ghost use Rattle.frames.specs.Free.{firstLeast};
 ghost use Rattle.filling_search.specs.Filling.{filledBlock, filledBlocks, shapedBlocks, quietOf, quietLast};
 
 // z + 2^a·n.

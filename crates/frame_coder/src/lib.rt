@@ -4,8 +4,8 @@ ghost use Prim.Native.Nat.{ℕ};
 ghost use lib.IntN.{pos};
 ghost use lib.ListN.{length};
 ghost use Rattle.frames.specs.Sending.{LeastOfFillings};
-ghost use Rattle.answers.specs.Answer.{sendAnswer, SendFrame, openAnswer, openBytes, strictAnswer, strictBytes};
-ghost use Rattle.answers.specs.Answer.{accountOf, openingAnswer, countedAnswer, CountedFrame, countedHeld, queueAnswer};
+ghost use Rattle.answers.specs.Answer.{sendAnswer, sendFrame, openAnswer, openBytes, strictAnswer, strictBytes};
+ghost use Rattle.answers.specs.Answer.{accountOf, openingAnswer, countedAnswer, countedFrame, countedHeld, queueAnswer};
 ghost use Rattle.power_account.specs.Opening.{openedWith};
 ghost use Rattle.power_account.specs.Counted.{numberFor};
 ghost use Rattle.answers.specs.Answer.{nearCode, nearHeld, closerCode};
@@ -23,7 +23,7 @@ pub extern "C" fn coder_send(
     frame: &mut [i32],
 ) -> i64
     ensures answer { λ r. ⌜ r ≡ sendAnswer kind grade free number (now (message .entry)) (length (now (frame .entry))) ⌝ }
-    ensures frame { λ r. ⌜ SendFrame kind grade free number (now (message .entry)) (now (frame .entry)) (now (frame .exit)) ⌝ }
+    ensures frame { λ r. ⌜ now (frame .exit) ≡ sendFrame kind grade free number (now (message .entry)) (now (frame .entry)) ⌝ }
     ensures least { λ r. ⌜ ((e : ℕ) → r ≡ pos e → LeastOfFillings kind grade free number (now (message .entry)) (now (frame .exit)) e) ⌝ }
 {
     let r = sending::send(kind, grade, number, free, message, frame);
@@ -101,8 +101,8 @@ pub extern "C" fn coder_send_counted(
 ) -> i64
     ensures answer { λ r. ⌜ r ≡ countedAnswer kind grade free (now (message .entry)) (length (now (frame .entry)))
         (accountOf (now (count .entry)) (now (sum .entry)) (now (largest .entry)) changeover) ⌝ }
-    ensures frame { λ r. ⌜ CountedFrame kind grade free (now (message .entry))
-        (accountOf (now (count .entry)) (now (sum .entry)) (now (largest .entry)) changeover) (now (frame .entry)) (now (frame .exit)) ⌝ }
+    ensures frame { λ r. ⌜ now (frame .exit) ≡ countedFrame kind grade free (now (message .entry))
+        (accountOf (now (count .entry)) (now (sum .entry)) (now (largest .entry)) changeover) (now (frame .entry)) ⌝ }
     ensures account { λ r. ⌜ accountOf (now (count .exit)) (now (sum .exit)) (now (largest .exit)) changeover
         ≡ countedHeld kind grade free (now (message .entry)) (length (now (frame .entry)))
         (accountOf (now (count .entry)) (now (sum .entry)) (now (largest .entry)) changeover) ⌝ }

@@ -7,13 +7,15 @@ use native.Mathlib.Decide.{decLt, ℕ-discrete}
 use native.Mathlib.Omega.{arith}
 use lib.Dec.{eqb}
 use lib.ListN.{length}
+use lib.IntN.{ℤ}
 use borrow.Author.Tests.{eq-eqb, ne-eqb, eqb-true, eqb-false, lt-leb}
 use Rattle.bits.specs.Message.{messageBit}
 use Rattle.bits.proofs.Message.{message-small, bit-past}
+use Rattle.e8.specs.Energy.{energy}
 use Rattle.frames.specs.Kind.{isKind, isGrade, messageBytes}
 use Rattle.frames.specs.Message.{Bytes, Message}
-use Rattle.frames.specs.Free.{isFreeCount, freeFrom, FreeMessage, quietEnergy}
-use Rattle.frames.specs.Sending.{anySet, freeSet, sendRefusal, Accepts, energySent}
+use Rattle.frames.specs.Free.{isFreeCount, freeFrom, FreeMessage, quietFrame}
+use Rattle.frames.specs.Sending.{anySet, freeSet, sendRefusal, Accepts, frameAfter, energySent}
 use Rattle.frames.specs.Demands.{Sendable, AcceptedExactly}
 use Rattle.frames.proofs.Refusals.{passed}
 
@@ -176,10 +178,13 @@ message-accepted k b bytes kind grade m = free-accepted k b 0 bytes kind grade r
 
 -- ---- what sending under a number leaves, by its answer
 
-pub sent-leaves : (refusal k b f number : ℕ) (bytes : List ℕ) → refusal ≡ 0 → energySent refusal k b f number bytes ≡ quietEnergy k b f number bytes
-unfolding energySent
-sent-leaves refusal k b f number bytes e = rw e
+module _ (refusal k b f number : ℕ) (bytes : List ℕ) (frame : List ℤ) where
+  pub sent-leaves : refusal ≡ 0
+      → (frameAfter refusal k b f number bytes frame ≡ quietFrame k b f number bytes)
+      × (energySent refusal k b f number bytes ≡ energy (quietFrame k b f number bytes))
+  unfolding frameAfter energySent
+  sent-leaves e = (rw e, rw e)
 
-pub refused-leaves : (refusal k b f number : ℕ) (bytes : List ℕ) → (refusal ≡ 0 → ⊥) → energySent refusal k b f number bytes ≡ 0
-unfolding energySent
-refused-leaves refusal k b f number bytes h = rw (ne-eqb refusal 0 h)
+  pub refused-leaves : (refusal ≡ 0 → ⊥) → (frameAfter refusal k b f number bytes frame ≡ frame) × (energySent refusal k b f number bytes ≡ 0)
+  unfolding frameAfter energySent
+  refused-leaves h = (rw (ne-eqb refusal 0 h), rw (ne-eqb refusal 0 h))

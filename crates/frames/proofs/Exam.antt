@@ -22,10 +22,10 @@ use Rattle.e8.specs.Rows.{reduced}
 use Rattle.frames.specs.Kind.{kinds, isKind, isGrade, degrees, levels, levelBits, messageBits, messageBytes}
 use Rattle.frames.specs.Message.{numbers, blockNumbers, stacked, coordinate, leader}
 use Rattle.frames.specs.Frame.{weightBit, levelWord, half, isOdd, numberedFrame, sentFrame}
-use Rattle.frames.specs.Free.{isFreeCount, freeFrom, filled, filledFrame, leastOf, quietEnergy, quietLargest}
+use Rattle.frames.specs.Free.{isFreeCount, freeFrom, filled, filledFrame, firstLeast, quietFilling, quietFrame}
 use Rattle.frames.specs.Sending.{anySet, freeSet, sendRefusal}
 use Rattle.frames.specs.Reading.{levelMessage, levelMessages, quotients, digits, allDigits, blockMessages, readBits, openMessage}
-use Rattle.frames.specs.Reading.{fixedMessage, sameFrame, inRange, broken, openRefusal, isSent, isQuiet, strictRefusal}
+use Rattle.frames.specs.Reading.{fixedMessage, sameFrame, inRange, broken, openRefusal, isSent, strictRefusal}
 use Rattle.frames.specs.Exam.{printed, AllPrinted, levelAt, blockNumberAt, Leader, exams, sentAs, examined, layout, Numbered, numbered, sentUnder}
 use Rattle.frames.specs.Exam.{AllSets, NumberedTests, FreeCases, FurtherCases, SendingTests, FreeTests, ReadingTests}
 
@@ -149,7 +149,7 @@ numbered-frames = refl
 
 -- and the strict reading by them
 pub numbered-tests : NumberedTests
-unfolding openRefusal strictRefusal isQuiet isSent isFreeCount fixedMessage filled freeFrom withBits quietEnergy leastOf filledFrame sameFrame openMessage readBits levelMessages levelMessage blockMessages quotients allDigits digits
+unfolding openRefusal strictRefusal isSent isFreeCount fixedMessage filled freeFrom withBits quietFrame quietFilling firstLeast filledFrame sameFrame openMessage readBits levelMessages levelMessage blockMessages quotients allDigits digits
     inRange isWithin broken weightBit isKind isGrade sendRefusal freeSet anySet messageBytes messageBits
     numberedFrame isOdd half leastFrameBy leastFrame leastBlock best better cent before energy sq leader coordinate stacked blockNumbers numbers
     degrees kinds levels levelBits sumTo codeword order dimension masks ofWeight table messageBit bytesOf byteOf backwards belongs clearAbove reduced ones
@@ -167,7 +167,7 @@ numbered-tests = record {
 
 -- the fillings of a message with free bits
 pub free-cases : FreeCases
-unfolding openRefusal strictRefusal isQuiet isSent isFreeCount fixedMessage filled freeFrom withBits quietEnergy leastOf filledFrame quietLargest largestTo sameFrame openMessage readBits levelMessages levelMessage blockMessages quotients allDigits digits
+unfolding openRefusal strictRefusal isSent isFreeCount fixedMessage filled freeFrom withBits quietFrame quietFilling firstLeast filledFrame sameFrame openMessage readBits levelMessages levelMessage blockMessages quotients allDigits digits
     inRange isWithin broken weightBit isKind isGrade sendRefusal freeSet anySet messageBytes messageBits
     numberedFrame isOdd half leastFrameBy leastFrame leastBlock best better cent before energy sq leader coordinate stacked blockNumbers numbers
     degrees kinds levels levelBits sumTo codeword order dimension masks ofWeight table messageBit bytesOf byteOf backwards belongs clearAbove reduced ones
@@ -175,22 +175,25 @@ free-cases = record {
   energies = refl;
   even = refl;
   odd = refl;
-  least = refl;
-  largest = refl;
+  taken = refl;
+  taken-odd = refl;
+  sent = refl;
   passes-1 = refl;
-  passes-2 = refl;
   passes-1-odd = refl;
-  passes-2-odd = refl;
   nine-0 = refl;
+  nine-2 = refl;
+  nine-2-odd = refl;
   nine-3 = refl;
   whole-1 = refl;
   whole-2 = refl;
   fixed-1 = refl;
   fixed-2 = refl;
+  three-least = refl;
+  first-of-three = refl;
 }
 
 pub further-cases : FurtherCases
-unfolding openRefusal strictRefusal isQuiet isSent isFreeCount fixedMessage filled freeFrom withBits quietEnergy leastOf filledFrame sameFrame openMessage readBits levelMessages levelMessage blockMessages quotients allDigits digits
+unfolding openRefusal strictRefusal isSent isFreeCount fixedMessage filled freeFrom withBits quietFrame quietFilling firstLeast filledFrame sameFrame openMessage readBits levelMessages levelMessage blockMessages quotients allDigits digits
     inRange isWithin broken weightBit isKind isGrade sendRefusal freeSet anySet messageBytes messageBits
     numberedFrame isOdd half leastFrameBy leastFrame leastBlock best better cent before energy sq leader coordinate stacked blockNumbers numbers
     degrees kinds levels levelBits sumTo codeword order dimension masks ofWeight table messageBit bytesOf byteOf backwards belongs clearAbove reduced ones
@@ -217,7 +220,7 @@ unfolding isKind isGrade isFreeCount sendRefusal freeSet freeFrom anySet message
 free-tests = record { most = refl; first-of-4 = refl; last-of-4 = refl; one = refl; first-of-1 = refl; spare = refl }
 
 pub reading-tests : ReadingTests
-unfolding openRefusal strictRefusal isQuiet isSent isFreeCount fixedMessage filled freeFrom withBits quietEnergy leastOf filledFrame sameFrame openMessage readBits levelMessages levelMessage blockMessages quotients allDigits digits
+unfolding openRefusal strictRefusal isSent isFreeCount fixedMessage filled freeFrom withBits quietFrame quietFilling firstLeast filledFrame sameFrame openMessage readBits levelMessages levelMessage blockMessages quotients allDigits digits
     inRange isWithin broken weightBit isKind isGrade sendRefusal freeSet anySet messageBytes messageBits
     numberedFrame isOdd half leastFrameBy leastFrame leastBlock best better cent before energy sq leader coordinate stacked blockNumbers numbers
     degrees kinds levels levelBits sumTo codeword order dimension masks ofWeight table messageBit bytesOf byteOf backwards belongs clearAbove reduced ones

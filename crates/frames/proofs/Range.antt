@@ -13,13 +13,13 @@ use borrow.Author.Tests.{eqb-true, eq-eqb, leb-false}
 use Rattle.reed_muller.specs.Level.{belongs}
 use Rattle.reed_muller.proofs.Belongs.{belongs-cong}
 use Rattle.reed_muller.proofs.Product.{belongs-none}
-use Rattle.e8.specs.Energy.{sq, energy, isWithin}
+use Rattle.e8.specs.Energy.{sq, energy, isWithin, Within}
 use Rattle.e8.proofs.Within.{within-at, within-all, energy-within}
 use Rattle.frames.specs.Kind.{isKind, isGrade, degrees, levels, messageBytes, scale}
-use Rattle.frames.specs.Frame.{weightBit, levelWord, InCodingSet, numberedFrame}
-use Rattle.frames.specs.Free.{isFreeCount, quietEnergy}
+use Rattle.frames.specs.Frame.{weightBit, levelWord, InCodingSet}
+use Rattle.frames.specs.Free.{isFreeCount, filled, filledFrame, quietFilling, quietFrame}
 use Rattle.frames.specs.Sending.{unless}
-use Rattle.frames.specs.Reading.{openMessage, fixedMessage, sameFrame, largestRead, inRange, broken, openRefusal, isSent, isQuiet, strictRefusal, energyRead}
+use Rattle.frames.specs.Reading.{fixedMessage, sameFrame, largestRead, inRange, broken, openRefusal, isSent, strictRefusal, energyRead}
 use Rattle.frames.specs.Demands.{FirstBroken, FarOut, SixExactly, AtEnds, LargestEnergy, LargeUnshaped}
 use Rattle.frames.proofs.Rows.{grade-low}
 use Rattle.frames.proofs.Limits.{few-levels}
@@ -91,7 +91,7 @@ module _ (k b f : ℕ) (frame : List ℤ) (n : ℕ) where
 
   only-strict : (number : ℕ) → strictRefusal k b f number frame n ≡ 6 → FarOut frame
   unfolding strictRefusal
-  only-strict number e = go (eqb (openRefusal k b f frame n) 0) (isQuiet k b f number frame) e
+  only-strict number e = go (eqb (openRefusal k b f frame n) 0) (isSent k b f number frame) e
     where
       go : (s t : Bool) → cond s (unless t 9 0) (openRefusal k b f frame n) ≡ 6 → FarOut frame
       go true true e = absurd (omega arith)
@@ -160,7 +160,7 @@ pub strict-open : (k b f number : ℕ) (frame : List ℤ) (n : ℕ) → strictRe
 unfolding strictRefusal
 strict-open k b f number frame n e = go (eqb (openRefusal k b f frame n) 0) refl e
   where
-    go : (t : Bool) → eqb (openRefusal k b f frame n) 0 ≡ t → cond t (unless (isQuiet k b f number frame) 9 0) (openRefusal k b f frame n) ≡ 0
+    go : (t : Bool) → eqb (openRefusal k b f frame n) 0 ≡ t → cond t (unless (isSent k b f number frame) 9 0) (openRefusal k b f frame n) ≡ 0
         → openRefusal k b f frame n ≡ 0
     go true s e = eqb-true (openRefusal k b f frame n) 0 s
     go false s e = e
@@ -179,25 +179,31 @@ largest-energy k b f n kind grade few bytes = record {
 
 -- ---- large frames to the strict reading
 
--- a frame with a coordinate above M in size is sent for no message
-not-sent : (k b number : ℕ) → isKind k ≡ true → isGrade b ≡ true → (frame : List ℤ) (p : ℕ) → scale k b < natAbs (getD frame p (pos 0))
-    → isSent k b number frame ≡ false
+-- no coordinate of what is sent is above M in size
+pub sent-frame-within : (k b f number : ℕ) → isKind k ≡ true → isGrade b ≡ true → (bytes : List ℕ) → Within (scale k b) (quietFrame k b f number bytes)
+unfolding quietFrame filledFrame
+sent-frame-within k b f number kind grade bytes = sent-within k b kind (grade-low b grade) number (filled k b f (quietFilling k b f number bytes) bytes)
+
+-- so a frame with a coordinate above M in size is sent for no message
+not-sent : (k b f number : ℕ) → isKind k ≡ true → isGrade b ≡ true → (frame : List ℤ) (p : ℕ) → scale k b < natAbs (getD frame p (pos 0))
+    → isSent k b f number frame ≡ false
 unfolding isSent
-not-sent k b number kind grade frame p large = go (sameFrame frame (numberedFrame k b number (openMessage k b frame))) refl
+not-sent k b f number kind grade frame p large = go (sameFrame frame sent) refl
   where
-    go : (t : Bool) → sameFrame frame (numberedFrame k b number (openMessage k b frame)) ≡ t → t ≡ false
+    sent : List ℤ
+    sent = quietFrame k b f number (fixedMessage k b f frame)
+
+    go : (t : Bool) → sameFrame frame sent ≡ t → t ≡ false
     go false e = refl
-    go true e =
-        let same = same-frame frame (numberedFrame k b number (openMessage k b frame)) e in
-        absurd (omega (
-          arith,
-          large,
-          ap (λ (g : List ℤ). natAbs (getD g p (pos 0))) same,
-          within-at (scale k b) (numberedFrame k b number (openMessage k b frame)) p (sent-within k b kind (grade-low b grade) number (openMessage k b frame)),
-        ))
+    go true e = absurd (omega (
+      arith,
+      large,
+      ap (λ (g : List ℤ). natAbs (getD g p (pos 0))) (same-frame frame sent e),
+      within-at (scale k b) sent p (sent-frame-within k b f number kind grade (fixedMessage k b f frame)),
+    ))
 
 pub large-unshaped : (k b f : ℕ) (frame : List ℤ) (n : ℕ) → LargeUnshaped k b f frame n
-unfolding strictRefusal isQuiet
+unfolding strictRefusal
 large-unshaped k b f frame n = record {
-  nine = λ e number p large. let a = accepted k b f frame n e in rw (e, not-sent k b number (a .kind) (a .grade) frame p large);
+  nine = λ e number p large. let a = accepted k b f frame n e in rw (e, not-sent k b f number (a .kind) (a .grade) frame p large);
 }

@@ -11,11 +11,11 @@ use Rattle.bits.specs.Message.{messageBit}
 use Rattle.e8.specs.Energy.{energy, distance}
 use Rattle.e8.specs.Largest.{largestBlock}
 use Rattle.frames.specs.Kind.{brokenNumber, isKind, isGrade, degrees, levels, messageBits, messageBytes, scale}
-use Rattle.frames.specs.Message.{Message}
+use Rattle.frames.specs.Message.{Bytes, Message}
 use Rattle.frames.specs.Frame.{levelWord, SameClass, numberedFrame, leastDistance}
-use Rattle.frames.specs.Free.{isFreeCount, freeFrom, FreeMessage, filledFrame, Quiet, quietEnergy, quietLargest}
+use Rattle.frames.specs.Free.{isFreeCount, freeFrom, FreeMessage, filledFrame, Quiet, FirstFilling, quietFilling, quietFrame}
 use Rattle.frames.specs.Sending.{anySet, unless, sendRefusal, Accepts}
-use Rattle.frames.specs.Reading.{openMessage, fixedMessage, largestRead, openRefusal, isSent, strictRefusal, energyRead}
+use Rattle.frames.specs.Reading.{openMessage, fixedMessage, sameFrame, largestRead, openRefusal, strictRefusal, energyRead}
 
 -- what sending asks: a kind, a grade, a free count, a message of them whose free bits are 0, and as many coordinates as the kind has
 pub record Sendable (k b f : ℕ) (bytes : List ℕ) (n : ℕ) : Type 0 where
@@ -57,7 +57,7 @@ pub record Reached (k b : ℕ) : Type 0 where
   pub different : x ≡ y → ⊥
   pub exactly : (number other : ℕ) → distance (numberedFrame k b number x) (numberedFrame k b other y) ≡ leastDistance k
 
--- ---- with free bits (request E7)
+-- ---- with free bits (requests E7 and E10)
 
 -- "Each frame of the coding set lies in a filling's class of exactly one message whose free bits are 0": the message, for the frame and any number, and the
 -- filling, of which there is one too
@@ -71,24 +71,56 @@ pub record OneFilling (k b f number : ℕ) (frame : List ℤ) : Type 0 where
   pub only : (other : List ℕ) (ψ : ℕ) → FreeMessage k b f other → ψ < 2 ^ f → SameClass k b (filledFrame k b f number other ψ) frame
       → (other ≡ bytes) × (ψ ≡ φ)
 
--- "The strict reading gives it only for the sent frame", and with free bits "it passes the frame of any least filling": the frame is a quiet one under the
--- number, for some message of the kind and grade whose free bits are 0, and the reading gives that one
+-- the filling that sending takes (request E10): it is "the smallest" of "the fillings of least energy", and the only one like that
+pub record FirstTaken (k b f number : ℕ) (bytes : List ℕ) : Type 0 where
+  pub first : FirstFilling k b f number bytes (quietFilling k b f number bytes)
+  pub only : (φ : ℕ) → FirstFilling k b f number bytes φ → φ ≡ quietFilling k b f number bytes
+
+-- it is the same under every number: both tie rules have one energy
+pub record SameTaken (k b f number other : ℕ) (bytes : List ℕ) : Type 0 where
+  pub filling : quietFilling k b f number bytes ≡ quietFilling k b f other bytes
+  pub same-energy : energy (quietFrame k b f number bytes) ≡ energy (quietFrame k b f other bytes)
+  pub same-largest : largestBlock (quietFrame k b f number bytes) ≡ largestBlock (quietFrame k b f other bytes)
+
+-- what request E7 promised of it: the sent frame is a quiet one, and every quiet frame has its energy and its largest block
+pub record QuietSent (k b f number : ℕ) (bytes : List ℕ) : Type 0 where
+  pub quiet : Quiet k b f number bytes (quietFrame k b f number bytes)
+  pub energy-alike : (frame : List ℤ) → Quiet k b f number bytes frame → energy frame ≡ energy (quietFrame k b f number bytes)
+  pub largest-alike : (frame : List ℤ) → Quiet k b f number bytes frame → largestBlock frame ≡ largestBlock (quietFrame k b f number bytes)
+
+-- "The strict reading gives it only for the sent frame": the frame is the one that is sent under the number for some message of the kind and grade whose
+-- free bits are 0, and the reading gives that one
 pub record SentFor (k b f number : ℕ) (frame : List ℤ) : Type 0 where
   pub bytes : List ℕ
   pub message : FreeMessage k b f bytes
   pub accepted : Accepts k b f bytes
-  pub sent : Quiet k b f number bytes frame
+  pub sent : frame ≡ quietFrame k b f number bytes
   pub given : fixedMessage k b f frame ≡ bytes
 
--- "A frame reads back to its message": both readings take any quiet frame of the bytes under the number, and give these bytes
+-- the strict reading passes exactly what sending gives; n message bytes are lent
+pub record PassedExactly (k b f number : ℕ) (frame : List ℤ) (n : ℕ) : Type 0 where
+  pub passed : strictRefusal k b f number frame n ≡ 0 → SentFor k b f number frame
+  pub long : strictRefusal k b f number frame n ≡ 0 → n ≡ messageBytes k b
+  pub sent : (bytes : List ℕ) → Bytes bytes → Accepts k b f bytes → frame ≡ quietFrame k b f number bytes → n ≡ length bytes
+      → strictRefusal k b f number frame n ≡ 0
+
+-- "A frame reads back to its message": both readings take the frame that is sent for the bytes under the number, and give these bytes
 pub record ReadBack (k b f number : ℕ) (bytes : List ℕ) : Type 0 where
-  pub open-takes : (frame : List ℤ) → Quiet k b f number bytes frame → openRefusal k b f frame (length bytes) ≡ 0
-  pub strict-takes : (frame : List ℤ) → Quiet k b f number bytes frame → strictRefusal k b f number frame (length bytes) ≡ 0
-  pub given : (frame : List ℤ) → Quiet k b f number bytes frame → fixedMessage k b f frame ≡ bytes
+  pub open-takes : openRefusal k b f (quietFrame k b f number bytes) (length bytes) ≡ 0
+  pub strict-takes : strictRefusal k b f number (quietFrame k b f number bytes) (length bytes) ≡ 0
+  pub given : fixedMessage k b f (quietFrame k b f number bytes) ≡ bytes
+
+-- "strict reading passes only that filling's frame": the frame of every other filling, also of a least one, whatever its own number, is 9 strictly; openly
+-- each is read as the message
+pub record OthersNine (k b f number : ℕ) (bytes : List ℕ) : Type 0 where
+  pub openly : (other φ : ℕ) → openRefusal k b f (filledFrame k b f other bytes φ) (length bytes) ≡ 0
+  pub given : (other φ : ℕ) → fixedMessage k b f (filledFrame k b f other bytes φ) ≡ bytes
+  pub nine : (other φ : ℕ) → φ < 2 ^ f → (φ ≡ quietFilling k b f number bytes → ⊥)
+      → strictRefusal k b f number (filledFrame k b f other bytes φ) (length bytes) ≡ 9
 
 -- "never more energy than without free bits"
 pub record Quieter (k b f number : ℕ) (bytes : List ℕ) : Type 0 where
-  pub energy-at-most : (frame : List ℤ) → Quiet k b f number bytes frame → energy frame ≤ energy (numberedFrame k b number bytes)
+  pub energy-at-most : energy (quietFrame k b f number bytes) ≤ energy (numberedFrame k b number bytes)
 
 -- "Messages that differ in a fixed bit keep their distance", whatever their fillings, numbers and free counts f and g, where bit i is fixed for both: the
 -- frames of any two fillings, and so what is sent
@@ -96,11 +128,11 @@ pub record FixedApart (k b f g number other : ℕ) (x y : List ℕ) : Type 0 whe
   pub fillings : (i : ℕ) → i < freeFrom k b f → i < freeFrom k b g → (messageBit x i ≡ messageBit y i → ⊥)
       → (φ ψ : ℕ) → leastDistance k ≤ distance (filledFrame k b f number x φ) (filledFrame k b g other y ψ)
   pub sent : (i : ℕ) → i < freeFrom k b f → i < freeFrom k b g → (messageBit x i ≡ messageBit y i → ⊥)
-      → (s t : List ℤ) → Quiet k b f number x s → Quiet k b g other y t → leastDistance k ≤ distance s t
+      → leastDistance k ≤ distance (quietFrame k b f number x) (quietFrame k b g other y)
 
 -- ---- where f is 0, the rule that stood
 
--- sending: the tests without 17, and 5 for a spare bit alone; the one quiet frame is the frame of the number, and the figures are that frame's
+-- sending: the tests without 17, and 5 for a spare bit alone; what is sent is the frame of the number
 pub record NoneFree (k b number : ℕ) (bytes : List ℕ) (n : ℕ) : Type 0 where
   pub tests : sendRefusal k b 0 bytes n ≡
       unless (isKind k) 1
@@ -108,15 +140,13 @@ pub record NoneFree (k b number : ℕ) (bytes : List ℕ) (n : ℕ) : Type 0 whe
       (unless (eqb (length bytes) (messageBytes k b)) 3
       (unless (eqb n (2 ^ k)) 4
       (cond (anySet (messageBit bytes) (messageBits k b) (8 * messageBytes k b - messageBits k b)) 5 0))))
-  pub quiet : Quiet k b 0 number bytes (numberedFrame k b number bytes)
-  pub only : (frame : List ℤ) → Quiet k b 0 number bytes frame → frame ≡ numberedFrame k b number bytes
-  pub least : quietEnergy k b 0 number bytes ≡ energy (numberedFrame k b number bytes)
-  pub largest : quietLargest k b 0 number bytes ≡ largestBlock (numberedFrame k b number bytes)
+  pub sent : quietFrame k b 0 number bytes ≡ numberedFrame k b number bytes
 
--- reading: of a frame that passes the open reading's tests the whole message is given, and strictly the frame that is sent for it passes alone
+-- reading: of a frame that passes the open reading's tests the whole message is given, and strictly the frame of the number for that passes alone
 pub record NoneFreeRead (k b number : ℕ) (frame : List ℤ) (n : ℕ) : Type 0 where
   pub given : openRefusal k b 0 frame n ≡ 0 → fixedMessage k b 0 frame ≡ openMessage k b frame
-  pub strict : openRefusal k b 0 frame n ≡ 0 → strictRefusal k b 0 number frame n ≡ unless (isSent k b number frame) 9 0
+  pub strict : openRefusal k b 0 frame n ≡ 0
+      → strictRefusal k b 0 number frame n ≡ unless (sameFrame frame (numberedFrame k b number (openMessage k b frame))) 9 0
 
 -- ---- the range (request E8)
 

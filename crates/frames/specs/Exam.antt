@@ -14,7 +14,7 @@ use Rattle.e8.specs.Rows.{ints}
 use Rattle.frames.specs.Kind.{degrees, levels, messageBits, messageBytes}
 use Rattle.frames.specs.Message.{widths, numbers, coordinate}
 use Rattle.frames.specs.Frame.{InCodingSet, numberedFrame, sentFrame, leastDistance}
-use Rattle.frames.specs.Free.{filledFrame, quietEnergy, quietLargest}
+use Rattle.frames.specs.Free.{filledFrame, quietFilling, quietFrame}
 use Rattle.frames.specs.Sending.{sendRefusal}
 use Rattle.frames.specs.Reading.{openMessage, fixedMessage, openRefusal, strictRefusal}
 
@@ -223,7 +223,7 @@ pub record NumberedTests : Type 0 where
 
 -- ---- free bits
 
--- request E7, by hand: 12 00 of kind 3, grade 1 with 2 free bits, which are bits 10 and 11, the values 4 and 8 of its last byte
+-- requests E7 and E10, by hand: 12 00 of kind 3, grade 1 with 2 free bits, which are bits 10 and 11, the values 4 and 8 of its last byte
 abbrev pub freeMessage : List ℕ
 freeMessage = 18 ∷ 0 ∷ []
 
@@ -234,23 +234,27 @@ frameOf1 = pos 0 ∷ minus 1 ∷ pos 0 ∷ pos 1 ∷ pos 0 ∷ pos 1 ∷ pos 0 �
 abbrev pub frameOf2 : List ℤ
 frameOf2 = pos 0 ∷ minus 1 ∷ pos 0 ∷ pos 1 ∷ pos 0 ∷ pos 1 ∷ pos 0 ∷ pos 1 ∷ []
 
--- the fillings' energies are 12, 4, 4, 12: both frames of energy 4 may be sent, the same under every number, and pass strictly; those of 12 are 9
+-- the fillings' energies are 12, 4, 4, 12: filling 1 is taken, the same under every number, and its frame passes strictly alone; openly every filling's
+-- frame gives the message. Of 01 00 they are 8, 8, 16, 8, and filling 0 is taken
 pub record FreeCases : Type 0 where
   pub energies : map (λ (φ : ℕ). energy (filledFrame 3 1 2 0 freeMessage φ)) (0 ∷ 1 ∷ 2 ∷ 3 ∷ []) ≡ 12 ∷ 4 ∷ 4 ∷ 12 ∷ []
   pub even : map (filledFrame 3 1 2 0 freeMessage) (1 ∷ 2 ∷ []) ≡ frameOf1 ∷ frameOf2 ∷ []
   pub odd : map (filledFrame 3 1 2 1 freeMessage) (1 ∷ 2 ∷ []) ≡ frameOf1 ∷ frameOf2 ∷ []
-  pub least : quietEnergy 3 1 2 0 freeMessage ≡ 4
-  pub largest : quietLargest 3 1 2 0 freeMessage ≡ 4
+  pub taken : quietFilling 3 1 2 0 freeMessage ≡ 1
+  pub taken-odd : quietFilling 3 1 2 1 freeMessage ≡ 1
+  pub sent : quietFrame 3 1 2 0 freeMessage ≡ frameOf1
   pub passes-1 : strictRefusal 3 1 2 0 frameOf1 2 ≡ 0
-  pub passes-2 : strictRefusal 3 1 2 0 frameOf2 2 ≡ 0
   pub passes-1-odd : strictRefusal 3 1 2 1 frameOf1 2 ≡ 0
-  pub passes-2-odd : strictRefusal 3 1 2 1 frameOf2 2 ≡ 0
   pub nine-0 : strictRefusal 3 1 2 0 (filledFrame 3 1 2 0 freeMessage 0) 2 ≡ 9
+  pub nine-2 : strictRefusal 3 1 2 0 frameOf2 2 ≡ 9
+  pub nine-2-odd : strictRefusal 3 1 2 1 frameOf2 2 ≡ 9
   pub nine-3 : strictRefusal 3 1 2 0 (filledFrame 3 1 2 0 freeMessage 3) 2 ≡ 9
   pub whole-1 : openMessage 3 1 frameOf1 ≡ 18 ∷ 4 ∷ []
   pub whole-2 : openMessage 3 1 frameOf2 ≡ 18 ∷ 8 ∷ []
   pub fixed-1 : fixedMessage 3 1 2 frameOf1 ≡ freeMessage
   pub fixed-2 : fixedMessage 3 1 2 frameOf2 ≡ freeMessage
+  pub three-least : map (λ (φ : ℕ). energy (filledFrame 3 1 2 0 (1 ∷ 0 ∷ []) φ)) (0 ∷ 1 ∷ 2 ∷ 3 ∷ []) ≡ 8 ∷ 8 ∷ 16 ∷ 8 ∷ []
+  pub first-of-three : quietFilling 3 1 2 0 (1 ∷ 0 ∷ []) ≡ 0
 
 -- ---- further cases
 

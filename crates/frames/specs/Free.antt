@@ -1,15 +1,14 @@
--- Free bits (request E7): the last bits of a message are left to the sender. Fillings, the frames that may be sent, and the two figures that all of these
--- have in common. Assumes nothing.
-use Prim.Native.Nat.{ℕ, zero, suc, min, _+_, _-_, _/_, _%_, _^_, _≤_, _<_}
+-- Free bits (requests E7 and E10): the last bits of a message are left to the sender. Fillings, which of them is taken, and the frame that is sent.
+-- Assumes nothing.
+use Prim.Native.Nat.{ℕ, zero, suc, _+_, _-_, _/_, _%_, _^_, _≤_, _<_}
 use mathlib.Core.Path.{_≡_}
-use mathlib.Core.Bool.{Bool}
+use mathlib.Core.Bool.{Bool, cond}
 use mathlib.Core.List.{List}
-use lib.Dec.{leb}
+use lib.Dec.{leb, ltb}
 use lib.ListN.{length}
 use lib.IntN.{ℤ}
 use Rattle.bits.specs.Message.{messageBit, bytesOf, withBits}
 use Rattle.e8.specs.Energy.{energy}
-use Rattle.e8.specs.Largest.{largestBlock}
 use Rattle.frames.specs.Kind.{messageBits}
 use Rattle.frames.specs.Message.{Message}
 use Rattle.frames.specs.Frame.{numberedFrame}
@@ -38,30 +37,36 @@ unfoldable pub filledFrame : ℕ → ℕ → ℕ → ℕ → List ℕ → ℕ �
 unfolding filled numberedFrame
 filledFrame k b f number bytes φ = numberedFrame k b number (filled k b f φ bytes)
 
--- "some filling whose frame has the least energy of all fillings": φ, one of the 2^f, is one
+-- a filling "whose frame has the least energy of all fillings": φ, one of the 2^f, is one
 pub record LeastFilling (k b f number : ℕ) (bytes : List ℕ) (φ : ℕ) : Type 0 where
   pub below : φ < 2 ^ f
   pub least : (ψ : ℕ) → ψ < 2 ^ f → energy (filledFrame k b f number bytes φ) ≤ energy (filledFrame k b f number bytes ψ)
 
--- A QUIET FRAME: "It sends some filling whose frame has the least energy of all fillings; any such filling will do". What that leaves free is the filling φ
+-- request E7's relation, which leaves the filling open. A QUIET FRAME: "some filling whose frame has the least energy of all fillings"
 pub record Quiet (k b f number : ℕ) (bytes : List ℕ) (frame : List ℤ) : Type 0 where
   pub φ : ℕ
   pub least : LeastFilling k b f number bytes φ
   pub sent : frame ≡ filledFrame k b f number bytes φ
 
--- ---- what every quiet frame has in common
+-- request E10's rule. THE FIRST QUIET FILLING: "Among the fillings of least energy the sender now takes the smallest, the free bits read as a number, lowest
+-- bit first": φ is that one
+pub record FirstFilling (k b f number : ℕ) (bytes : List ℕ) (φ : ℕ) : Type 0 where
+  pub least : LeastFilling k b f number bytes φ
+  pub smallest : (ψ : ℕ) → LeastFilling k b f number bytes ψ → φ ≤ ψ
 
--- the least of e 0, e 1, .. e (n − 1), where n is at least 1
-unfoldable pub leastOf : (ℕ → ℕ) → ℕ → ℕ
-leastOf e zero = e 0
-leastOf e (suc n) = min (leastOf e n) (e n)
+-- ---- the same computed
 
--- THE LEAST ENERGY of the fillings' frames
-unfoldable pub quietEnergy : ℕ → ℕ → ℕ → ℕ → List ℕ → ℕ
-unfolding leastOf filledFrame energy
-quietEnergy k b f number bytes = leastOf (λ φ. energy (filledFrame k b f number bytes φ)) (2 ^ f)
+-- the smallest of the numbers below n at which e is least, by a search from 0 up: a later number takes the place where e is less there
+unfoldable pub firstLeast : (ℕ → ℕ) → ℕ → ℕ
+firstLeast e zero = 0
+firstLeast e (suc n) = cond (ltb (e n) (e (firstLeast e n))) n (firstLeast e n)
 
--- the largest block: the least that a filling's frame has. Fillings differ in the last block alone, so a frame of least energy has it
-unfoldable pub quietLargest : ℕ → ℕ → ℕ → ℕ → List ℕ → ℕ
-unfolding leastOf filledFrame
-quietLargest k b f number bytes = leastOf (λ φ. largestBlock (filledFrame k b f number bytes φ)) (2 ^ f)
+-- the filling that is taken
+unfoldable pub quietFilling : ℕ → ℕ → ℕ → ℕ → List ℕ → ℕ
+unfolding firstLeast filledFrame energy
+quietFilling k b f number bytes = firstLeast (λ φ. energy (filledFrame k b f number bytes φ)) (2 ^ f)
+
+-- THE FRAME THAT IS SENT for a message whose free bits are 0: that filling's
+unfoldable pub quietFrame : ℕ → ℕ → ℕ → ℕ → List ℕ → List ℤ
+unfolding quietFilling filledFrame
+quietFrame k b f number bytes = filledFrame k b f number bytes (quietFilling k b f number bytes)

@@ -1,5 +1,5 @@
 -- What a reading takes from a frame: its message, and the number of the first test that is not passed
--- (document 01, "Shaping", last paragraph, and "Numbers"; request E7 for free bits, E8 for the range). Assumes nothing.
+-- (document 01, "Shaping", last paragraph, and "Numbers"; requests E7 and E10 for free bits, E8 for the range). Assumes nothing.
 use Prim.Native.Nat.{ℕ, zero, suc, _-_, _/_, _%_, _^_}
 use mathlib.Core.Bool.{Bool, true, false, _&&_, cond}
 use mathlib.Core.List.{List, [], _∷_, _++_, map}
@@ -15,8 +15,8 @@ use Rattle.e8.specs.Lattice.{part}
 use Rattle.e8.specs.Rows.{reduced}
 use Rattle.frames.specs.Kind.{brokenNumber, isKind, isGrade, degrees, levels, blocks, messageBytes}
 use Rattle.frames.specs.Message.{widths}
-use Rattle.frames.specs.Frame.{levelWord, numberedFrame}
-use Rattle.frames.specs.Free.{isFreeCount, filled, quietEnergy}
+use Rattle.frames.specs.Frame.{levelWord}
+use Rattle.frames.specs.Free.{isFreeCount, filled, quietFrame}
 use Rattle.frames.specs.Sending.{unless}
 
 -- the message bits of a level: backwards, the bits of the first masks of the order
@@ -109,21 +109,16 @@ openRefusal k b f frame n =
     (unless (inRange frame) 6
     (broken k 0 (degrees k) frame))))))
 
--- the frame is the one sent for its message under the number, free bits as they are
-unfoldable pub isSent : ℕ → ℕ → ℕ → List ℤ → Bool
-unfolding sameFrame numberedFrame openMessage
-isSent k b number frame = sameFrame frame (numberedFrame k b number (openMessage k b frame))
-
--- "strictly, it passes the frame of any least filling": that of its own filling, where its energy is the least of all fillings
-unfoldable pub isQuiet : ℕ → ℕ → ℕ → ℕ → List ℤ → Bool
-unfolding isSent fixedMessage quietEnergy energy
-isQuiet k b f number frame = isSent k b number frame && eqb (energy frame) (quietEnergy k b f number (fixedMessage k b f frame))
+-- "strict reading passes only that filling's frame": the frame is the one sent for its message under the number
+unfoldable pub isSent : ℕ → ℕ → ℕ → ℕ → List ℤ → Bool
+unfolding sameFrame quietFrame fixedMessage
+isSent k b f number frame = sameFrame frame (quietFrame k b f number (fixedMessage k b f frame))
 
 -- the strict reading under a number tests what the open reading does, and then 9
 unfoldable pub strictRefusal : ℕ → ℕ → ℕ → ℕ → List ℤ → ℕ → ℕ
-unfolding openRefusal isQuiet
+unfolding openRefusal isSent
 strictRefusal k b f number frame n =
-    cond (eqb (openRefusal k b f frame n) 0) (unless (isQuiet k b f number frame) 9 0) (openRefusal k b f frame n)
+    cond (eqb (openRefusal k b f frame n) 0) (unless (isSent k b f number frame) 9 0) (openRefusal k b f frame n)
 
 -- ---- what a reading that answers `refusal` leaves: the fixed bits and the frame's energy, or the lent bytes as they were and 0
 

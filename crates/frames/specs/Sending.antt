@@ -1,4 +1,4 @@
--- What sending answers: the number of the first test that is not passed, the frame and the energy (document 01, "Numbers"; request E7 for free bits).
+-- What sending answers: the number of the first test that is not passed, the frame and the energy (document 01, "Numbers"; requests E7 and E10 for free bits).
 -- Assumes nothing.
 use Prim.Native.Nat.{ℕ, zero, suc, _+_, _-_, _*_, _^_, _≤_, _<_}
 use mathlib.Core.Path.{_≡_}
@@ -10,8 +10,8 @@ use lib.IntN.{ℤ}
 use Rattle.bits.specs.Message.{messageBit}
 use Rattle.e8.specs.Energy.{energy, Within}
 use Rattle.frames.specs.Kind.{isKind, isGrade, messageBytes, scale}
-use Rattle.frames.specs.Frame.{SameClass, numberedFrame}
-use Rattle.frames.specs.Free.{isFreeCount, freeFrom, filledFrame, Quiet, quietEnergy}
+use Rattle.frames.specs.Frame.{SameClass}
+use Rattle.frames.specs.Free.{isFreeCount, freeFrom, filledFrame, quietFrame}
 
 -- one of the n bits from `from` on is set
 unfoldable pub anySet : (ℕ → ℕ) → ℕ → ℕ → Bool
@@ -42,20 +42,15 @@ sendRefusal k b f bytes n =
 abbrev pub Accepts : ℕ → ℕ → ℕ → List ℕ → Type 0
 Accepts k b f bytes = sendRefusal k b f bytes (2 ^ k) ≡ 0
 
--- ---- what sending under a number leaves, where it answers `refusal`: a quiet frame and the least energy, or the lent frame as it was and 0
+-- ---- what sending under a number leaves, where it answers `refusal`: the sent frame and its energy, or the lent frame as it was and 0
 
-pub record QuietAfter (refusal k b f number : ℕ) (bytes : List ℕ) (before after : List ℤ) : Type 0 where
-  pub sent : refusal ≡ 0 → Quiet k b f number bytes after
-  pub kept : (refusal ≡ 0 → ⊥) → after ≡ before
+unfoldable pub frameAfter : ℕ → ℕ → ℕ → ℕ → ℕ → List ℕ → List ℤ → List ℤ
+unfolding quietFrame
+frameAfter refusal k b f number bytes frame = cond (eqb refusal 0) (quietFrame k b f number bytes) frame
 
 unfoldable pub energySent : ℕ → ℕ → ℕ → ℕ → ℕ → List ℕ → ℕ
-unfolding quietEnergy
-energySent refusal k b f number bytes = cond (eqb refusal 0) (quietEnergy k b f number bytes) 0
-
--- the lent frame where no bit is free, and so no choice: the frame of the number, or as it was
-unfoldable pub frameAfter : ℕ → ℕ → ℕ → ℕ → List ℕ → List ℤ → List ℤ
-unfolding numberedFrame
-frameAfter refusal k b number bytes frame = cond (eqb refusal 0) (numberedFrame k b number bytes) frame
+unfolding quietFrame energy
+energySent refusal k b f number bytes = cond (eqb refusal 0) (energy (quietFrame k b f number bytes)) 0
 
 -- what sending promises of the frame that it wrote and of the energy e that it reports: e is the frame's energy, every integer frame
 -- that differs from it by a point of the shaping lattice has at least that, and no coordinate is larger than M in size

@@ -1,14 +1,12 @@
--- The least value of a function over a range, and a search from 0 up for the smallest number that has it. For any function and any range. Assumes nothing.
-use Prim.Native.Nat.{ℕ, zero, suc, min, _≤_, _<_}
+-- A search from 0 up for the smallest number at which a function is least. For any function and any range. Assumes nothing.
+use Prim.Native.Nat.{ℕ, zero, suc, _≤_, _<_}
 use mathlib.Core.Path.{_≡_, refl, ap}
 use mathlib.Core.Bool.{Bool, true, false, cond}
-use native.Mathlib.Nat.{le-trans, le-antisymm, min-le-left, min-le-right, le-min}
 use native.Mathlib.Decide.{decLt}
 use native.Mathlib.Omega.{arith}
 use lib.Dec.{ltb}
 use borrow.Author.Tests.{ltb-true, ltb-false}
-use Rattle.frames.specs.Free.{leastOf}
-use Rattle.free_bits.specs.Search.{firstLeast}
+use Rattle.frames.specs.Free.{firstLeast}
 
 -- x is the smallest of the numbers below n at which e is least
 pub record IsFirst (e : ℕ → ℕ) (n x : ℕ) : Type 0 where
@@ -79,25 +77,3 @@ firstLeast-ext {e} {d} (suc n) h =
       least = λ j l. omega (arith, i .least j l, h j l, h (firstLeast e (suc n)) (i .below));
       first = λ j l. omega (arith, i .first j l, h j (omega (arith, i .below)), h (firstLeast e (suc n)) (i .below));
     }) (firstLeast-is d n)
-
--- ---- the least value
-
--- no value below n is less
-pub least-low : (e : ℕ → ℕ) (n i : ℕ) → i < n → leastOf e n ≤ e i
-unfolding leastOf
-least-low e zero i h = absurd (omega arith)
-least-low e (suc n) i h = go (decLt i n) (least-low e n i)
-  where
-    go : Dec (i < n) → (i < n → leastOf e n ≤ e i) → min (leastOf e n) (e n) ≤ e i
-    go (yes l) ih = le-trans (min-le-left (leastOf e n) (e n)) (ih l)
-    go (no l) ih = let z : i ≡ n = omega arith in let s : e i ≡ e n = ap e z in omega (arith, min-le-right (leastOf e n) (e n))
-
--- what is at most every value is at most the least
-low-least : (e : ℕ → ℕ) (n x : ℕ) → x ≤ e 0 → ((i : ℕ) → i < n → x ≤ e i) → x ≤ leastOf e n
-unfolding leastOf
-low-least e zero x z h = z
-low-least e (suc n) x z h = le-min (low-least e n x z (λ i l. h i (omega arith))) (h n (omega arith))
-
--- a value that none below n is less than is the least
-pub leastOf-is : (e : ℕ → ℕ) (n x : ℕ) → x < n → ((i : ℕ) → i < n → e x ≤ e i) → e x ≡ leastOf e n
-leastOf-is e n x h l = le-antisymm (low-least e n (e x) (l 0 (omega arith)) l) (least-low e n x h)

@@ -4,7 +4,7 @@ use Prim.Native.Nat.{ℕ, zero, suc, _+_, _-_, _*_, _/_, _%_, _^_, _≤_, _<_}
 use mathlib.Core.Path.{_≡_, refl, sym, ap, ap₂, _∙_, fun-ext}
 use mathlib.Core.Bool.{Bool, true}
 use mathlib.Core.List.{List, [], _∷_, _++_}
-use native.Mathlib.Nat.{mul-le-mul-left, le-trans, max-le, le-max-left, le-max-right, le-of-eq}
+use native.Mathlib.Nat.{mul-le-mul-left, le-trans, max-le, le-max-left, le-max-right, le-of-eq, le-antisymm}
 use native.Mathlib.Decide.{decLt}
 use native.Mathlib.Omega.{arith}
 use lib.ListN.{length, getD}
@@ -21,20 +21,21 @@ use Rattle.e8.specs.Largest.{largestTo, largestBlock}
 use Rattle.e8.specs.Ties.{leastBlockBy, leastFrameBy}
 use Rattle.e8.proofs.Order.{energy-append}
 use Rattle.e8.proofs.Ties.{leastFrameBy-none, leastFrameBy-snoc, leastFrameBy-part}
-use Rattle.frames.specs.Kind.{isKind, degrees, blocks, dimensions, levelBits, messageBits}
+use Rattle.frames.specs.Kind.{isKind, isGrade, degrees, blocks, dimensions, levelBits, messageBits}
 use Rattle.frames.specs.Message.{widths, numbers, blockNumbers, stacked, coordinate, leader}
 use Rattle.frames.specs.Frame.{half, isOdd, numberedFrame}
-use Rattle.frames.specs.Free.{freeFrom, filled, filledFrame, Quiet, leastOf, quietLargest}
+use Rattle.frames.specs.Free.{isFreeCount, freeFrom, filled, filledFrame, Quiet, firstLeast, quietFilling, quietFrame}
+use Rattle.frames.specs.Demands.{SameTaken, QuietSent}
 use Rattle.frames.proofs.Numbers.{total, total-widths}
 use Rattle.frames.proofs.Frame.{part-length, part-at}
 use Rattle.frames.proofs.One.{leader-at}
+use Rattle.frames.proofs.Rows.{grade-low}
 use Rattle.frames.proofs.Limits.{some-block, whole-blocks}
 use Rattle.frames.proofs.Demands.{half-pos, leader-blocks}
 use Rattle.frames.proofs.Numbered.{same-largest-sent}
-use Rattle.free_bits.specs.Search.{firstLeast, quietFilling}
-use Rattle.free_bits.proofs.First.{IsFirst, firstLeast-at, first-only, leastOf-is}
+use Rattle.free_bits.proofs.First.{IsFirst, firstLeast-at, first-only}
 use Rattle.free_bits.proofs.Filled.{filled-fixed}
-use Rattle.free_bits.proofs.Fillings.{filled-frame-long}
+use Rattle.free_bits.proofs.Fillings.{free-few, quiet-is, quiet-energy, same-filling, quiet-either, filled-frame-long}
 
 -- ---- what hangs on the first bits alone
 
@@ -220,14 +221,31 @@ module _ (k b f number : ℕ) (kind : isKind k ≡ true) (low : 1 ≤ b) (few : 
       to : (n : ℕ) → ((i : ℕ) → i < n → energy (part i (frameOf φ)) ≤ energy (part i (frameOf ψ))) → largestTo n (frameOf φ) ≤ largestTo n (frameOf ψ)
       to = largest-mono (frameOf φ) (frameOf ψ)
 
-  -- EVERY QUIET FRAME has the least largest block of the fillings' frames
-  pub quiet-largest : (g : List ℤ) → Quiet k b f number bytes g → largestBlock g ≡ quietLargest k b f number bytes
-  unfolding quietLargest
-  quiet-largest g i = ap largestBlock (i .sent)
-      ∙ leastOf-is (λ φ. largestBlock (frameOf φ)) (2 ^ f) (i .φ) (i .least .below) (λ ψ h. largest-order (i .φ) ψ (i .least .least ψ h))
+  -- EVERY QUIET FRAME has the largest block of the one that is sent
+  pub quiet-largest : (g : List ℤ) → Quiet k b f number bytes g → largestBlock g ≡ largestBlock (quietFrame k b f number bytes)
+  quiet-largest g i =
+      let q = quiet-is k b f number bytes in
+      ap largestBlock (i .sent) ∙ le-antisymm
+      (largest-order (i .φ) (q .φ) (i .least .least (q .φ) (q .least .below))) (largest-order (q .φ) (i .φ) (q .least .least (i .φ) (i .least .below)))
+      ∙ sym (ap largestBlock (q .sent))
 
--- under every number it is the same
-pub largest-either : (k b f number other : ℕ) → isKind k ≡ true → (bytes : List ℕ) → quietLargest k b f number bytes ≡ quietLargest k b f other bytes
-unfolding quietLargest filledFrame
-largest-either k b f number other kind bytes =
-    ap (λ (e : ℕ → ℕ). leastOf e (2 ^ f)) (fun-ext (λ φ. same-largest-sent k b kind number other (filled k b f φ bytes)))
+-- ---- request E7's promise of what is sent, and that nothing of it hangs on the number
+
+pub quiet-sent : (k b f number : ℕ) → isKind k ≡ true → isGrade b ≡ true → isFreeCount f ≡ true → (bytes : List ℕ) → QuietSent k b f number bytes
+quiet-sent k b f number kind grade few bytes = record {
+  quiet = quiet-is k b f number bytes;
+  energy-alike = quiet-energy k b f number bytes;
+  largest-alike = quiet-largest k b f number kind (grade-low b grade) (free-few f few) bytes;
+}
+
+pub same-taken : (k b f number other : ℕ) → isKind k ≡ true → (bytes : List ℕ) → SameTaken k b f number other bytes
+unfolding quietFrame filledFrame
+same-taken k b f number other kind bytes = record {
+  filling = same;
+  same-energy = quiet-either k b f kind bytes number other;
+  same-largest = same-largest-sent k b kind number other (filled k b f (quietFilling k b f number bytes) bytes)
+      ∙ ap (λ (φ : ℕ). largestBlock (filledFrame k b f other bytes φ)) same;
+}
+  where
+    same : quietFilling k b f number bytes ≡ quietFilling k b f other bytes
+    same = same-filling k b f kind bytes number other

@@ -1,24 +1,21 @@
--- WHAT IS SENT READS BACK, with free bits (request E7): reading a filling's frame, one message and filling for each frame of the coding set, distances, and
+-- WHAT IS SENT READS BACK, with free bits (requests E7 and E10): reading a filling's frame, one message and filling for each frame of the coding set, distances, and
 -- what stays where no bit is free. For every kind of the table, every grade, free count and number. Assumes nothing.
 use Prim.Native.Nat.{ℕ, _-_, _*_, _^_, _≤_, _<_}
-use mathlib.Core.Path.{_≡_, refl, sym, ap, _∙_, subst}
-use mathlib.Core.Bool.{Bool, true, false, cond}
+use mathlib.Core.Path.{_≡_, sym, ap, _∙_, subst}
+use mathlib.Core.Bool.{true, cond}
 use mathlib.Core.List.{List}
-use native.Mathlib.Nat.{le-of-eq, le-trans}
 use native.Mathlib.Omega.{arith}
 use lib.Dec.{eqb}
-use borrow.Author.Tests.{eqb-true, eqb-false}
 use lib.Pow.{pow-pos}
 use lib.ListN.{length}
 use lib.IntN.{ℤ}
 use Rattle.bits.specs.Message.{messageBit}
 use Rattle.e8.specs.Energy.{energy, distance}
-use Rattle.e8.specs.Largest.{largestBlock}
 use Rattle.frames.specs.Kind.{isKind, isGrade, messageBits, messageBytes}
 use Rattle.frames.specs.Message.{Bytes, Message}
 use Rattle.frames.specs.Frame.{InCodingSet, SameClass, numberedFrame, leastDistance}
-use Rattle.frames.specs.Free.{isFreeCount, freeFrom, filled, FreeMessage, filledFrame, Quiet, quietEnergy, quietLargest}
-use Rattle.frames.specs.Sending.{anySet, unless, sendRefusal, freeSet, Accepts, QuietAfter, frameAfter}
+use Rattle.frames.specs.Free.{isFreeCount, freeFrom, filled, FreeMessage, filledFrame, quietFilling, quietFrame}
+use Rattle.frames.specs.Sending.{anySet, unless, sendRefusal, freeSet, Accepts}
 use Rattle.frames.specs.Reading.{openMessage, fixedMessage}
 use Rattle.frames.specs.Demands.{OneFilling, Quieter, FixedApart, NoneFree}
 use Rattle.frames.proofs.Accepted.{accepted-exactly, free-accepted}
@@ -27,8 +24,7 @@ use Rattle.frames.proofs.Bounds.{sent-energy}
 use Rattle.frames.proofs.Reading.{open-gives-the-one, read-sent}
 use Rattle.free_bits.proofs.Filled.{filling, filled-fixed, filled-twice, filling-below, filled-filling, filled-own, filled-clear}
 use Rattle.free_bits.proofs.Filled.{filling-filled, filled-message, cleared-message, filled-none}
-use Rattle.free_bits.proofs.First.{least-low, leastOf-is}
-use Rattle.free_bits.proofs.Fillings.{free-room, quiet-energy, none-filled}
+use Rattle.free_bits.proofs.Fillings.{free-room, first-taken, none-quiet}
 
 module _ (k b f : ℕ) (kind : isKind k ≡ true) (grade : isGrade b ≡ true) (few : isFreeCount f ≡ true) where
   room : f ≤ messageBits k b
@@ -39,16 +35,19 @@ module _ (k b f : ℕ) (kind : isKind k ≡ true) (grade : isGrade b ≡ true) (
   unfolding filledFrame
   filled-in-set number bytes φ = sent-in-set k b kind grade number (filled k b f φ bytes)
 
+  pub quiet-in-set : (number : ℕ) (bytes : List ℕ) → InCodingSet k (quietFrame k b f number bytes)
+  unfolding quietFrame
+  quiet-in-set number bytes = filled-in-set number bytes (quietFilling k b f number bytes)
+
   -- openly read without free bits it gives the filling
   pub filled-read : (number : ℕ) (bytes : List ℕ) (φ : ℕ) → Message k b bytes → openMessage k b (filledFrame k b f number bytes φ) ≡ filled k b f φ bytes
   unfolding filledFrame
   filled-read number bytes φ m = read-sent k b kind grade number (filled k b f φ bytes) (filled-message k b f room φ bytes m)
 
   -- an account has room for the energy of what is sent
-  pub quiet-energy-small : (number : ℕ) (bytes : List ℕ) → quietEnergy k b f number bytes ≤ 2 ^ 20
-  unfolding filledFrame quietEnergy
-  quiet-energy-small number bytes = le-trans (least-low (λ φ. energy (filledFrame k b f number bytes φ)) (2 ^ f) 0 (pow-pos f))
-      (sent-energy k b number (filled k b f 0 bytes) kind grade)
+  pub quiet-energy-small : (number : ℕ) (bytes : List ℕ) → energy (quietFrame k b f number bytes) ≤ 2 ^ 20
+  unfolding filledFrame quietFrame
+  quiet-energy-small number bytes = sent-energy k b number (filled k b f (quietFilling k b f number bytes) bytes) kind grade
 
   -- ---- reading
 
@@ -75,10 +74,6 @@ module _ (k b f : ℕ) (kind : isKind k ≡ true) (grade : isGrade b ≡ true) (
   pub read-fixed : (number : ℕ) (bytes : List ℕ) (φ : ℕ) → FreeMessage k b f bytes → fixedMessage k b f (filledFrame k b f number bytes φ) ≡ bytes
   unfolding fixedMessage
   read-fixed number bytes φ m = ap (filled k b f 0) (filled-read number bytes φ (m .message)) ∙ filled-clear k b f φ bytes m
-
-  -- whichever quiet frame was sent
-  pub read-quiet : (number : ℕ) (bytes : List ℕ) (g : List ℤ) → FreeMessage k b f bytes → Quiet k b f number bytes g → fixedMessage k b f g ≡ bytes
-  read-quiet number bytes g m i = ap (fixedMessage k b f) (i .sent) ∙ read-fixed number bytes (i .φ) m
 
   -- what is read, filled with what stands in its free bits, is the whole message
   pub fixed-filled : (frame : List ℤ) → InCodingSet k frame
@@ -120,10 +115,10 @@ module _ (k b : ℕ) (kind : isKind k ≡ true) (grade : isGrade b ≡ true) whe
 
 -- "Messages that differ in a fixed bit keep their distance", whatever their fillings, numbers and free counts
 pub fixed-apart : (k b f g number other : ℕ) (x y : List ℕ) → Bytes x → Bytes y → Accepts k b f x → Accepts k b g y → FixedApart k b f g number other x y
+unfolding quietFrame
 fixed-apart k b f g number other x y bx by ax ay = record {
   fillings = away;
-  sent = λ i h l ne s t p q. subst (λ (z : List ℤ). leastDistance k ≤ distance s z) (sym (q .sent))
-      (subst (λ (z : List ℤ). leastDistance k ≤ distance z (filledFrame k b g other y (q .φ))) (sym (p .sent)) (away i h l ne (p .φ) (q .φ)));
+  sent = sent;
 }
   where
     away : (i : ℕ) → i < freeFrom k b f → i < freeFrom k b g → (messageBit x i ≡ messageBit y i → ⊥)
@@ -134,14 +129,17 @@ fixed-apart k b f g number other x y bx by ax ay = record {
         far k b (u .kind) (u .grade) f g number other (u .few) (v .few) φ ψ x y (u .message .message) (v .message .message)
         (λ e. ne (sym (filled-fixed k b f φ x i h) ∙ ap (λ (z : List ℕ). messageBit z i) e ∙ filled-fixed k b g ψ y i l))
 
+    sent : (i : ℕ) → i < freeFrom k b f → i < freeFrom k b g → (messageBit x i ≡ messageBit y i → ⊥)
+        → leastDistance k ≤ distance (quietFrame k b f number x) (quietFrame k b g other y)
+    sent i h l ne = away i h l ne (quietFilling k b f number x) (quietFilling k b g other y)
+
 -- "never more energy than without free bits"
 pub quieter : (k b f number : ℕ) (bytes : List ℕ) → Bytes bytes → Accepts k b f bytes → Quieter k b f number bytes
-unfolding filledFrame
+unfolding filledFrame quietFrame
 quieter k b f number bytes each e = record {
-  energy-at-most = λ frame i. omega (
+  energy-at-most = omega (
     arith,
-    ap energy (i .sent),
-    i .least .least 0 (pow-pos f),
+    first-taken k b f number bytes .first .least .least 0 (pow-pos f),
     ap (λ (x : List ℕ). energy (numberedFrame k b number x)) (filled-own k b f bytes (accepted-exactly k b f bytes (2 ^ k) each .sendable e .message)),
   );
 }
@@ -149,42 +147,17 @@ quieter k b f number bytes each e = record {
 -- ---- where f is 0, for any bytes at all
 
 pub none-free : (k b number : ℕ) (bytes : List ℕ) (n : ℕ) → NoneFree k b number bytes n
-unfolding sendRefusal isFreeCount freeSet freeFrom quietLargest
+unfolding sendRefusal isFreeCount freeSet freeFrom
 none-free k b number bytes n = record {
   tests = ap (λ (i : ℕ).
       unless (isKind k) 1 (unless (isGrade b) 2 (unless (eqb (length bytes) (messageBytes k b)) 3 (unless (eqb n (2 ^ k)) 4
       (cond (anySet (messageBit bytes) i (8 * messageBytes k b - i)) 5 0))))) from;
-  quiet = same;
-  only = λ frame i. i .sent ∙ none-filled k b number bytes (i .φ);
-  least = sym (quiet-energy k b 0 number bytes (numberedFrame k b number bytes) same);
-  largest = sym (leastOf-is (λ φ. largestBlock (filledFrame k b 0 number bytes φ)) 1 0 (omega arith) (λ i l. one largestBlock i))
-      ∙ ap largestBlock (none-filled k b number bytes 0);
+  sent = none-quiet k b number bytes;
 }
   where
     from : messageBits k b - 0 ≡ messageBits k b
     from = omega arith
 
-    -- every filling has the frame of the number
-    one : (e : List ℤ → ℕ) (i : ℕ) → e (filledFrame k b 0 number bytes 0) ≤ e (filledFrame k b 0 number bytes i)
-    one e i = le-of-eq (ap e (none-filled k b number bytes 0 ∙ sym (none-filled k b number bytes i)))
-
-    same : Quiet k b 0 number bytes (numberedFrame k b number bytes)
-    same = record { φ = 0; least = record { below = omega arith; least = λ ψ h. one energy ψ }; sent = sym (none-filled k b number bytes 0) }
-
 pub none-fixed : (k b : ℕ) → isKind k ≡ true → isGrade b ≡ true → (frame : List ℤ) → InCodingSet k frame → fixedMessage k b 0 frame ≡ openMessage k b frame
 unfolding fixedMessage
 none-fixed k b kind grade frame set = filled-none k b 0 (openMessage k b frame) (read-message k b kind grade frame set .each)
-
--- ---- for a caller that leaves no bit free: what is left is an equation
-
-pub whole-quiet : {k b number : ℕ} {x y : List ℕ} {frame : List ℤ} → x ≡ y → Quiet k b 0 number x frame → frame ≡ numberedFrame k b number y
-whole-quiet {k} {b} {number} {x} {y} {frame} e q = none-free k b number x 0 .only frame q ∙ ap (numberedFrame k b number) e
-
-pub whole-frame : (refusal k b number : ℕ) (bytes : List ℕ) (before after : List ℤ) → QuietAfter refusal k b 0 number bytes before after
-    → after ≡ frameAfter refusal k b number bytes before
-unfolding frameAfter
-whole-frame refusal k b number bytes before after q = go (eqb refusal 0) refl
-  where
-    go : (t : Bool) → eqb refusal 0 ≡ t → after ≡ cond t (numberedFrame k b number bytes) before
-    go true z = none-free k b number bytes 0 .only after (q .sent (eqb-true refusal 0 z))
-    go false z = q .kept (eqb-false refusal 0 z)

@@ -13,10 +13,10 @@ use Rattle.e8.specs.Rows.{reduced}
 use Rattle.frames.specs.Kind.{kinds, isKind, isGrade, degrees, levels, levelBits, messageBits, messageBytes}
 use Rattle.frames.specs.Message.{numbers, blockNumbers, stacked, coordinate, leader}
 use Rattle.frames.specs.Frame.{weightBit, half, isOdd, numberedFrame, sentFrame}
-use Rattle.frames.specs.Free.{isFreeCount, freeFrom, filled, filledFrame, leastOf, quietEnergy}
+use Rattle.frames.specs.Free.{isFreeCount, freeFrom, filled, filledFrame, firstLeast, quietFilling, quietFrame}
 use Rattle.frames.specs.Sending.{anySet, freeSet, sendRefusal}
 use Rattle.frames.specs.Reading.{levelMessage, levelMessages, quotients, digits, allDigits, blockMessages, readBits, openMessage}
-use Rattle.frames.specs.Reading.{fixedMessage, sameFrame, inRange, broken, openRefusal, isSent, isQuiet, strictRefusal, energyRead}
+use Rattle.frames.specs.Reading.{fixedMessage, sameFrame, inRange, broken, openRefusal, isSent, strictRefusal, energyRead}
 use Rattle.frames.specs.Exam.{sentAs, examined, Numbered, sentUnder}
 use Rattle.long_frames.specs.Cases.{layout, numbered, KindSixTests, WideCases}
 
@@ -33,7 +33,7 @@ unfolding numberedFrame isOdd half leastFrameBy leastFrame leastBlock best bette
 numbered-frames = refl
 
 pub kind-six-tests : KindSixTests
-unfolding openRefusal strictRefusal isQuiet isSent isFreeCount fixedMessage filled freeFrom withBits quietEnergy leastOf filledFrame sameFrame openMessage readBits levelMessages levelMessage blockMessages quotients allDigits digits
+unfolding openRefusal strictRefusal isSent isFreeCount fixedMessage filled freeFrom withBits quietFrame quietFilling firstLeast filledFrame sameFrame openMessage readBits levelMessages levelMessage blockMessages quotients allDigits digits
     inRange isWithin broken weightBit isKind isGrade sendRefusal freeSet anySet messageBytes messageBits
     numberedFrame isOdd half leastFrameBy leastFrame leastBlock best better cent before energy sq leader coordinate stacked blockNumbers numbers
     degrees kinds levels levelBits sumTo codeword order dimension masks ofWeight table messageBit bytesOf byteOf backwards belongs clearAbove reduced ones
@@ -53,7 +53,7 @@ kind-six-tests = record {
 }
 
 pub wide-cases : WideCases
-unfolding energyRead openRefusal strictRefusal isQuiet isSent isFreeCount fixedMessage filled freeFrom withBits quietEnergy leastOf filledFrame sameFrame openMessage readBits levelMessages levelMessage blockMessages quotients allDigits digits
+unfolding energyRead openRefusal strictRefusal isSent isFreeCount fixedMessage filled freeFrom withBits quietFrame quietFilling firstLeast filledFrame sameFrame openMessage readBits levelMessages levelMessage blockMessages quotients allDigits digits
     inRange isWithin broken weightBit isKind isGrade sendRefusal freeSet anySet messageBytes messageBits
     numberedFrame isOdd half leastFrameBy leastFrame leastBlock best better cent before energy sq leader coordinate stacked blockNumbers numbers
     degrees kinds levels levelBits sumTo codeword order dimension masks ofWeight table messageBit bytesOf byteOf backwards belongs clearAbove reduced ones

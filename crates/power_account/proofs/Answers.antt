@@ -1,18 +1,19 @@
 -- The refusal of sending with an account by its tests, the account by the refusal, and the energies that are counted. Assumes nothing.
-use Prim.Native.Nat.{ℕ, _^_}
+use Prim.Native.Nat.{ℕ}
 use mathlib.Core.Path.{_≡_, refl}
 use mathlib.Core.Bool.{Bool, true, false, cond}
 use mathlib.Core.List.{List}
 use native.Mathlib.Omega.{arith}
 use lib.Dec.{eqb}
 use borrow.Author.Tests.{ne-eqb, eqb-true, eqb-false}
-use Rattle.frames.specs.Free.{quietEnergy, quietLargest}
+use Rattle.e8.specs.Energy.{energy}
+use Rattle.frames.specs.Free.{quietFrame}
 use Rattle.frames.specs.Sending.{sendRefusal}
 use Rattle.frames.proofs.Limits.{kind-high}
 use Rattle.frames.proofs.Accepted.{all-passed}
 use Rattle.free_bits.proofs.ReadBack.{quiet-energy-small}
 use Rattle.power_account.specs.declared.Account.{Account}
-use Rattle.power_account.specs.Power.{Measured, full, grownWith}
+use Rattle.power_account.specs.Power.{Measured, full, grown}
 use Rattle.power_account.specs.Counted.{numberFor, countedRefusal, countedAccount}
 
 -- ---- the refusal, by the tests
@@ -53,13 +54,12 @@ module _ (refusal k b f : ℕ) (m : List ℕ) (a : Account) where
   unfolding countedAccount
   account-refused h = rw (ne-eqb refusal 0 h)
 
-  pub account-sent : refusal ≡ 0
-      → countedAccount refusal k b f m a ≡ grownWith a (quietEnergy k b f (numberFor a) m) (2 ^ k) (quietLargest k b f (numberFor a) m)
+  pub account-sent : refusal ≡ 0 → countedAccount refusal k b f m a ≡ grown a (quietFrame k b f (numberFor a) m)
   unfolding countedAccount
   account-sent z = rw z
 
 -- what is sent for a message that is accepted, under any number, has a power
-pub measured : (k b f number : ℕ) (m : List ℕ) (n : ℕ) → sendRefusal k b f m n ≡ 0 → (e : ℕ) → e ≡ quietEnergy k b f number m → Measured e n
+pub measured : (k b f number : ℕ) (m : List ℕ) (n : ℕ) → sendRefusal k b f m n ≡ 0 → (e : ℕ) → e ≡ energy (quietFrame k b f number m) → Measured e n
 measured k b f number m n z e q =
     let p = all-passed k b f m n z in
     record {

@@ -1,28 +1,26 @@
 -- The changeover of an account: it stays, it parts the frames by their rule, no figure and no answer hangs on it, and the strict reading takes each
 -- frame under the number that it gave. Assumes nothing.
-use Prim.Native.Nat.{ℕ, max, _+_, _^_, _<_, _≤_}
-use mathlib.Core.Path.{_≡_, refl, sym, ap, ap₂, _∙_, subst}
+use Prim.Native.Nat.{ℕ, max, _+_, _<_, _≤_}
+use mathlib.Core.Path.{_≡_, refl, sym, ap, ap₂, _∙_}
 use mathlib.Core.Bool.{Bool, true, false, cond}
 use mathlib.Core.List.{List, [], _∷_}
 use lib.Dec.{eqb}
-use lib.IntN.{ℤ}
 use lib.ListN.{length, getD}
 use lib.Ieee.{binary64, add}
 use borrow.Author.Tests.{eqb-true, le-leb, lt-leb}
 use Rattle.frames.specs.Message.{Bytes}
 use Rattle.frames.specs.Frame.{sentFrame}
-use Rattle.frames.specs.Free.{Quiet}
+use Rattle.frames.specs.Free.{quietFrame}
 use Rattle.frames.specs.Demands.{ReadBack}
 use Rattle.frames.proofs.Numbered.{number-zero}
-use Rattle.free_bits.proofs.Fillings.{quiet-either}
-use Rattle.free_bits.proofs.LastBlock.{largest-either}
-use Rattle.free_bits.proofs.ReadBack.{none-free}
+use Rattle.free_bits.proofs.Fillings.{none-quiet}
+use Rattle.free_bits.proofs.LastBlock.{same-taken}
 use Rattle.free_bits.proofs.Strict.{read-back}
 use Rattle.power_account.specs.declared.Account.{Account}
 use Rattle.power_account.specs.Power.{powerOf}
 use Rattle.power_account.specs.Counted.{numberFor, countedRefusal}
-use Rattle.power_account.specs.History.{Call, answer, after, accountAfter, QuietOf, SentBy, accepted, noCall, SameFigures}
-use Rattle.power_account.proofs.History.{sends, tests, after-sent, after-refused, after-changeover, history-numbered}
+use Rattle.power_account.specs.History.{Call, answer, after, accountAfter, sentBy, accepted, frameUnder, noCall, SameFigures}
+use Rattle.power_account.proofs.History.{sends, tests, frame-length, after-sent, after-refused, after-changeover, history-numbered}
 
 -- the changeover stays
 pub changeover-kept : (a : Account) (cs : List Call) → accountAfter a cs .changeover ≡ a .changeover
@@ -32,25 +30,28 @@ changeover-kept a (c ∷ cs) = changeover-kept (after a c) cs ∙ after-changeov
 
 -- ---- "FRAMES BELOW IT FOLLOW THE OLD RULE AND THOSE FROM IT ON THE NEW": frame i of the history of any account, and the call that sent it
 
-module _ (a : Account) (cs : List Call) (fs : List (List ℤ)) (s : SentBy a cs fs) (i : ℕ) (h : i < length fs) where
+module _ (a : Account) (cs : List Call) (i : ℕ) (h : i < length (sentBy a cs)) where
   -- that call
   abbrev sender : Call
   sender = getD (accepted a cs) i noCall
 
-  -- below it, a frame of number 0
-  pub old-below : a .count + i < a .changeover → QuietOf 0 sender (getD fs i [])
-  old-below l = rw (lt-leb (a .changeover) (a .count + i) l) at (history-numbered a cs fs s .each i h)
+  -- below it, that of number 0
+  pub old-below : a .count + i < a .changeover → getD (sentBy a cs) i [] ≡ frameUnder 0 sender
+  old-below l =
+      let z = lt-leb (a .changeover) (a .count + i) l in
+      history-numbered a cs .each i h ∙ ap (λ (v : Bool). frameUnder (cond v (a .count + i) 0) sender) z
 
   -- which is document 01's frame where no bit is free
-  pub old-frame : a .count + i < a .changeover → sender .free ≡ 0 → getD fs i [] ≡ sentFrame (sender .kind) (sender .grade) (sender .message)
+  pub old-frame : a .count + i < a .changeover → sender .free ≡ 0 → getD (sentBy a cs) i [] ≡ sentFrame (sender .kind) (sender .grade) (sender .message)
   old-frame l z =
-      none-free (sender .kind) (sender .grade) 0 (sender .message) 0 .only (getD fs i [])
-      (subst (λ (f : ℕ). Quiet (sender .kind) (sender .grade) f 0 (sender .message) (getD fs i [])) z (old-below l))
-      ∙ number-zero (sender .kind) (sender .grade) (sender .message)
+      old-below l ∙ ap (λ (f : ℕ). quietFrame (sender .kind) (sender .grade) f 0 (sender .message)) z
+      ∙ none-quiet (sender .kind) (sender .grade) 0 (sender .message) ∙ number-zero (sender .kind) (sender .grade) (sender .message)
 
-  -- from it on, one of the count before it
-  pub new-from : a .changeover ≤ a .count + i → QuietOf (a .count + i) sender (getD fs i [])
-  new-from l = rw (le-leb (a .changeover) (a .count + i) l) at (history-numbered a cs fs s .each i h)
+  -- from it on, that of the count before it
+  pub new-from : a .changeover ≤ a .count + i → getD (sentBy a cs) i [] ≡ frameUnder (a .count + i) sender
+  new-from l =
+      let z = le-leb (a .changeover) (a .count + i) l in
+      history-numbered a cs .each i h ∙ ap (λ (v : Bool). frameUnder (cond v (a .count + i) 0) sender) z
 
 -- ---- NO BREAK IN ITS FIGURES: accounts that hold the same but for their changeover
 
@@ -68,12 +69,12 @@ module _ {a b : Account} (s : SameFigures a b) (c : Call) where
       go true q =
           let e = eqb-true _ _ q in
           let p = tests a c e in
-          let same-energy = quiet-either (c .kind) (c .grade) (c .free) (p .kind) (c .message) (numberFor a) (numberFor b) in
-          let same-largest = largest-either (c .kind) (c .grade) (c .free) (numberFor a) (numberFor b) (p .kind) (c .message) in
+          let n = frame-length a c e (numberFor a) ∙ sym (frame-length a c e (numberFor b)) in
+          let same = same-taken (c .kind) (c .grade) (c .free) (numberFor a) (numberFor b) (p .kind) (c .message) in
           rw (after-sent a c q, after-sent b c (ap (λ (x : ℕ). eqb x 0) (sym same-answer) ∙ q)) (record {
             count = ap (λ (x : ℕ). x + 1) (s .count);
-            sum = ap₂ (add binary64) (s .sum) (ap (λ (x : ℕ). powerOf x (2 ^ c .kind)) same-energy);
-            largest = ap₂ max (s .largest) same-largest;
+            sum = ap₂ (add binary64) (s .sum) (ap₂ powerOf (same .same-energy) n);
+            largest = ap₂ max (s .largest) (same .same-largest);
           })
       go false q = rw (after-refused a c q, after-refused b c (ap (λ (x : ℕ). eqb x 0) (sym same-answer) ∙ q)) s
 
@@ -91,8 +92,7 @@ same-accepted s (c ∷ cs) = ap₂ (λ (x : ℕ) (ds : List Call). cond (eqb x 0
 
 -- ---- the strict reading
 
--- WHAT IS SENT WITH AN ACCOUNT, whichever quiet frame, is taken by the strict reading under the number that the account had for it, and gives the message
--- back
+-- WHAT IS SENT WITH AN ACCOUNT is taken by the strict reading under the number that the account had for it, and gives the message back
 pub sent-strictly : (a : Account) (c : Call) → Bytes (c .message) → answer a c ≡ 0 → ReadBack (c .kind) (c .grade) (c .free) (numberFor a) (c .message)
 sent-strictly a c each e =
     let n = tests a c e .coordinates in

@@ -1,14 +1,14 @@
--- Sending with an account (document 01, "The two readings, power, account", request E5 for the number and E7 for free bits): what it answers, for any
+-- Sending with an account (document 01, "The two readings, power, account", request E5 for the number, E7 and E10 for free bits): what it answers, for any
 -- message, frame and account. What it leaves in the lent frame, and the energy, are those of sending under numberFor by the refusal that is answered:
--- QuietAfter and energySent of frames. Assumes nothing.
-use Prim.Native.Nat.{ℕ, _^_}
+-- frameAfter and energySent of frames. Assumes nothing.
+use Prim.Native.Nat.{ℕ}
 use mathlib.Core.Bool.{cond}
 use mathlib.Core.List.{List}
 use lib.Dec.{eqb, leb}
-use Rattle.frames.specs.Free.{quietEnergy, quietLargest}
+use Rattle.frames.specs.Free.{quietFrame}
 use Rattle.frames.specs.Sending.{sendRefusal}
 use Rattle.power_account.specs.declared.Account.{Account}
-use Rattle.power_account.specs.Power.{full, grownWith}
+use Rattle.power_account.specs.Power.{full, grown}
 
 -- the number of frame i with an account of this changeover: "frames below it follow the old rule", which is number 0's, "and those from it on the new",
 -- which is that of their own number
@@ -24,8 +24,7 @@ unfoldable pub countedRefusal : ℕ → ℕ → ℕ → List ℕ → ℕ → Acc
 unfolding sendRefusal
 countedRefusal k b f bytes n a = cond (eqb (sendRefusal k b f bytes n) 0) (cond (full a) 11 0) (sendRefusal k b f bytes n)
 
--- the account after a call that answers `refusal`: grown by the figures that every quiet frame of the message has, or as it came where sending is refused
+-- the account after a call that answers `refusal`: grown by the sent frame, or as it came where sending is refused
 unfoldable pub countedAccount : ℕ → ℕ → ℕ → ℕ → List ℕ → Account → Account
-unfolding quietEnergy quietLargest
-countedAccount refusal k b f bytes a =
-    cond (eqb refusal 0) (grownWith a (quietEnergy k b f (numberFor a) bytes) (2 ^ k) (quietLargest k b f (numberFor a) bytes)) a
+unfolding quietFrame
+countedAccount refusal k b f bytes a = cond (eqb refusal 0) (grown a (quietFrame k b f (numberFor a) bytes)) a

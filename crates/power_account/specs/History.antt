@@ -1,6 +1,5 @@
 -- The history of an account: calls of sending one after the other, refused ones among them, the frames that they sent and under which numbers, and
--- what the account holds of them. What is sent is no function of the call where bits are free, so the history is a relation; the figures are equations.
--- Assumes nothing.
+-- what the account holds of them. Assumes nothing.
 use Prim.Native.Nat.{ℕ, _+_, _*_, _/_, _<_, _≤_}
 use mathlib.Core.Path.{_≡_}
 use mathlib.Core.Bool.{false, cond}
@@ -12,9 +11,8 @@ use lib.Ieee.Exact.{HasValue}
 use Rattle.e8.specs.Energy.{energy}
 use Rattle.e8.specs.Lattice.{part}
 use Rattle.e8.specs.Largest.{blocksOf}
-use Rattle.frames.specs.Free.{Quiet}
+use Rattle.frames.specs.Free.{quietFrame}
 use Rattle.power_account.specs.declared.Account.{Account}
-use Rattle.power_account.specs.Power.{grown}
 use Rattle.power_account.specs.Counted.{numberAt, numberFor, countedRefusal, countedAccount}
 
 -- a call of sending: the kind, the grade, the free count, the message and the number of coordinates lent
@@ -37,23 +35,15 @@ unfoldable pub accountAfter : Account → List Call → Account
 accountAfter a [] = a
 accountAfter a (c ∷ cs) = accountAfter (after a c) cs
 
--- a frame that a call may send under a number
-abbrev pub QuietOf : ℕ → Call → List ℤ → Type 0
-QuietOf number c frame = Quiet (c .kind) (c .grade) (c .free) number (c .message) frame
+-- the frame of a call under a number
+abbrev pub frameUnder : ℕ → Call → List ℤ
+frameUnder number c = quietFrame (c .kind) (c .grade) (c .free) number (c .message)
 
--- the first of fs was sent by the call, and the others afterwards
-pub record Sends (a : Account) (c : Call) (fs : List (List ℤ)) (Later : List (List ℤ) → Type 0) : Type 0 where
-  pub frame : List ℤ
-  pub others : List (List ℤ)
-  pub is : fs ≡ frame ∷ others
-  pub quiet : QuietOf (numberFor a) c frame
-  pub later : Later others
-
--- THE HISTORY: the frames fs were sent by those of the calls that are accepted, in their order, each a quiet frame of its call under the number that the
--- account had for it
-abbrev pub SentBy : Account → List Call → List (List ℤ) → Type 0
-SentBy a [] fs = fs ≡ []
-SentBy a (c ∷ cs) fs = cond (eqb (answer a c) 0) (Sends a c fs (SentBy (after a c) cs)) (SentBy (after a c) cs fs)
+-- THE HISTORY: the frames sent by those of the calls that are accepted, in their order, each under the number that the account had for it
+unfoldable pub sentBy : Account → List Call → List (List ℤ)
+unfolding quietFrame
+sentBy a [] = []
+sentBy a (c ∷ cs) = cond (eqb (answer a c) 0) (frameUnder (numberFor a) c ∷ sentBy (after a c) cs) (sentBy (after a c) cs)
 
 -- those calls
 unfoldable pub accepted : Account → List Call → List Call
@@ -64,15 +54,12 @@ accepted a (c ∷ cs) = cond (eqb (answer a c) 0) (c ∷ accepted (after a c) cs
 abbrev pub noCall : Call
 noCall = record { kind = 0; grade = 0; free = 0; message = []; n = 0 }
 
--- THE RULE OF EACH FRAME of a history, across the changeover: frame i is a quiet frame of accepted call i, under the number that the changeover gives to
--- the count before it
-pub record EachNumbered (a : Account) (cs : List Call) (fs : List (List ℤ)) : Type 0 where
-  pub as-many : length fs ≡ length (accepted a cs)
-  pub each : (i : ℕ) → i < length fs → QuietOf (numberAt (a .changeover) (a .count + i)) (getD (accepted a cs) i noCall) (getD fs i [])
-
--- "In an account frames sent with f count like any other": every quiet frame of an accepted call grows the account alike, to the account after the call
-pub record GrownAlike (a : Account) (c : Call) : Type 0 where
-  pub alike : (frame : List ℤ) → QuietOf (numberFor a) c frame → grown a frame ≡ after a c
+-- THE RULE OF EACH FRAME of the history, across the changeover: frame i is that of accepted call i, under the number that the changeover gives to the
+-- count before it
+pub record EachNumbered (a : Account) (cs : List Call) : Type 0 where
+  pub as-many : length (sentBy a cs) ≡ length (accepted a cs)
+  pub each : (i : ℕ) → i < length (sentBy a cs)
+      → getD (sentBy a cs) i [] ≡ frameUnder (numberAt (a .changeover) (a .count + i)) (getD (accepted a cs) i noCall)
 
 -- two accounts hold the same, but for their changeover
 pub record SameFigures (a b : Account) : Type 0 where

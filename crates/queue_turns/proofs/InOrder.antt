@@ -17,18 +17,18 @@ use Rattle.frames.specs.Kind.{isKind, isGrade, messageBytes}
 use Rattle.frames.specs.Frame.{numberedFrame}
 use Rattle.frames.proofs.Rows.{grade-low}
 use Rattle.frames.proofs.Demands.{least-energy}
-use Rattle.free_bits.proofs.ReadBack.{none-free}
+use Rattle.free_bits.proofs.Fillings.{none-quiet}
 use Rattle.power_account.specs.declared.Account.{Account}
 use Rattle.power_account.specs.Power.{begun}
 use Rattle.power_account.specs.Counted.{numberAt, numberFor, countedRefusal}
-use Rattle.power_account.specs.History.{Call, answer, after, accountAfter, Sends, SentBy, Holds}
-use Rattle.power_account.proofs.History.{first-number, tests, after-refused, by-sent, by-refused, next-numbers, calls-after, history}
+use Rattle.power_account.specs.History.{Call, answer, after, accountAfter, sentBy, Holds}
+use Rattle.power_account.proofs.History.{frame-of, first-number, tests, frame-length, after-refused, by-sent, by-refused, next-numbers, calls-after, history}
 use Rattle.power_account.proofs.Changeover.{changeover-kept}
 use Rattle.queue_turns.specs.declared.Queued.{Queued}
 use Rattle.queue_turns.specs.Queue.{queueRefusal, messagesIn, callsFor, callsOf, oneMore, inTurn, framesInTurn, queueOutcome, queueFrames, piece, EachLeast}
 use Rattle.queue_turns.specs.InTurn.{accountAt, answerAt, callsMade, InTurn}
 use Rattle.queue_turns.proofs.Tests.{fits, all-fit}
-use Rattle.queue_turns.proofs.Turns.{frame-of, frame-length, sent-answer, sent-frames, refused-answer, refused-frames}
+use Rattle.queue_turns.proofs.Turns.{sent-answer, sent-frames, refused-answer, refused-frames}
 
 -- ---- pieces, from the first
 
@@ -67,7 +67,7 @@ module _ (m k b : ℕ) (bytes : List ℕ) (a : Account) where
   -- the first is refused: nothing is sent
   refused-first : (f : List ℤ) → (answer a first-call ≡ 0 → ⊥)
       → InTurn (suc m) k b bytes a f (record { number = answer a first-call; sent = 0; account = a }) f
-  unfolding accountAfter callsFor
+  unfolding accountAfter callsFor sentBy
   refused-first f not-0 =
       let q : eqb (answer a first-call) 0 ≡ false = ne-eqb _ _ not-0 in
       record {
@@ -80,8 +80,8 @@ module _ (m k b : ℕ) (bytes : List ℕ) (a : Account) where
         all = λ e. absurd (omega arith);
         account = refl;
         refused = sym (after-refused a first-call q);
-        counted = λ fs s. ap length (by-refused a first-call [] fs q s);
-        history = λ fs s i h. absurd (omega arith);
+        counted = ap length (by-refused a first-call q []);
+        history = λ i h. absurd (omega arith);
       }
 
   -- the first is sent, before those of q, which leave g
@@ -91,7 +91,7 @@ module _ (m k b : ℕ) (bytes : List ℕ) (a : Account) where
     frame = frame-of a first-call
 
     whole : length frame ≡ 2 ^ k
-    whole = frame-length a first-call e
+    whole = frame-length a first-call e (numberFor a)
 
     abbrev left : List ℤ
     left = frame ++ g
@@ -110,10 +110,8 @@ module _ (m k b : ℕ) (bytes : List ℕ) (a : Account) where
         let l : 2 ^ k * (q .sent + 1) ≡ 2 ^ k + 2 ^ k * q .sent = omega arith in
         ap (λ (x : ℕ). drop x xs) l ∙ sym (drop-drop (2 ^ k * q .sent) (2 ^ k) xs) ∙ ap (drop (2 ^ k * q .sent)) d
 
-    -- a history of the calls: its first frame, and those behind it
-    made : (fs : List (List ℤ)) → SentBy a (callsMade (suc m) k b bytes (oneMore q)) fs
-        → Sends a first-call fs (SentBy (after a first-call) (callsMade m k b rest q))
-    made fs s = by-sent a first-call (callsMade m k b rest q) fs (eq-eqb _ _ e) (subst (λ (cs : List Call). SentBy a cs fs) (made-next q) s)
+    made : sentBy a (callsMade (suc m) k b bytes (oneMore q)) ≡ frame ∷ sentBy (after a first-call) (callsMade m k b rest q)
+    made = ap (sentBy a) (made-next q) ∙ by-sent a first-call (eq-eqb _ _ e) (callsMade m k b rest q)
 
     each-accepted : (i : ℕ) → i < q .sent + 1 → answerAt (suc m) k b bytes a i ≡ 0
     each-accepted zero h = answer-first ∙ e
@@ -121,23 +119,16 @@ module _ (m k b : ℕ) (bytes : List ℕ) (a : Account) where
 
     each-written : (i : ℕ) → i < q .sent + 1
         → piece (2 ^ k) i left ≡ numberedFrame k b (numberAt (a .changeover) (a .count + i)) (piece (messageBytes k b) i bytes)
-    each-written zero h = left-first ∙ ap₂ (numberedFrame k b) (first-number a) (sym (piece-first (messageBytes k b) bytes))
+    each-written zero h =
+        left-first ∙ none-quiet k b (numberFor a) (take (messageBytes k b) bytes)
+        ∙ ap₂ (numberedFrame k b) (first-number a) (sym (piece-first (messageBytes k b) bytes))
     each-written (suc i) h =
         left-next i ∙ r .written i (omega arith)
         ∙ ap₂ (numberedFrame k b) (next-numbers a first-call e i) (sym (piece-next (messageBytes k b) i bytes))
 
-    module _ (fs : List (List ℤ)) (s : SentBy a (callsMade (suc m) k b bytes (oneMore q)) fs) where
-      each-counted : (i : ℕ) → i < q .sent + 1 → getD fs i [] ≡ piece (2 ^ k) i left
-      each-counted zero h =
-          let t = made fs s in
-          ap (λ (x : List (List ℤ)). getD x 0 []) (t .is)
-          ∙ none-free k b (numberFor a) (take (messageBytes k b) bytes) 0 .only (t .frame) (t .quiet) ∙ sym left-first
-      each-counted (suc i) h =
-          let t = made fs s in
-          ap (λ (x : List (List ℤ)). getD x (suc i) []) (t .is) ∙ r .history (t .others) (t .later) i (omega arith) ∙ sym (left-next i)
-
-      all-counted : length fs ≡ q .sent + 1
-      all-counted = let t = made fs s in ap length (t .is) ∙ omega (arith, r .counted (t .others) (t .later))
+    each-counted : (i : ℕ) → i < q .sent + 1 → getD (sentBy a (callsMade (suc m) k b bytes (oneMore q))) i [] ≡ piece (2 ^ k) i left
+    each-counted zero h = ap (λ (x : List (List ℤ)). getD x 0 []) made ∙ sym left-first
+    each-counted (suc i) h = ap (λ (x : List (List ℤ)). getD x (suc i) []) made ∙ r .history i (omega arith) ∙ sym (left-next i)
 
     sent-first : InTurn (suc m) k b bytes a f (oneMore q) left
     unfolding accountAfter
@@ -151,14 +142,14 @@ module _ (m k b : ℕ) (bytes : List ℕ) (a : Account) where
       all = λ h. r .all (omega arith);
       account = r .account ∙ sym (account-next (q .sent)) ∙ ap (accountAt (suc m) k b bytes a) (sym next);
       refused = r .refused ∙ ap (accountAfter a) (sym (made-next q));
-      counted = all-counted;
+      counted = ap length made ∙ omega (arith, r .counted);
       history = each-counted;
     }
 
 -- THE QUEUE, message by message
 pub in-order : (m k b : ℕ) (bytes : List ℕ) (a : Account) (f : List ℤ) → length f ≡ 2 ^ k * m
     → InTurn m k b bytes a f (inTurn a (callsFor m k b bytes)) (framesInTurn a (callsFor m k b bytes) f)
-unfolding inTurn framesInTurn callsFor accountAfter
+unfolding inTurn framesInTurn callsFor accountAfter sentBy
 in-order zero k b bytes a f l = record {
   some = omega arith;
   accepted = λ i h. absurd (omega arith);
@@ -169,8 +160,8 @@ in-order zero k b bytes a f l = record {
   all = λ h. refl;
   account = refl;
   refused = refl;
-  counted = λ fs s. ap length s;
-  history = λ fs s i h. absurd (omega arith);
+  counted = refl;
+  history = λ i h. absurd (omega arith);
 }
 in-order (suc m) k b bytes a f l = go (eqb (answer a c) 0) refl (in-order m k b (drop (messageBytes k b) bytes) (after a c) (drop (2 ^ k) f) fewer)
   where
@@ -230,9 +221,10 @@ module _ (k b : ℕ) (bytes : List ℕ) (f : List ℤ) (a : Account) where
     queue-continues a₀ cs e = queue-in-turn .refused ∙ sym (calls-after a₀ cs made-by ∙ ap (λ (x : Account). accountAfter x made-by) e)
 
     pub queue-history : (changeover : ℕ) (cs : List Call) → accountAfter (begun changeover) cs ≡ a
-        → (fs : List (List ℤ)) → SentBy (begun changeover) (cs ++ made-by) fs → Holds (queueOutcome k b bytes (length f) a .account) fs
-    queue-history changeover cs e fs s =
-        subst (λ (x : Account). Holds x fs) (sym (queue-continues (begun changeover) cs e)) (history changeover (cs ++ made-by) fs s)
+        → Holds (queueOutcome k b bytes (length f) a .account) (sentBy (begun changeover) (cs ++ made-by))
+    queue-history changeover cs e =
+        subst (λ (x : Account). Holds x (sentBy (begun changeover) (cs ++ made-by))) (sym (queue-continues (begun changeover) cs e))
+        (history changeover (cs ++ made-by))
 
     -- and each frame written has the least energy
     pub queue-least : {q : Queued} {g : List ℤ} → q ≡ queueOutcome k b bytes (length f) a → g ≡ queueFrames k b bytes f a → EachLeast k b (q .sent) g

@@ -12,23 +12,12 @@ use lib.Seq.{take-at, drop-at, drop-drop, length-take-le}
 use borrow.Author.Tests.{eq-eqb, ne-eqb}
 use borrow.Rule.Slice.PartMut.{putMid}
 use Rattle.frames.specs.Kind.{messageBytes}
-use Rattle.frames.specs.Frame.{numberedFrame}
-use Rattle.frames.proofs.Rows.{grade-low}
-use Rattle.frames.proofs.Demands.{sent-length}
 use Rattle.power_account.specs.declared.Account.{Account}
 use Rattle.power_account.specs.Counted.{numberFor}
 use Rattle.power_account.specs.History.{Call, answer as answer-of, after}
-use Rattle.power_account.proofs.History.{tests, after-refused}
+use Rattle.power_account.proofs.History.{frame-of, frame-length, after-refused}
 use Rattle.queue_turns.specs.declared.Queued.{Queued}
 use Rattle.queue_turns.specs.Queue.{messagesIn, callsFor, callsOf, oneMore, inTurn, framesInTurn, piece}
-
--- the frame of a call without free bits, with an account
-abbrev pub frame-of : Account → Call → List ℤ
-frame-of a c = numberedFrame (c .kind) (c .grade) (numberFor a) (c .message)
-
--- it has as many coordinates as the kind
-pub frame-length : (a : Account) (c : Call) → answer-of a c ≡ 0 → length (frame-of a c) ≡ 2 ^ c .kind
-frame-length a c e = let p = tests a c e in sent-length (c .kind) (c .grade) (p .kind) (grade-low (c .grade) (p .grade)) (numberFor a) (c .message)
 
 -- ---- the first call, accepted or refused
 
@@ -146,7 +135,7 @@ module _ (k b : ℕ) (bytes : List ℕ) where
         -- message i is sent: y stands in the place of its frame
         module _ (e : answer-of a (call-at i) ≡ 0) (room : 2 ^ k * i + 2 ^ k ≤ length f) {y : List ℤ} (is : y ≡ frame-of a (call-at i)) where
           whole : length y ≡ 2 ^ k
-          whole = ap length is ∙ frame-length a (call-at i) e
+          whole = ap length is ∙ frame-length a (call-at i) e (numberFor a)
 
           abbrev put : List ℤ
           put = putMid (2 ^ k * i) (2 ^ k * i + 2 ^ k - 2 ^ k * i) f y

@@ -8,7 +8,7 @@ use Rattle.frames.specs.Kind.{messageBytes}
 use Rattle.frames.specs.Frame.{numberedFrame}
 use Rattle.power_account.specs.declared.Account.{Account}
 use Rattle.power_account.specs.Counted.{numberAt, countedRefusal}
-use Rattle.power_account.specs.History.{Call, accountAfter, SentBy}
+use Rattle.power_account.specs.History.{Call, accountAfter, sentBy}
 use Rattle.queue_turns.specs.declared.Queued.{Queued}
 use Rattle.queue_turns.specs.Queue.{callsFor, piece}
 
@@ -42,5 +42,5 @@ pub record InTurn (m k b : ℕ) (bytes : List ℕ) (a : Account) (f₀ : List �
   pub account : q .account ≡ accountAt m k b bytes a (q .sent)
   pub refused : q .account ≡ accountAfter a (callsMade m k b bytes q)
   -- and their history has the frames that were written, and no other
-  pub counted : (fs : List (List ℤ)) → SentBy a (callsMade m k b bytes q) fs → length fs ≡ q .sent
-  pub history : (fs : List (List ℤ)) → SentBy a (callsMade m k b bytes q) fs → (i : ℕ) → i < q .sent → getD fs i [] ≡ piece (2 ^ k) i f
+  pub counted : length (sentBy a (callsMade m k b bytes q)) ≡ q .sent
+  pub history : (i : ℕ) → i < q .sent → getD (sentBy a (callsMade m k b bytes q)) i [] ≡ piece (2 ^ k) i f

@@ -47,12 +47,12 @@ unfoldable pub inTurn : Account → List Call → Queued
 inTurn a [] = record { number = 0; sent = 0; account = a }
 inTurn a (c ∷ cs) = cond (eqb (answer a c) 0) (oneMore (inTurn (after a c) cs)) (record { number = answer a c; sent = 0; account = after a c })
 
--- the lent coordinates f afterwards: each call, which leaves no bit free, is lent the next of them
+-- the lent coordinates f afterwards: each call is lent the next of them
 unfoldable pub framesInTurn : Account → List Call → List ℤ → List ℤ
 unfolding frameAfter
 framesInTurn a [] f = f
 framesInTurn a (c ∷ cs) f =
-    frameAfter (answer a c) (c .kind) (c .grade) (numberFor a) (c .message) (take (c .n) f)
+    frameAfter (answer a c) (c .kind) (c .grade) (c .free) (numberFor a) (c .message) (take (c .n) f)
     ++ cond (eqb (answer a c) 0) (framesInTurn (after a c) cs (drop (c .n) f)) (drop (c .n) f)
 
 -- ---- the call: where a test before it is not passed nothing is sent, and else each in turn

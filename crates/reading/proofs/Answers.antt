@@ -1,23 +1,23 @@
 -- The answer of a reading by the tests that were passed, and what is left by it. Assumes nothing.
 use Prim.Native.Nat.{ℕ, zero, suc, _^_, _<_}
-use mathlib.Core.Path.{_≡_, refl, sym, ap, _∙_, subst}
-use mathlib.Core.Bool.{Bool, true, false, _&&_}
+use mathlib.Core.Path.{_≡_, refl, sym, _∙_}
+use mathlib.Core.Bool.{Bool, true, false, true≢false}
 use mathlib.Core.List.{List}
 use native.Mathlib.Decide.{ℕ-discrete}
 use native.Mathlib.Omega.{arith}
-use lib.Dec.{eqb}
 use lib.IntN.{ℤ}
 use lib.ListN.{length}
 use borrow.Author.Tests.{eq-eqb, ne-eqb}
 use Rattle.e8.specs.Energy.{energy}
 use Rattle.frames.specs.Kind.{isKind, isGrade, messageBytes}
-use Rattle.frames.specs.Free.{isFreeCount, quietEnergy}
+use Rattle.frames.specs.Free.{isFreeCount}
 use Rattle.frames.specs.Sending.{unless}
-use Rattle.frames.specs.Reading.{inRange, fixedMessage, openRefusal, isSent, isQuiet, strictRefusal, messageAfter, energyRead}
+use Rattle.frames.specs.Reading.{inRange, fixedMessage, openRefusal, isSent, strictRefusal, messageAfter, energyRead}
 use Rattle.frames.proofs.Rows.{grade-low, grade-high}
 use Rattle.frames.proofs.Refusals.{passed, accepted}
+use Rattle.frames.proofs.Reading.{taken-in-set}
 use Rattle.free_bits.proofs.LastByte.{last-byte}
-use Rattle.free_bits.proofs.Strict.{strict-decides, strict-as-open, none-free-read}
+use Rattle.free_bits.proofs.Strict.{strict-decides, strict-as-open, sent-whole}
 use Rattle.reading.specs.Numbers.{sentRefusal, refusalOf}
 
 -- ---- the definition, as far as the tests go
@@ -48,7 +48,7 @@ module _ (k b f number : ℕ) (frame : List ℤ) (n : ℕ) where
   strict = strictRefusal k b f number frame n
 
   -- past the open reading's tests its own message decides
-  pub sent-decides : opened ≡ 0 → sent ≡ unless (isSent k b number frame) 9 0
+  pub sent-decides : opened ≡ 0 → sent ≡ unless (isSent k b 0 number frame) 9 0
   unfolding sentRefusal
   sent-decides e = rw e
 
@@ -57,35 +57,31 @@ module _ (k b f number : ℕ) (frame : List ℤ) (n : ℕ) where
   unfolding sentRefusal
   sent-as-open h = rw (ne-eqb opened 0 h)
 
-  pub sent-passed : sent ≡ 0 → (opened ≡ 0) × (isSent k b number frame ≡ true)
+  pub sent-passed : sent ≡ 0 → (opened ≡ 0) × (isSent k b 0 number frame ≡ true)
   sent-passed e = go (ℕ-discrete opened 0)
     where
-      go : Dec (opened ≡ 0) → (opened ≡ 0) × (isSent k b number frame ≡ true)
-      go (yes z) = (z, passed (isSent k b number frame) 8 0 (sym (sent-decides z) ∙ e) .0)
+      go : Dec (opened ≡ 0) → (opened ≡ 0) × (isSent k b 0 number frame ≡ true)
+      go (yes z) = (z, passed (isSent k b 0 number frame) 8 0 (sym (sent-decides z) ∙ e) .0)
       go (no h) = absurd (h (sym (sent-as-open h) ∙ e))
-
-  -- where it takes a frame, the least energy of the fillings decides
-  pub energy-decides : sent ≡ 0 → strict ≡ unless (eqb (energy frame) (quietEnergy k b f number (fixedMessage k b f frame))) 9 0
-  unfolding isQuiet
-  energy-decides e =
-      let p = sent-passed e in
-      strict-decides k b f number frame n (p .0)
-      ∙ ap (λ (t : Bool). unless (t && eqb (energy frame) (quietEnergy k b f number (fixedMessage k b f frame))) 9 0) (p .1)
 
   both-open : (opened ≡ 0 → ⊥) → sent ≡ strict
   both-open h = sent-as-open h ∙ sym (strict-as-open k b f number frame n h)
 
-  -- what it refuses, no filling makes good
+  -- what it refuses, no free bit makes good
   pub sent-refused : (sent ≡ 0 → ⊥) → sent ≡ strict
-  unfolding isQuiet
   sent-refused h = go (ℕ-discrete opened 0)
     where
-      first : (t s : Bool) → (unless t 9 0 ≡ 0 → ⊥) → unless t 9 0 ≡ unless (t && s) 9 0
-      first true s h = absurd (h refl)
-      first false s h = refl
+      either : (t s : Bool) → (s ≡ true → t ≡ true) → (unless t 9 0 ≡ 0 → ⊥) → unless t 9 0 ≡ unless s 9 0
+      either true s i h = absurd (h refl)
+      either false false i h = refl
+      either false true i h = absurd (true≢false (sym (i refl)))
 
       go : Dec (opened ≡ 0) → sent ≡ strict
-      go (yes z) = sent-decides z ∙ first (isSent k b number frame) _ (λ e. h (sent-decides z ∙ e)) ∙ sym (strict-decides k b f number frame n z)
+      go (yes z) =
+          let a = accepted k b f frame n z in
+          let whole = sent-whole k b number (a .kind) (a .grade) frame (taken-in-set k b f frame n z) f (a .few) in
+          sent-decides z ∙ either (isSent k b 0 number frame) (isSent k b f number frame) whole (λ e. h (sent-decides z ∙ e))
+          ∙ sym (strict-decides k b f number frame n z)
       go (no o) = both-open o
 
   -- more bytes than any message has are refused
@@ -96,12 +92,8 @@ module _ (k b f number : ℕ) (frame : List ℤ) (n : ℕ) where
 
 -- where no bit is free there is no filling to compare
 pub sent-alone : (k b f number : ℕ) (frame : List ℤ) (n : ℕ) → f ≡ 0 → sentRefusal k b f number frame n ≡ strictRefusal k b f number frame n
-sent-alone k b f number frame n e =
-    subst (λ (g : ℕ). sentRefusal k b g number frame n ≡ strictRefusal k b g number frame n) (sym e) (go (ℕ-discrete (openRefusal k b 0 frame n) 0))
-  where
-    go : Dec (openRefusal k b 0 frame n ≡ 0) → sentRefusal k b 0 number frame n ≡ strictRefusal k b 0 number frame n
-    go (yes z) = sent-decides k b 0 number frame n z ∙ sym (none-free-read k b number frame n .strict z)
-    go (no h) = both-open k b 0 number frame n h
+unfolding sentRefusal strictRefusal
+sent-alone k b f number frame n e = rw e
 
 -- ---- the number of either reading
 

@@ -50,8 +50,8 @@ pub fn read_open(kind: u8, grade: u8, free: u8, frame: &[i32], message: &mut [u8
     read(0, kind, grade, free, frame, message)
 }
 
-// The strict reading under a number: the message of a frame that may be sent under it alone, that of a least filling. Where no bit is free there is one
-// filling; and no message has more than 46 bytes.
+// The strict reading under a number: the message of a frame that is sent under it, and of no other. Where no bit is free there is one filling; and no message
+// has more than 46 bytes.
 pub fn read_strict(
     kind: u8,
     grade: u8,

@@ -1,7 +1,7 @@
-// The strict reading: first the frame that is sent for the message it holds, then the other fillings of that.
+// The strict reading: first whether the frame is sent for the message that it holds, then whether that filling is the one taken.
 use super::Reading;
 use super::read;
-use quiet_test::is_quietest;
+use quiet_test::is_sent;
 ghost use mathlib.Core.Path.{_≡_};
 ghost use lib.ListN.{length};
 ghost use Rattle.frames.specs.Reading.{strictRefusal, messageAfter, energyRead};
@@ -24,8 +24,8 @@ pub fn read_sent(
     read(1 + (number % 2) as u8, kind, grade, free, frame, message)
 }
 
-// The strict reading with free bits: the message is read into `own`, which is as long, and given where no filling of it has less energy. It is read a second
-// time and not copied: a message is written at one place of the code alone, which the compiler lays into `read`.
+// The strict reading with free bits: the message is read into `own`, which is as long, and given where the frame is the one that is sent for it. It is read a
+// second time and not copied: a message is written at one place of the code alone, which the compiler lays into `read`.
 pub fn read_quiet(
     kind: u8,
     grade: u8,
@@ -48,8 +48,7 @@ pub fn read_quiet(
     if refusal != 0 {
         return r;
     }
-    let energy = r.energy;
-    if !is_quietest(kind, grade, number, free, own, energy) {
+    if !is_sent(kind, grade, number, free, own, frame) {
         return Reading {
             number: 9,
             energy: 0,

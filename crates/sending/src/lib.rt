@@ -8,8 +8,8 @@ ghost use Rattle.e8.specs.Largest.{largestBlock};
 ghost use Rattle.e8.specs.Ties.{leastFrameBy};
 ghost use Rattle.frames.specs.Kind.{isKind, blocks};
 ghost use Rattle.frames.specs.Frame.{half, isOdd};
-ghost use Rattle.frames.specs.Free.{FreeMessage, Quiet, quietEnergy, quietLargest};
-ghost use Rattle.frames.specs.Sending.{sendRefusal, QuietAfter, energySent, LeastOfFillings};
+ghost use Rattle.frames.specs.Free.{FreeMessage, quietFrame};
+ghost use Rattle.frames.specs.Sending.{sendRefusal, frameAfter, energySent, LeastOfFillings};
 
 // What sending answers: the refusal number, 0 for success, and the energy of the frame sent.
 pub struct Outcome {
@@ -56,8 +56,8 @@ pub fn shape_leader(kind: u8, grade: usize, number: u32, frame: &mut [i32]) -> E
     shaped_energies(frame)
 }
 
-// Writes a quiet frame of a number for a message of a good kind and grade whose free bits are 0, and gives its energy and its largest block's: the
-// leader is written, the filling that is taken is put into its last block, and it is shaped.
+// Writes the frame that is sent under a number for a message of a good kind and grade whose free bits are 0, and gives its energy and its largest block's:
+// the leader is written, the filling that is taken is put into its last block, and it is shaped.
 pub fn write_sent(
     kind: u8,
     grade: usize,
@@ -68,9 +68,9 @@ pub fn write_sent(
 ) -> Energies
     requires { ⌜ (isKind kind ≡ true) × (1 ≤ grade) × (grade ≤ 4) × (free ≤ 4)
         × FreeMessage kind grade free (now message) × (length (now frame) ≡ 2 ^ kind) ⌝ }
-    ensures frame { λ _. ⌜ Quiet kind grade free number (now (message .entry)) (now (frame .exit)) ⌝ }
-    ensures energy { λ r. ⌜ r .energy ≡ quietEnergy kind grade free number (now (message .entry)) ⌝ }
-    ensures largest { λ r. ⌜ r .largest ≡ quietLargest kind grade free number (now (message .entry)) ⌝ }
+    ensures frame { λ _. ⌜ now (frame .exit) ≡ quietFrame kind grade free number (now (message .entry)) ⌝ }
+    ensures energy { λ r. ⌜ r .energy ≡ energyOf (quietFrame kind grade free number (now (message .entry))) ⌝ }
+    ensures largest { λ r. ⌜ r .largest ≡ largestBlock (quietFrame kind grade free number (now (message .entry))) ⌝ }
 {
     leader::write_leader(kind, grade, message, frame);
     filling_search::fill_last(kind_table::levels(kind), grade, free, frame);
@@ -84,8 +84,8 @@ pub fn test(kind: u8, grade: u8, free: u8, message: &[u8], n: usize) -> u8
     accepting::refusal(kind, grade, free, message, n)
 }
 
-// Sends a message with a free count under a number: tests 1, 2, 17, 3, 4, 5, and then writes a quiet frame of the number and gives its energy. A refusal
-// writes nothing.
+// Sends a message with a free count under a number: tests 1, 2, 17, 3, 4, 5, and then writes the frame of the smallest filling of least energy and gives its
+// energy. A refusal writes nothing.
 pub fn send(
     kind: u8,
     grade: u8,
@@ -95,7 +95,7 @@ pub fn send(
     frame: &mut [i32],
 ) -> Outcome
     ensures number { λ r. ⌜ r .number ≡ sendRefusal kind grade free (now (message .entry)) (length (now (frame .entry))) ⌝ }
-    ensures frame { λ r. ⌜ QuietAfter (r .number) kind grade free number (now (message .entry)) (now (frame .entry)) (now (frame .exit)) ⌝ }
+    ensures frame { λ r. ⌜ now (frame .exit) ≡ frameAfter (r .number) kind grade free number (now (message .entry)) (now (frame .entry)) ⌝ }
     ensures energy { λ r. ⌜ r .energy ≡ energySent (r .number) kind grade free number (now (message .entry)) ⌝ }
     ensures least { λ r. ⌜ (r .number ≡ 0 → LeastOfFillings kind grade free number (now (message .entry)) (now (frame .exit)) (r .energy)) ⌝ }
 {

@@ -20,20 +20,21 @@ use Rattle.e8.proofs.Negation.{abs-neg}
 use Rattle.e8.proofs.Within.{within-to}
 use Rattle.frames.specs.Kind.{kinds, isKind, isGrade, degrees, levels, levelBits, messageBits, messageBytes, scale}
 use Rattle.frames.specs.Frame.{levelWord, InCodingSet, numberedFrame}
-use Rattle.frames.specs.Free.{isFreeCount, filled, filledFrame, Quiet}
+use Rattle.frames.specs.Free.{isFreeCount}
 use Rattle.frames.specs.Sending.{unless, Accepts}
-use Rattle.frames.specs.Reading.{largestRead, inRange, openRefusal, isQuiet, strictRefusal}
+use Rattle.frames.specs.Reading.{largestRead, inRange, openRefusal, isSent, strictRefusal}
 use Rattle.frames.specs.Demands.{FirstBroken, Sendable, FarOut}
 use Rattle.frames.proofs.Accepted.{accepted-exactly}
 use Rattle.frames.proofs.Closure.{set-negated}
-use Rattle.frames.proofs.Demands.{sent-within}
+use Rattle.frames.proofs.Range.{sent-frame-within}
 use Rattle.frames.proofs.Frame.{at, of-codes}
 use Rattle.frames.proofs.Limits.{scale-128}
 use Rattle.frames.proofs.Range.{six-exactly}
 use Rattle.frames.proofs.Reading.{inside-taken, outside-broken, taken-in-set}
 use Rattle.frames.proofs.Refusals.{within-range}
-use Rattle.frames.proofs.Rows.{each-row, grade-low}
-use Rattle.free_bits.proofs.ReadBack.{filled-in-set, none-free}
+use Rattle.frames.proofs.Rows.{each-row}
+use Rattle.free_bits.proofs.Fillings.{none-quiet}
+use Rattle.free_bits.proofs.ReadBack.{quiet-in-set}
 use Rattle.free_bits.proofs.Strict.{strict-decides, strict-as-open}
 use Rattle.long_frames.specs.Cases.{oneByte}
 use Rattle.sums.specs.Sum.{added, sumOf, Each, SentAt, IsSent}
@@ -81,7 +82,7 @@ lattice k kind h = record {
 -- what is read openly is read strictly, or 9
 read-or-nine : (k b f number : ℕ) (s : List ℤ) (n : ℕ) → openRefusal k b f s n ≡ 0
     → (strictRefusal k b f number s n ≡ 0) ⊎ (strictRefusal k b f number s n ≡ 9)
-read-or-nine k b f number s n e = go (isQuiet k b f number s) (strict-decides k b f number s n e)
+read-or-nine k b f number s n e = go (isSent k b f number s) (strict-decides k b f number s n e)
   where
     go : (t : Bool) → strictRefusal k b f number s n ≡ unless t 9 0 → (strictRefusal k b f number s n ≡ 0) ⊎ (strictRefusal k b f number s n ≡ 9)
     go true e = inl e
@@ -165,7 +166,7 @@ by-hand b n p x h accepted frame e = record {
     bytes = oneByte n p x;
     each = one-byte p (n - p - 1) x h;
     accepted = accepted;
-    sent = subst (Quiet 6 b 0 0 (oneByte n p x)) e (none-free 6 b 0 (oneByte n p x) 0 .quiet);
+    sent = sym (none-quiet 6 b 0 (oneByte n p x) ∙ e);
   };
 }
 
@@ -174,13 +175,10 @@ module _ (k b : ℕ) (frame : List ℤ) (t : SentAt k b frame) where
   asked = accepted-exactly k b (t .free) (t .bytes) (2 ^ k) (t .each) .sendable (t .accepted)
 
   in-set : InCodingSet k frame
-  in-set = subst (InCodingSet k) (sym (t .sent .sent))
-      (filled-in-set k b (t .free) (asked .kind) (asked .grade) (asked .few) (t .number) (t .bytes) (t .sent .φ))
+  in-set = rw (t .sent) (quiet-in-set k b (t .free) (asked .kind) (asked .grade) (asked .few) (t .number) (t .bytes))
 
   within-scale : Within (scale k b) frame
-  unfolding filledFrame
-  within-scale = subst (Within (scale k b)) (sym (t .sent .sent))
-      (sent-within k b (asked .kind) (grade-low b (asked .grade)) (t .number) (filled k b (t .free) (t .sent .φ) (t .bytes)))
+  within-scale = rw (t .sent) (sent-frame-within k b (t .free) (t .number) (asked .kind) (asked .grade) (t .bytes))
 
   within-128 : Within 128 frame
   within-128 = within-to (scale k b) 128 frame (scale-128 k b (asked .kind) (asked .grade)) within-scale

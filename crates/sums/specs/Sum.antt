@@ -1,10 +1,11 @@
 -- Request E8: "A repeater that adds many frames". The sum of frames of one kind, coordinate by coordinate. Assumes nothing.
 use Prim.Native.Nat.{ℕ, _^_}
+use mathlib.Core.Path.{_≡_}
 use mathlib.Core.List.{List, [], _∷_}
 use lib.ListN.{replicate}
 use lib.IntN.{ℤ, pos, _+ℤ_}
 use Rattle.frames.specs.Message.{Bytes}
-use Rattle.frames.specs.Free.{Quiet}
+use Rattle.frames.specs.Free.{quietFrame}
 use Rattle.frames.specs.Sending.{Accepts}
 
 -- two frames of one length, added coordinate by coordinate
@@ -30,7 +31,7 @@ pub record SentAt (k b : ℕ) (frame : List ℤ) : Type 0 where
   pub bytes : List ℕ
   pub each : Bytes bytes
   pub accepted : Accepts k b free bytes
-  pub sent : Quiet k b free number bytes frame
+  pub sent : frame ≡ quietFrame k b free number bytes
 
 -- the frame is sent at kind k: at some grade
 pub record IsSent (k : ℕ) (frame : List ℤ) : Type 0 where

@@ -15,7 +15,7 @@ use Rattle.frames.specs.Kind.{isKind, isGrade, degrees, messageBytes, brokenNum
 use Rattle.frames.specs.Frame.{levelWord}
 use Rattle.frames.specs.Free.{isFreeCount}
 use Rattle.frames.specs.Sending.{unless, freeSet, sendRefusal, energySent}
-use Rattle.frames.specs.Reading.{inRange, broken, openRefusal, isQuiet, strictRefusal, energyRead}
+use Rattle.frames.specs.Reading.{inRange, broken, openRefusal, isSent, strictRefusal, energyRead}
 use Rattle.power_account.specs.declared.Account.{Account}
 use Rattle.account.specs.declared.Counted.{Counted}
 use Rattle.power_account.specs.Power.{full}
@@ -63,8 +63,8 @@ small-open k b f x n =
 small-strict : (k b f number : ℕ) (x : List ℤ) (n : ℕ) → strictRefusal k b f number x n ≤ 255
 unfolding strictRefusal
 small-strict k b f number x n =
-    either (eqb (openRefusal k b f x n) 0) (openRefusal k b f x n) (unless (isQuiet k b f number x) 9 0) (small-open k b f x n)
-    (either (isQuiet k b f number x) 9 0 (omega arith) (omega arith))
+    either (eqb (openRefusal k b f x n) 0) (openRefusal k b f x n) (unless (isSent k b f number x) 9 0) (small-open k b f x n)
+    (either (isSent k b f number x) 9 0 (omega arith) (omega arith))
 
 small-counted : (k b f : ℕ) (m : List ℕ) (n : ℕ) (a : Account) → countedRefusal k b f m n a ≤ 255
 unfolding countedRefusal

@@ -6,8 +6,7 @@ use native.Mathlib.Omega.{arith}
 use lib.IntN.{ℤ}
 use lib.ListN.{length}
 use borrow.Author.Tests.{eq-eqb, ne-eqb}
-use Rattle.frames.specs.Sending.{sendRefusal, QuietAfter, energySent}
-use Rattle.free_bits.proofs.ReadBack.{whole-frame}
+use Rattle.frames.specs.Sending.{sendRefusal, frameAfter, energySent}
 use Rattle.frames.specs.Reading.{openRefusal, strictRefusal, messageAfter, energyRead}
 use Rattle.power_account.specs.declared.Account.{Account}
 use Rattle.account.specs.declared.Counted.{Counted}
@@ -49,11 +48,11 @@ module _ (f k b number : ℕ) (m : List ℕ) (x : List ℤ) (a : Account) where
   unfolding outcomeOf
   is-opening p q r s = rw (ne-eqb f 0 p, ne-eqb f 1 q, ne-eqb f 2 r, ne-eqb f 3 s) refl
 
-  pub sent : {r : Counted} {x′ : List ℤ} (n e : ℕ) → f ≡ 0 → r ≡ answered n e a → n ≡ sendRefusal k b 0 m (length x) → QuietAfter n k b 0 number m x x′
+  pub sent : {r : Counted} {x′ : List ℤ} (n e : ℕ) → f ≡ 0 → r ≡ answered n e a → n ≡ sendRefusal k b 0 m (length x) → x′ ≡ frameAfter n k b 0 number m x
       → e ≡ energySent n k b 0 number m → Comes (outcomeOf f k b number m x a) r m x′
   sent {r} {x′} n e z ra na xa ea =
       subst (λ (o : Outcome). Comes o r m x′) (ap (λ (n : ℕ). sendingOutcome n k b number m x a) na ∙ is-sending z)
-      (ra ∙ ap (λ (e : ℕ). answered n e a) ea, (refl, whole-frame n k b number m x x′ xa))
+      (ra ∙ ap (λ (e : ℕ). answered n e a) ea, (refl, xa))
 
   pub read-openly : {r : Counted} {m′ : List ℕ} (n e : ℕ) → f ≡ 1 → r ≡ answered n e a → n ≡ openRefusal k b 0 x (length m) → m′ ≡ messageAfter n k b 0 x m
       → e ≡ energyRead n x → Comes (outcomeOf f k b number m x a) r m′ x
@@ -78,9 +77,9 @@ module _ (f k b number : ℕ) (m : List ℕ) (x : List ℤ) (a : Account) where
 
 -- what sending with an account answers, figure by figure
 pub counted : (k b : ℕ) (m : List ℕ) (x : List ℤ) (a : Account) {x′ : List ℤ} (r : Counted) → r .number ≡ countedRefusal k b 0 m (length x) a
-    → QuietAfter (r .number) k b 0 (numberFor a) m x x′ → r .energy ≡ energySent (r .number) k b 0 (numberFor a) m
+    → x′ ≡ frameAfter (r .number) k b 0 (numberFor a) m x → r .energy ≡ energySent (r .number) k b 0 (numberFor a) m
     → r .account ≡ countedAccount (r .number) k b 0 m a
     → (r ≡ countedOutcome (countedRefusal k b 0 m (length x) a) k b m x a .answer) × (x′ ≡ countedOutcome (countedRefusal k b 0 m (length x) a) k b m x a .frame)
 counted k b m x a {x′} r na xa ea aa =
     subst (λ (o : Outcome). (r ≡ o .answer) × (x′ ≡ o .frame)) (ap (λ (n : ℕ). countedOutcome n k b m x a) na)
-    (ap (λ (e : ℕ). answered (r .number) e (r .account)) ea ∙ ap (answered (r .number) (energySent (r .number) k b 0 (numberFor a) m)) aa, whole-frame (r .number) k b (numberFor a) m x x′ xa)
+    (ap (λ (e : ℕ). answered (r .number) e (r .account)) ea ∙ ap (answered (r .number) (energySent (r .number) k b 0 (numberFor a) m)) aa, xa)

@@ -31,7 +31,7 @@ abbrev pub sendingOutcome : ℕ → ℕ → ℕ → ℕ → List ℕ → List �
 sendingOutcome refusal k b number m x a = record {
   answer = answered refusal (energySent refusal k b 0 number m) a;
   message = m;
-  frame = frameAfter refusal k b number m x;
+  frame = frameAfter refusal k b 0 number m x;
 }
 
 -- a reading, where it answers `refusal`
@@ -47,7 +47,7 @@ abbrev pub countedOutcome : ℕ → ℕ → ℕ → List ℕ → List ℤ → Ac
 countedOutcome refusal k b m x a = record {
   answer = answered refusal (energySent refusal k b 0 (numberFor a) m) (countedAccount refusal k b 0 m a);
   message = m;
-  frame = frameAfter refusal k b (numberFor a) m x;
+  frame = frameAfter refusal k b 0 (numberFor a) m x;
 }
 
 -- opening an account

@@ -8,8 +8,8 @@ use lib.Dec.{eqb}
 use lib.IntN.{ℤ}
 use borrow.Author.Tests.{ne-eqb}
 use Rattle.e8.specs.Energy.{energy}
-use Rattle.frames.specs.Free.{quietEnergy}
-use Rattle.frames.specs.Sending.{sendRefusal, QuietAfter, energySent}
+use Rattle.frames.specs.Free.{quietFrame}
+use Rattle.frames.specs.Sending.{sendRefusal, frameAfter, energySent}
 use Rattle.frames.specs.Reading.{openRefusal, strictRefusal, messageAfter, energyRead}
 use Rattle.power_account.specs.declared.Account.{Account}
 use Rattle.power_account.specs.Counted.{numberFor, countedRefusal}
@@ -44,12 +44,12 @@ module _ (k b f number : ℕ) {a : Answer} {z : ℤ} (is : a ≡ decoded z) wher
   pub sent-decoded : (m : List ℕ) (n : ℕ) → z ≡ sendAnswer k b f number m n
       → a ≡ answered (sendRefusal k b f m n) (energySent (sendRefusal k b f m n) k b f number m)
   unfolding sendAnswer energySent
-  sent-decoded m n p = decoded-answer (sendRefusal k b f m n) (quietEnergy k b f number m) is p
+  sent-decoded m n p = decoded-answer (sendRefusal k b f m n) (energy (quietFrame k b f number m)) is p
 
   pub counted-decoded : (m : List ℕ) (n : ℕ) (c : Account) → z ≡ countedAnswer k b f m n c
       → a ≡ answered (countedRefusal k b f m n c) (energySent (countedRefusal k b f m n c) k b f (numberFor c) m)
   unfolding countedAnswer energySent
-  counted-decoded m n c p = decoded-answer (countedRefusal k b f m n c) (quietEnergy k b f (numberFor c) m) is p
+  counted-decoded m n c p = decoded-answer (countedRefusal k b f m n c) (energy (quietFrame k b f (numberFor c) m)) is p
 
 -- ---- a function of the library says what it leaves by the number n that it answers, which is the refusal
 
@@ -59,9 +59,9 @@ module _ (k b f : ℕ) {a : Answer} {n e refusal : ℕ} (is : a ≡ answered n e
   read-given x m {m′} p q =
       subst (λ (n : ℕ). (a ≡ answered n (energyRead n x)) × (m′ ≡ messageAfter n k b f x m)) number (is ∙ ap (answered n) q, p)
 
-  pub sent-given : (i : ℕ) {m : List ℕ} {x x′ : List ℤ} (held : ℕ → Account) {c : Account} → QuietAfter n k b f i m x x′ → e ≡ energySent n k b f i m
+  pub sent-given : (i : ℕ) (m : List ℕ) (x : List ℤ) {x′ : List ℤ} (held : ℕ → Account) {c : Account} → x′ ≡ frameAfter n k b f i m x → e ≡ energySent n k b f i m
       → c ≡ held n
-      → (together a c ≡ together (answered refusal (energySent refusal k b f i m)) (held refusal)) × QuietAfter refusal k b f i m x x′
-  sent-given i {m} {x} {x′} held {c} p q h =
-      subst (λ (n : ℕ). (together a c ≡ together (answered n (energySent n k b f i m)) (held n)) × QuietAfter n k b f i m x x′) number
+      → (together a c ≡ together (answered refusal (energySent refusal k b f i m)) (held refusal)) × (x′ ≡ frameAfter refusal k b f i m x)
+  sent-given i m x {x′} held {c} p q h =
+      subst (λ (n : ℕ). (together a c ≡ together (answered n (energySent n k b f i m)) (held n)) × (x′ ≡ frameAfter n k b f i m x)) number
       (ap₂ together (is ∙ ap (answered n) q) h, p)

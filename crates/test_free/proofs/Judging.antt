@@ -1,7 +1,7 @@
 -- The judgements of a record: by what a call answered and left, frame by frame. Assumes nothing.
 use Prim.Native.Nat.{ℕ, _+_, _*_, _-_, _/_, _≤_, _<_}
-use mathlib.Core.Path.{_≡_, refl, sym, ap, ap₂, subst, _∙_}
-use mathlib.Core.Bool.{Bool, true, false, _&&_, _||_}
+use mathlib.Core.Path.{_≡_, refl, sym, ap, ap₂, _∙_}
+use mathlib.Core.Bool.{Bool, true, false, _&&_}
 use mathlib.Core.List.{List}
 use native.Mathlib.Nat.{mul-le-mul, mul-le-mul-left, mul-div-le}
 use native.Mathlib.Numerals.{add-one}
@@ -29,12 +29,11 @@ use Rattle.test_free.specs.Judged.{
   readAnswer,
   isReadFree,
   sentOf,
-  SentFrame,
+  frameLeft,
   recordOf,
-  isOne,
-  isAmong,
   isLeft,
-  Passes,
+  isSentFree,
+  sendJudgements,
   readJudgements,
   frameJudgements,
   allJudgements,
@@ -74,15 +73,15 @@ module _ (strict : Bool) (u : Under) (x : List ℤ) (m : List ℕ) (expected : A
 
 -- ---- sending into a part of the marks, `before`
 
-pub passes : (counted : Bool) (u : Under) (m : List ℕ) (n : ℕ) (a : Account) (expected : Sent) (frames : List ℕ) {before lent frame : List ℤ} {passed : Bool}
-    → before ≡ take n markedFrame → lent ≡ take n markedFrame → length before ≡ n → SentFrame counted u m a before frame
-    → passed ≡ (sameSent (sentOf counted u m (length before) a) expected && isLeft expected lent frames frame)
-    → Passes counted u m n a expected frames passed
-passes counted u m n a expected frames {frame = frame} p q l sent e = record {
-  frame = frame;
-  sent = subst (λ (before : List ℤ). SentFrame counted u m a before frame) p sent;
-  judged = e ∙ ap₂ (λ (n : ℕ) (lent : List ℤ). sameSent (sentOf counted u m n a) expected && isLeft expected lent frames frame) l q;
-}
+pub passes : (counted : Bool) (u : Under) (m : List ℕ) (n : ℕ) (a : Account) (expected : Sent) (frames : List ℕ) {before lent : List ℤ} {passed : Bool}
+    → before ≡ take n markedFrame → lent ≡ take n markedFrame → length before ≡ n
+    → passed ≡ (sameSent (sentOf counted u m (length before) a) expected && isLeft expected lent frames (frameLeft counted u m a before))
+    → passed ≡ isSentFree counted u m n a expected frames
+unfolding isSentFree
+passes counted u m n a expected frames {before = before} p q l e =
+    e
+    ∙ ap₂ (λ (n : ℕ) (lent : List ℤ). sameSent (sentOf counted u m n a) expected && isLeft expected lent frames (frameLeft counted u m a before)) l q
+    ∙ ap (λ (before : List ℤ). sameSent (sentOf counted u m n a) expected && isLeft expected (take n markedFrame) frames (frameLeft counted u m a before)) p
 
 -- ---- judgement after judgement
 
@@ -90,6 +89,14 @@ counted : (k : ℕ) (t₀ : List ℕ) {t t₀′ : List ℕ} {b b′ : Bool} →
 counted k t₀ e p q = e ∙ ap₂ (judged k) p q
 
 module _ (u : Under) (m : List ℕ) where
+  pub four-sendings : (n : ℕ) (a : Account) (sent account : Sent) (frames t₀ : List ℕ) {t₁ t₂ t₃ t₄ : List ℕ} {b₁ b₂ b₃ b₄ : Bool}
+      → t₁ ≡ judged 1 b₁ t₀ → b₁ ≡ isSentFree false u m n a sent frames → t₂ ≡ judged 2 b₂ t₁ → b₂ ≡ isSentFree true u m n a account frames
+      → t₃ ≡ judged 3 b₃ t₂ → b₃ ≡ isSentFree false u m n a sent frames → t₄ ≡ judged 4 b₄ t₃ → b₄ ≡ isSentFree true u m n a account frames
+      → t₄ ≡ judgedAll (sendJudgements u m n a sent account frames) t₀
+  unfolding judgedAll
+  four-sendings n a sent account frames t₀ {t₁} {t₂} {t₃} e₁ p₁ e₂ p₂ e₃ p₃ e₄ p₄ =
+      counted 4 t₃ e₄ p₄ (counted 3 t₂ e₃ p₃ (counted 2 t₁ e₂ p₂ (counted 1 t₀ e₁ p₁ refl)))
+
   pub four-readings : (x : List ℤ) (a b : Answer) (t₀ : List ℕ) {t₁ t₂ t₃ t₄ : List ℕ} {b₁ b₂ b₃ b₄ : Bool}
       → t₁ ≡ judged 5 b₁ t₀ → b₁ ≡ isReadFree false u x m a → t₂ ≡ judged 6 b₂ t₁ → b₂ ≡ isReadFree true u x m b
       → t₃ ≡ judged 7 b₃ t₂ → b₃ ≡ isReadFree false u x m a → t₄ ≡ judged 8 b₄ t₃ → b₄ ≡ isReadFree true u x m b
@@ -126,7 +133,7 @@ room n p h g = let size : 10 + 4 * n ≤ 266 = omega arith in mul-le-mul size g
 pub behind : (bytes : List ℕ) → take (length bytes - 10) (drop 10 bytes) ≡ drop 10 bytes
 behind bytes = take-all (length bytes - 10) (drop 10 bytes) (omega (arith, length-drop 10 bytes))
 
--- judgements, and what was found, with one frame more
+-- judgements with one frame more
 pub one-more : (u : Under) (m : List ℕ) (n i : ℕ) (bytes t₀ : List ℕ) {t t₁ one : List ℕ} → t ≡ judgedAll (allJudgements u m n i bytes) t₀
     → one ≡ recordOf n i bytes → t₁ ≡ judgedAll (frameJudgements u m n one) t → t₁ ≡ judgedAll (allJudgements u m n (i + 1) bytes) t₀
 unfolding allJudgements
@@ -135,9 +142,3 @@ one-more u m n i bytes t₀ e p q =
     ∙ ap₂ (λ (l : List ℕ) (t : List ℕ). judgedAll (frameJudgements u m n l) t) p e
     ∙ then-judged (allJudgements u m n i bytes) (frameJudgements u m n (recordOf n i bytes)) t₀
     ∙ ap (λ (j : ℕ). judgedAll (allJudgements u m n j bytes) t₀) (sym (add-one i))
-
-pub one-further : (x : List ℤ) (i : ℕ) (bytes : List ℕ) {found found′ : Bool} {one : List ℕ} → found ≡ isAmong x i bytes → one ≡ recordOf (length x) i bytes
-    → found′ ≡ (found || isOne x one) → found′ ≡ isAmong x (i + 1) bytes
-unfolding isAmong
-one-further x i bytes e p q =
-    q ∙ ap₂ (λ (t : Bool) (l : List ℕ). t || isOne x l) e p ∙ ap (λ (j : ℕ). isAmong x j bytes) (sym (add-one i))

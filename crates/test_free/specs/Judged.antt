@@ -1,13 +1,12 @@
 -- What a call answers and leaves, by the definitions of the library, and when a record's checks pass. Assumes nothing.
-use Prim.Native.Nat.{ℕ, zero, suc, _+_, _*_, _/_}
-use mathlib.Core.Path.{_≡_}
-use mathlib.Core.Bool.{Bool, true, false, _&&_, _||_, cond}
+use Prim.Native.Nat.{ℕ, zero, suc, _+_, _*_}
+use mathlib.Core.Bool.{Bool, true, false, _&&_, cond}
 use mathlib.Core.List.{List, [], _∷_, _++_}
-use lib.Dec.{eqb}
+use lib.Dec.{eqb, leb}
 use lib.IntN.{ℤ, pos, negsuc}
 use lib.ListN.{length, getD, take, drop, replicate}
 use Rattle.e8.specs.Energy.{energy}
-use Rattle.frames.specs.Sending.{sendRefusal, QuietAfter, energySent}
+use Rattle.frames.specs.Sending.{sendRefusal, frameAfter, energySent}
 use Rattle.frames.specs.Reading.{openRefusal, strictRefusal, fixedMessage, energyRead, sameFrame}
 use Rattle.power_account.specs.declared.Account.{Account}
 use Rattle.power_account.specs.Counted.{numberFor, countedRefusal, countedAccount}
@@ -74,10 +73,10 @@ sentOf counted u m n a =
       account = cond counted (countedAccount refusal (u .kind) (u .grade) (u .free) m a) a;
     }
 
--- the frame that it leaves: any quiet one, or the lent one as it was
-abbrev pub SentFrame : Bool → Under → List ℕ → Account → List ℤ → List ℤ → Type 0
-SentFrame counted u m a before after =
-    QuietAfter (sentRefusal counted u m (length before) a) (u .kind) (u .grade) (u .free) (sentNumber counted u a) m before after
+-- the frame that it leaves: the sent one, or the lent one as it was
+abbrev pub frameLeft : Bool → Under → List ℕ → Account → List ℤ → List ℤ
+frameLeft counted u m a lent =
+    frameAfter (sentRefusal counted u m (length lent) a) (u .kind) (u .grade) (u .free) (sentNumber counted u a) m lent
 
 -- ---- the frames of a record, one behind the other: of each what the open reading and the strict one answer, its energy of 8 bytes, and its coordinates
 
@@ -88,33 +87,37 @@ frameIn bytes = takenFrom coordinateIn (drop 10 bytes) markedFrame
 abbrev pub recordOf : ℕ → ℕ → List ℕ → List ℕ
 recordOf n i bytes = take (10 + 4 * n) (drop ((10 + 4 * n) * i) bytes)
 
--- x is the frame of the record, which the strict reading passes
-unfoldable pub isOne : List ℤ → List ℕ → Bool
-isOne x bytes = eqb (getD bytes 1 0) 0 && sameFrame x (take (length x) (frameIn bytes))
+-- x is the first frame
+unfoldable pub isFirst : List ℤ → List ℕ → Bool
+isFirst x frames = leb 10 (length frames) && sameFrame x (take (length x) (frameIn frames))
 
--- x is one of the first p frames
-unfoldable pub isAmong : List ℤ → ℕ → List ℕ → Bool
-unfolding isOne
-isAmong x zero bytes = false
-isAmong x (suc p) bytes = isAmong x p bytes || isOne x (recordOf (length x) p bytes)
-
--- what has to be left in the lent frame: one of the frames, or where sending is refused what was lent
+-- what has to be left in the lent frame: the first of the frames and no other, or where sending is refused what was lent
 abbrev pub isLeft : Sent → List ℤ → List ℕ → List ℤ → Bool
-isLeft expected lent frames x =
-    cond (eqb (expected .answer .number) 0) (isAmong x (length frames / (10 + 4 * length x)) frames) (sameFrame x lent)
+isLeft expected lent frames x = cond (eqb (expected .answer .number) 0) (isFirst x frames) (sameFrame x lent)
 
--- THE JUDGEMENT of sending into n marked coordinates: it leaves some frame as the rules allow, and passes where its answer and that frame are as expected
-pub record Passes (counted : Bool) (u : Under) (m : List ℕ) (n : ℕ) (a : Account) (expected : Sent) (frames : List ℕ) (passed : Bool) : Type 0 where
-  pub frame : List ℤ
-  pub sent : SentFrame counted u m a (take n markedFrame) frame
-  pub judged : passed ≡ (sameSent (sentOf counted u m n a) expected && isLeft expected (take n markedFrame) frames frame)
+-- THE JUDGEMENT of sending into n marked coordinates: its answer, the account and the frame that it leaves are as expected
+unfoldable pub isSentFree : Bool → Under → List ℕ → ℕ → Account → Sent → List ℕ → Bool
+unfolding isFirst
+isSentFree counted u m n a expected frames =
+    let lent = take n markedFrame in
+    sameSent (sentOf counted u m n a) expected && isLeft expected lent frames (frameLeft counted u m a lent)
 
--- ---- all readings of a record's frames, each with the place of its check in the tally
+-- ---- all judgements of a record, each with the place of its check in the tally
 
 abbrev pub _at_ : Bool → ℕ → Judgement
 passed at check = record { check = check; passed = passed }
 
 infixl 30 _at_
+-- the four sendings of the message
+abbrev pub sendJudgements : Under → List ℕ → ℕ → Account → Sent → Sent → List ℕ → List Judgement
+sendJudgements u m n a sent counted frames =
+    (isSentFree false u m n a sent frames at 1)
+    ∷ (isSentFree true u m n a counted frames at 2)
+    ∷ (isSentFree false u m n a sent frames at 3)
+    ∷ (isSentFree true u m n a counted frames at 4)
+    ∷ []
+
+-- the four readings of a frame
 abbrev pub readJudgements : Under → List ℕ → List ℤ → Answer → Answer → List Judgement
 readJudgements u m x openly strictly =
     (isReadFree false u x m openly at 5)

@@ -4,7 +4,7 @@ ghost use mathlib.Core.Path.{_≡_};
 ghost use mathlib.Core.Bool.{true};
 ghost use lib.ListN.{length};
 ghost use Rattle.frames.specs.Reading.{messageAfter};
-ghost use Rattle.test_free.specs.Judged.{answered, decoded, readRefusal, readAnswer, sentOf, SentFrame};
+ghost use Rattle.test_free.specs.Judged.{answered, decoded, readRefusal, readAnswer, sentOf, frameLeft};
 
 // What a message is sent and a frame is read under.
 pub struct Under {
@@ -82,7 +82,7 @@ pub fn read(outside: bool, strict: bool, u: Under, frame: &[i32], message: &mut 
 // The exported sending with an account.
 fn send_counted(u: Under, message: &[u8], frame: &mut [i32], account: Account) -> Sent
     ensures sent { λ r. ⌜ r ≡ sentOf true u (now (message .entry)) (length (now (frame .entry))) account ⌝ }
-    ensures frame { λ _. ⌜ SentFrame true u (now (message .entry)) account (now (frame .entry)) (now (frame .exit)) ⌝ }
+    ensures frame { λ _. ⌜ now (frame .exit) ≡ frameLeft true u (now (message .entry)) account (now (frame .entry)) ⌝ }
 {
     let mut count = account.count;
     let mut sum = account.sum;
@@ -119,7 +119,7 @@ pub fn send(
     account: Account,
 ) -> Sent
     ensures sent { λ r. ⌜ r ≡ sentOf counted u (now (message .entry)) (length (now (frame .entry))) account ⌝ }
-    ensures frame { λ _. ⌜ SentFrame counted u (now (message .entry)) account (now (frame .entry)) (now (frame .exit)) ⌝ }
+    ensures frame { λ _. ⌜ now (frame .exit) ≡ frameLeft counted u (now (message .entry)) account (now (frame .entry)) ⌝ }
 {
     if counted {
         if outside {

@@ -15,7 +15,7 @@ use bytes::same_bytes;
 use test_data::number;
 use test_data::same_coordinates;
 ghost use mathlib.Core.Path.{_≡_};
-ghost use mathlib.Core.Bool.{_&&_, _||_};
+ghost use mathlib.Core.Bool.{_&&_};
 ghost use Prim.Native.Nat.{_≤_, _/_, _*_, _+_};
 ghost use lib.ListN.{length};
 ghost use Rattle.frames.specs.Reading.{messageAfter};
@@ -28,14 +28,13 @@ ghost use Rattle.test_free.specs.Judged.{
   readAnswer,
   isReadFree,
   sentOf,
-  SentFrame,
+  frameLeft,
   markedFrame,
   markedBytes,
   frameIn,
-  isOne,
-  isAmong,
+  isFirst,
   isLeft,
-  Passes,
+  isSentFree,
   readJudgements,
   frameJudgements,
   allJudgements,
@@ -207,41 +206,20 @@ pub fn hold_frames(v: u64, u: Under, message: &[u8], n: usize, frames: &[u8], ta
     }
 }
 
-// The frame is the one of the record, and the strict reading passes it; or one was found before.
-fn found_in(found: bool, frame: &[i32], bytes: &[u8]) -> bool
-    requires { ⌜ (length (now frame) ≤ 64) × (10 ≤ length (now bytes)) ⌝ }
-    ensures { λ r. ⌜ r ≡ (found || isOne (now (frame .entry)) (now (bytes .entry))) ⌝ }
+// The frame is the first of those in the bytes.
+fn is_first(frame: &[i32], frames: &[u8]) -> bool
+    requires { ⌜ length (now frame) ≤ 64 ⌝ }
+    ensures { λ r. ⌜ r ≡ isFirst (now (frame .entry)) (now (frames .entry)) ⌝ }
 {
-    if found {
-        return true;
-    }
-    if bytes[1] != 0 {
+    if frames.len() < 10 {
         return false;
     }
     let n = frame.len();
-    let other = frame_in(bytes);
-    same_coordinates(frame, &other[0..n])
+    let first = frame_in(frames);
+    same_coordinates(frame, &first[0..n])
 }
 
-// The frame is one of those that the strict reading passes.
-fn is_among(frame: &[i32], frames: &[u8]) -> bool
-    requires { ⌜ length (now frame) ≤ 64 ⌝ }
-    ensures { λ r. ⌜ r ≡ isAmong (now (frame .entry)) (length (now (frames .entry)) / (10 + 4 * length (now (frame .entry)))) (now (frames .entry)) ⌝ }
-{
-    let s = 10 + 4 * frame.len();
-    let p = frames.len() / s;
-    let mut found = false;
-    let mut i: usize = 0;
-    while i < p {
-        let a = s * i;
-        let e = a + s;
-        found = found_in(found, frame, &frames[a..e]);
-        i += 1;
-    }
-    found
-}
-
-// Sending answers this, and leaves one of the frames, or where it is refused the lent frame as it was.
+// Sending answers this, and leaves the first of the frames, or where it is refused the lent frame as it was.
 fn leaves(
     outside: bool,
     counted: bool,
@@ -255,8 +233,8 @@ fn leaves(
 ) -> bool
     requires { ⌜ length (now frame) ≤ 64 ⌝ }
     ensures passed { λ r. ⌜ r ≡ (sameSent (sentOf counted u (now (message .entry)) (length (now (frame .entry))) account) expected
-        && isLeft expected (now (lent .entry)) (now (frames .entry)) (now (frame .exit))) ⌝ }
-    ensures frame { λ _. ⌜ SentFrame counted u (now (message .entry)) account (now (frame .entry)) (now (frame .exit)) ⌝ }
+        && isLeft expected (now (lent .entry)) (now (frames .entry)) (frameLeft counted u (now (message .entry)) account (now (frame .entry)))) ⌝ }
+    ensures frame { λ _. ⌜ now (frame .exit) ≡ frameLeft counted u (now (message .entry)) account (now (frame .entry)) ⌝ }
 {
     let r = send(outside, counted, u, message, frame, account);
     if !same_sent(r, expected) {
@@ -264,12 +242,12 @@ fn leaves(
     }
     let answer = expected.answer;
     if answer.number == 0 {
-        return is_among(frame, frames);
+        return is_first(frame, frames);
     }
     same_coordinates(frame, lent)
 }
 
-// Sending into n marked coordinates answers this, and leaves one of the frames, or the marks.
+// Sending into n marked coordinates answers this, and leaves the first of the frames, or the marks.
 pub fn sends(
     outside: bool,
     counted: bool,
@@ -281,7 +259,7 @@ pub fn sends(
     frames: &[u8],
 ) -> bool
     requires { ⌜ n ≤ 64 ⌝ }
-    ensures { λ r. ⌜ Passes counted u (now (message .entry)) n account expected (now (frames .entry)) r ⌝ }
+    ensures { λ r. ⌜ r ≡ isSentFree counted u (now (message .entry)) n account expected (now (frames .entry)) ⌝ }
 {
     let mut out = marks();
     let lent = marks();

@@ -1,5 +1,5 @@
-// A record of the data: what is sent and read under, the account, the message, what sending answers, and the frames that may be sent, with what the readings
-// answer of each (tools/second-coder/README.md).
+// A record of the data: what is sent and read under, the account, the message, what sending answers, and frames, the one that is sent first, with what the
+// readings answer of each (tools/second-coder/README.md).
 use super::COUNTED;
 use super::EXPORTED_COUNTED;
 use super::EXPORTED_SENT;
@@ -20,7 +20,8 @@ use test_data::size;
 ghost use mathlib.Core.Path.{_≡_};
 ghost use Prim.Native.Nat.{_≤_};
 ghost use lib.ListN.{length};
-ghost use Rattle.test_tally.specs.Tally.{GrownBy};
+ghost use Rattle.test_tally.specs.Tally.{judgedAll, GrownBy};
+ghost use Rattle.test_free.specs.Judged.{sendJudgements};
 
 // What sending without the account and with it has to answer; and whether the file had it.
 struct Expected {
@@ -36,15 +37,15 @@ fn hold_sendings(
     message: &[u8],
     n: usize,
     account: Account,
-    expected: Expected,
+    sent: Sent,
+    counted: Sent,
     frames: &[u8],
     tally: &mut [u64; 16],
 )
     requires { ⌜ n ≤ 64 ⌝ }
-    ensures { λ _. ⌜ GrownBy (now (tally .entry)) (now (tally .exit)) ⌝ }
+    ensures { λ _. ⌜ now (tally .exit)
+        ≡ judgedAll (sendJudgements u (now (message .entry)) n account sent counted (now (frames .entry))) (now (tally .entry)) ⌝ }
 {
-    let sent = expected.sent;
-    let counted = expected.counted;
     judge(
         tally,
         v,
@@ -100,7 +101,17 @@ fn take_frames(
     if got < all {
         return false;
     }
-    hold_sendings(v, u, message, n, account, expected, &frames[0..all], tally);
+    hold_sendings(
+        v,
+        u,
+        message,
+        n,
+        account,
+        expected.sent,
+        expected.counted,
+        &frames[0..all],
+        tally,
+    );
     true
 }
 

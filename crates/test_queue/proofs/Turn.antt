@@ -11,14 +11,14 @@ use lib.Seq.{length-take-le, take-all, take-at, drop-at}
 use borrow.Rule.Slice.PartMut.{postOf, putMid, post-is}
 use borrow.Author.Tests.{eq-eqb, ne-eqb}
 use Rattle.frames.specs.Kind.{messageBytes}
-use Rattle.frames.specs.Sending.{QuietAfter, frameAfter}
-use Rattle.free_bits.proofs.ReadBack.{whole-frame}
+use Rattle.frames.specs.Sending.{frameAfter}
 use Rattle.power_account.specs.declared.Account.{Account}
 use Rattle.power_account.specs.Counted.{numberFor, countedRefusal, countedAccount}
 use Rattle.power_account.specs.History.{Call, answer, after}
 use Rattle.queue_turns.specs.declared.Queued.{Queued}
 use Rattle.queue_turns.specs.Queue.{callsFor, oneMore, inTurn, framesInTurn}
-use Rattle.queue_turns.proofs.Turns.{frame-of, sent-answer, sent-frames, refused-answer, refused-frames}
+use Rattle.power_account.proofs.History.{frame-of}
+use Rattle.queue_turns.proofs.Turns.{sent-answer, sent-frames, refused-answer, refused-frames}
 
 -- the first call, and the others
 calls-first : (k b count : ℕ) (bytes : List ℕ) → (count ≡ 0 → ⊥)
@@ -75,7 +75,7 @@ module _ (k b : ℕ) (bytes : List ℕ) (f : List ℤ) (a : Account) {m n count 
 
   -- the first is sent with the number z, and leaves x in its coordinates
   module _ {z : ℕ} {x : List ℤ} (number : z ≡ countedRefusal k b 0 (take (m - 0) bytes) (length (take (n - 0) f)) a)
-      (written : QuietAfter z k b 0 (numberFor a) (take (m - 0) bytes) (take (n - 0) f) x) where
+      (written : x ≡ frameAfter z k b 0 (numberFor a) (take (m - 0) bytes) (take (n - 0) f)) where
     first-bytes : take (m - 0) bytes ≡ take m bytes
     first-bytes = ap (λ (i : ℕ). take i bytes) (sub-zero m)
 
@@ -87,11 +87,11 @@ module _ (k b : ℕ) (bytes : List ℕ) (f : List ℤ) (a : Account) {m n count 
         number
         ∙ ap₂ (λ (l : List ℕ) (i : ℕ). countedRefusal k b 0 l i a) first-bytes (ap (λ (l : List ℤ). length l) first-frame ∙ length-take-le n f frames-room)
 
-    x-is : x ≡ frameAfter (answer a the-call) k b (numberFor a) (take m bytes) (take n f)
+    x-is : x ≡ frameAfter (answer a the-call) k b 0 (numberFor a) (take m bytes) (take n f)
     x-is =
-        whole-frame z k b (numberFor a) (take (m - 0) bytes) (take (n - 0) f) x written
-        ∙ ap₂ (λ (l : List ℕ) (y : List ℤ). frameAfter z k b (numberFor a) l y) first-bytes first-frame
-        ∙ ap (λ (i : ℕ). frameAfter i k b (numberFor a) (take m bytes) (take n f)) answer-is
+        written
+        ∙ ap₂ (λ (l : List ℕ) (y : List ℤ). frameAfter z k b 0 (numberFor a) l y) first-bytes first-frame
+        ∙ ap (λ (i : ℕ). frameAfter i k b 0 (numberFor a) (take m bytes) (take n f)) answer-is
 
     rest-is : postOf 0 (n - 0) f ≡ drop n f
     rest-is = post-is 0 n f (omega arith)

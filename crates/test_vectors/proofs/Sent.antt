@@ -9,9 +9,9 @@ use lib.ListN.{length}
 use borrow.Author.Tests.{le-leb, lt-leb, eq-eqb, ne-eqb}
 use Rattle.e8.specs.Energy.{energy}
 use Rattle.frames.specs.Frame.{numberedFrame}
-use Rattle.frames.specs.Sending.{sendRefusal, QuietAfter, energySent}
+use Rattle.frames.specs.Sending.{sendRefusal, frameAfter, energySent}
 use Rattle.frames.proofs.Accepted.{sent-leaves}
-use Rattle.free_bits.proofs.ReadBack.{none-free}
+use Rattle.free_bits.proofs.Fillings.{none-quiet}
 use Rattle.frames.specs.Reading.{sameFrame}
 use Rattle.test_vectors.specs.declared.checks.Under.{Under}
 use Rattle.test_vectors.specs.Vector.{isSentAs}
@@ -29,7 +29,7 @@ module _ (u : Under) (m : List ℕ) (f : List ℤ) (e : ℕ) where
     module _ (accepted : r ≡ 0) (g : ℕ) (energy-is : g ≡ energySent r (u .kind) (u .grade) 0 (u .number) m) where
       sent-energy : g ≡ energy (numberedFrame (u .kind) (u .grade) (u .number) m)
       sent-energy =
-          energy-is ∙ sent-leaves r (u .kind) (u .grade) 0 (u .number) m accepted ∙ none-free (u .kind) (u .grade) (u .number) m 0 .least
+          energy-is ∙ sent-leaves r (u .kind) (u .grade) 0 (u .number) m f accepted .1 ∙ ap energy (none-quiet (u .kind) (u .grade) (u .number) m)
 
       pub other-energy : (g ≡ e → ⊥) → false ≡ isSentAs u m f e
       unfolding isSentAs
@@ -40,11 +40,12 @@ module _ (u : Under) (m : List ℕ) (f : List ℤ) (e : ℕ) where
             ne-eqb (energy (numberedFrame (u .kind) (u .grade) (u .number) m)) e (λ z. n (sent-energy ∙ z)),
           ) refl
 
-      pub compared : g ≡ e → (t : Bool) (x lent : List ℤ) → QuietAfter r (u .kind) (u .grade) 0 (u .number) m lent x → t ≡ sameFrame x f → t ≡ isSentAs u m f e
+      pub compared : g ≡ e → (t : Bool) (x lent : List ℤ) → x ≡ frameAfter r (u .kind) (u .grade) 0 (u .number) m lent → t ≡ sameFrame x f → t ≡ isSentAs u m f e
       unfolding isSentAs
       compared p t x lent frame-is q =
           rw (
             le-leb (length f) 64 room,
             eq-eqb (sendRefusal (u .kind) (u .grade) 0 m (length f)) 0 (sym is ∙ accepted),
             eq-eqb (energy (numberedFrame (u .kind) (u .grade) (u .number) m)) e (sym sent-energy ∙ p),
-          ) (q ∙ ap (λ (y : List ℤ). sameFrame y f) (none-free (u .kind) (u .grade) (u .number) m 0 .only x (frame-is .sent accepted)))
+          ) (q ∙ ap (λ (y : List ℤ). sameFrame y f)
+          (frame-is ∙ sent-leaves r (u .kind) (u .grade) 0 (u .number) m lent accepted .0 ∙ none-quiet (u .kind) (u .grade) (u .number) m))

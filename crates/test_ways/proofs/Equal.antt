@@ -10,12 +10,12 @@ use lib.ListN.{length, take}
 use lib.Signed.{ltZ}
 use borrow.Author.Tests.{le-leb, lt-leb, eq-eqb, ne-eqb}
 use Rattle.frames.specs.Reading.{sameFrame}
-use Rattle.answers.specs.Answer.{sendAnswer, wholeFrame}
+use Rattle.answers.specs.Answer.{sendAnswer, sendFrame}
 use Rattle.test_ways.specs.Both.{isEqual, nines, isEqualIn}
 
 module _ (sort k b number : ℕ) (m : List ℕ) where
   -- lent are the frames w, v and f; the answer is z, and left are x and y
-  module _ (w v f : List ℤ) {x y : List ℤ} {z : ℤ} (xs : x ≡ wholeFrame k b number m w) (ys : y ≡ wholeFrame k b number m v)
+  module _ (w v f : List ℤ) {x y : List ℤ} {z : ℤ} (xs : x ≡ sendFrame k b 0 number m w) (ys : y ≡ sendFrame k b 0 number m v)
       (zs : z ≡ sendAnswer k b 0 number m (length w)) where
     made : (sameFrame x y && cond (ltZ z (pos 0)) (eqb sort 4 && sameFrame x f) (not (eqb sort 4))) ≡ isEqual sort k b number m w v f
     unfolding isEqual

@@ -8,14 +8,14 @@ use lib.IntN.{ℤ, pos}
 use lib.ListN.{length, take, replicate}
 use lib.Signed.{ltZ}
 use Rattle.frames.specs.Reading.{sameFrame}
-use Rattle.answers.specs.Answer.{sendAnswer, wholeFrame}
+use Rattle.answers.specs.Answer.{sendAnswer, sendFrame}
 
 -- sent into two lent frames of the same length, which by their contracts answer one number: the frames come out the same; sort 4 is refused, and then
 -- nothing is written, and every other sort is sent
 unfoldable pub isEqual : ℕ → ℕ → ℕ → ℕ → List ℕ → List ℤ → List ℤ → List ℤ → Bool
 isEqual sort k b number m words masks before =
-    let sent = wholeFrame k b number m words in
-    sameFrame sent (wholeFrame k b number m masks)
+    let sent = sendFrame k b 0 number m words in
+    sameFrame sent (sendFrame k b 0 number m masks)
     && cond (ltZ (sendAnswer k b 0 number m (length words)) (pos 0)) (eqb sort 4 && sameFrame sent before) (not (eqb sort 4))
 
 -- what the frames hold before: nines

@@ -9,7 +9,7 @@ use test_data::same_coordinates;
 use test_data::size;
 ghost use mathlib.Core.Path.{_≡_};
 ghost use lib.ListN.{length};
-ghost use Rattle.answers.specs.Answer.{wholeFrame};
+ghost use Rattle.answers.specs.Answer.{sendFrame};
 ghost use Rattle.test_tally.specs.Tally.{GrownBy};
 ghost use Rattle.test_ways.specs.Both.{isEqual, nines, isEqualIn, isEqualUnder};
 
@@ -27,8 +27,8 @@ fn equal(
 ) -> bool
     requires { ⌜ length (now words) ≡ length (now masks) ⌝ }
     ensures equal { λ r. ⌜ r ≡ isEqual sort kind grade number (now (message .entry)) (now (words .entry)) (now (masks .entry)) (now (before .entry)) ⌝ }
-    ensures words { λ _. ⌜ now (words .exit) ≡ wholeFrame kind grade number (now (message .entry)) (now (words .entry)) ⌝ }
-    ensures masks { λ _. ⌜ now (masks .exit) ≡ wholeFrame kind grade number (now (message .entry)) (now (masks .entry)) ⌝ }
+    ensures words { λ _. ⌜ now (words .exit) ≡ sendFrame kind grade 0 number (now (message .entry)) (now (words .entry)) ⌝ }
+    ensures masks { λ _. ⌜ now (masks .exit) ≡ sendFrame kind grade 0 number (now (message .entry)) (now (masks .entry)) ⌝ }
 {
     let new = frame_coder::coder_send(kind, grade, number, 0, message, words);
     let old = bench_plain::plain_send(kind, grade, number, message, masks);

@@ -1,20 +1,17 @@
--- Accounts worked by hand, to be met by the definitions (requests E2 and E5): after calls one after the other from the beginning, and from
+-- Accounts worked by hand, to be met by the definitions (requests E2, E5 and E10): after calls one after the other from the beginning, and from
 -- elsewhere; the frames before and after a changeover; opening. Assumes nothing.
 use Prim.Native.Nat.{ℕ, _^_, _-_}
 use mathlib.Core.Path.{_≡_}
-use mathlib.Core.Bool.{cond}
 use mathlib.Core.List.{List, [], _∷_, map}
 use lib.IntN.{ℤ, pos, negsuc}
-use lib.Dec.{eqb}
 use lib.ListN.{getD}
 use lib.Ieee.{binary64, ofInt}
-use Rattle.frames.specs.Frame.{numberedFrame}
+use Rattle.frames.specs.Exam.{minus, frameOf1}
 use Rattle.power_account.specs.declared.Account.{Account}
 use Rattle.power_account.specs.declared.Opened.{Opened}
 use Rattle.power_account.specs.Power.{powerOf, begun}
 use Rattle.power_account.specs.Opening.{openedWith}
-use Rattle.power_account.specs.Counted.{numberFor}
-use Rattle.power_account.specs.History.{Call, answer, after, SentBy}
+use Rattle.power_account.specs.History.{Call, after, sentBy}
 
 -- an account of these figures, the sum being a whole number, and of a changeover
 abbrev pub heldWith : ℕ → ℕ → ℕ → ℕ → Account
@@ -64,6 +61,11 @@ freeSteps =
     ∷ record { call = callOf 3 (18 ∷ 0 ∷ []); left = held 4 3 12 }
     ∷ []
 
+-- the frames that they send: three times that of filling 1, and with no bit free that of 12 00 itself
+abbrev pub freeFrames : List (List ℤ)
+freeFrames =
+    frameOf1 ∷ frameOf1 ∷ frameOf1 ∷ (pos 0 ∷ minus 1 ∷ pos 0 ∷ minus 3 ∷ pos 0 ∷ pos 1 ∷ pos 0 ∷ pos 1 ∷ []) ∷ []
+
 -- the accounts after the calls, each made with the account that the call before it left
 abbrev pub lefts : Account → List Case → List Account
 lefts a [] = []
@@ -91,20 +93,9 @@ leftBy e = after (held 5 0 (e .before)) (callOf 4 (32 ∷ 0 ∷ 0 ∷ 0 ∷ 0 �
 abbrev pub tied : Call
 tied = callOf 3 (0 ∷ 8 ∷ [])
 
--- the frames of calls without free bits, one after the other
-unfoldable pub framesOf : Account → List Call → List (List ℤ)
-framesOf a [] = []
-framesOf a (c ∷ cs) =
-    cond (eqb (answer a c) 0) (numberedFrame (c .kind) (c .grade) (numberFor a) (c .message) ∷ framesOf (after a c) cs) (framesOf (after a c) cs)
-
--- each of the calls leaves no bit free
-abbrev pub AllWhole : List Call → Type 0
-AllWhole [] = Unit {0}
-AllWhole (c ∷ cs) = (c .free ≡ 0) × AllWhole cs
-
 -- the first coordinates of the frames that five such calls send with an account
 abbrev pub firsts : Account → List ℤ
-firsts a = map (λ (f : List ℤ). getD f 0 (pos 0)) (framesOf a (tied ∷ tied ∷ tied ∷ tied ∷ tied ∷ []))
+firsts a = map (λ (f : List ℤ). getD f 0 (pos 0)) (sentBy a (tied ∷ tied ∷ tied ∷ tied ∷ tied ∷ []))
 
 -- changeovers, with the count at the start, and these coordinates: 0 is the new rule throughout, 3 makes frame 3 the first one by the new rule, 4 the
 -- fourth; past the count it changes nothing until it is reached
@@ -160,10 +151,7 @@ handedOut o = record { number = o .number; account = heldWith (o .kept) 0 0 0 }
 pub record AsWorked : Type 0 where
   pub grown : lefts (begun 1000000) steps ≡ map (λ (c : Case). c .left) steps
   pub with-free : lefts (begun 1000000) freeSteps ≡ map (λ (c : Case). c .left) freeSteps
+  pub free-frames : sentBy (begun 1000000) (map (λ (c : Case). c .call) freeSteps) ≡ freeFrames
   pub taken : map leftBy elsewhere ≡ map (λ (e : Elsewhere). e .left) elsewhere
   pub changed : map firstsBy changes ≡ map (λ (e : Change). e .firsts) changes
   pub opened : map (λ (o : Opening). openedWith (o .changeover)) openings ≡ map handedOut openings
-
--- and calls without free bits have the frames above as their history
-pub record NoneFreeHistory (a : Account) (cs : List Call) : Type 0 where
-  pub sent : AllWhole cs → SentBy a cs (framesOf a cs)

@@ -1,7 +1,7 @@
 //! The coders that are compared, with one form of call: each fills what it is lent and gives the
 //! energy, or gives the number of a refusal and leaves what it is lent as it was. Of a queue each gives
 //! how many are sent, and the number of the refusal, 0 where all are. A near reading gives 0 for the energy, and a choice between
-//! two recordings 1 or 2. With free bits each may send another frame.
+//! two recordings 1 or 2.
 
 use bench::{exported, hand};
 use frame_coder::{by_number, Account, Refusal};
@@ -96,11 +96,10 @@ pub const CODERS: [Coder; 3] = [
     },
     Coder {
         name: "second coder",
-        // Any filling that may be sent: the last, where the hand-tuned coder takes the first.
         send: |kind, grade, number, free, message, frame| {
-            let fillings = free::send_into(kind, grade, number, free, message, frame.len())?;
-            narrow(last(&fillings), frame);
-            Ok(fillings.energy())
+            let sent = free::send_into(kind, grade, number, free, message, frame.len())?;
+            narrow(&sent.frame, frame);
+            Ok(sent.energy)
         },
         open: |changeover, figures| {
             let (number, account) = account::open(changeover);
@@ -108,10 +107,10 @@ pub const CODERS: [Coder; 3] = [
             opened(number)
         },
         send_counted: |kind, grade, free, message, frame, figures| {
-            let (fillings, account) = free::send_counted(kind, grade, free, message, frame.len(), second(figures))?;
-            narrow(last(&fillings), frame);
+            let (sent, account) = free::send_counted(kind, grade, free, message, frame.len(), second(figures))?;
+            narrow(&sent.frame, frame);
             *figures = second_figures(account);
-            Ok(fillings.energy())
+            Ok(sent.energy)
         },
         send_queue: |kind, grade, messages, frames, figures| {
             let mut left = wide(frames);
@@ -170,11 +169,6 @@ fn second(&(count, sum, largest, changeover): &Figures) -> account::Account {
 
 fn second_figures(account: account::Account) -> Figures {
     (account.count, account.sum, account.largest, account.changeover)
-}
-
-/// The frame of the last of the least fillings.
-fn last(fillings: &free::Fillings) -> &[i64] {
-    fillings.permitted().pop().expect("a filling is least")
 }
 
 fn wide(frame: &[i32]) -> Vec<i64> {

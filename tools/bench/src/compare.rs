@@ -1,6 +1,5 @@
 //! Compares every answer of the library with the hand-tuned coder's, and with the second coder's.
 
-use std::cell::RefCell;
 use std::fmt::Debug;
 use std::ops::RangeInclusive;
 use std::sync::atomic::{AtomicU64, Ordering};
@@ -20,14 +19,15 @@ pub struct Plan {
     pub all: bool,
 }
 
-/// The comparisons made, by answer (0 for success; for a block alone, refused and shaped), those of frames sent with free bits, of near
-/// readings, of pairs of recordings by which is chosen, the first, the second or none, and of queues among them and the messages sent in
-/// these, the sums of frames that are read, outside the coding set and past the range, the comparisons of sending both ways, and those
-/// that differ.
+/// The comparisons made, by answer (0 for success; for a block alone, refused and shaped), the frames sent with free bits and those of
+/// fillings that are not sent, with more energy and with as much, the comparisons of near readings, of pairs of recordings by which is
+/// chosen, the first, the second or none, and of queues among them and the messages sent in these, the sums of frames that are read,
+/// outside the coding set and past the range, the comparisons of sending both ways, and those that differ.
 struct Tally {
     coders: &'static [Coder],
     answers: [u64; 19],
     free: u64,
+    unsent: [u64; 2],
     near: u64,
     pairs: [u64; 3],
     queues: u64,
@@ -71,6 +71,7 @@ impl Tally {
         self.blocks.iter_mut().zip(other.blocks).for_each(|(sum, count)| *sum += count);
         self.sums.iter_mut().zip(other.sums).for_each(|(sum, count)| *sum += count);
         self.pairs.iter_mut().zip(other.pairs).for_each(|(sum, count)| *sum += count);
+        self.unsent.iter_mut().zip(other.unsent).for_each(|(sum, count)| *sum += count);
         self.free += other.free;
         self.near += other.near;
         self.queues += other.queues;
@@ -202,29 +203,6 @@ fn by_bits((count, sum, largest, changeover): Figures) -> (u32, u64, u64, u32) {
     (count, sum.to_bits(), largest, changeover)
 }
 
-/// A message with so many bits free, sent by each coder: gives every frame that is sent. Compared are the answers and what `left` says; and
-/// the frame where it has to be the same, which without free bits is always, and with them where the message is refused.
-fn sent<T: PartialEq + Debug>(
-    what: &str,
-    input: &dyn Debug,
-    free: u8,
-    length: usize,
-    tally: &mut Tally,
-    send: impl Fn(&Coder, &mut [i32]) -> (Result<u64, u8>, T),
-) -> Vec<Vec<i32>> {
-    let frames = RefCell::new(Vec::new());
-    tally.ask(what, input, |coder| {
-        let mut frame = vec![77; length];
-        let (answer, left) = send(coder, &mut frame);
-        let same = (answer.is_err() || free == 0).then(|| frame.clone());
-        if answer.is_ok() && !frames.borrow().contains(&frame) {
-            frames.borrow_mut().push(frame);
-        }
-        (answer, (same, left))
-    });
-    frames.into_inner()
-}
-
 /// A call of sending: kind, grade, number, free count and message.
 type Sending<'a> = (u8, u8, u32, u8, &'a [u8]);
 
@@ -232,34 +210,65 @@ type Sending<'a> = (u8, u8, u32, u8, &'a [u8]);
 fn quiet((kind, grade, number, free, message): Sending, frame: &[i32], tally: &mut Tally) {
     tally.free += 1;
     readings(kind, grade, free, &[number, number ^ 1], frame, message.len(), tally);
-    // The readings are the same by all coders; so one is enough to see that the frame may be sent, and has this energy.
+    // The readings are the same by all coders; so one is enough to see that the frame passes, and has this energy.
     let mut back = vec![0xA5; message.len()];
     let own = frame.iter().map(|&x| (x * x) as u64).sum();
     let answer = hand::read_strict_free(kind, grade, number, free, frame, &mut back);
     tally.compare("quiet", &(kind, grade, number, free, message, frame), &[(answer, &back[..]), (Ok(own), message)]);
 }
 
-/// A message sent under a number, and with an account.
+/// The frames of all fillings of a message under the number, with their energies: sent is the first of the least. Of the others two
+/// are read, which pass under no number: any one, and one of the least where there is such a one.
+fn fillings(input: Sending, sent: &[i32], random: &mut Random, tally: &mut Tally) {
+    let (kind, grade, number, free, message) = input;
+    let one = |filling: u8| {
+        let (mut filled, mut frame) = (message.to_vec(), vec![0; sent.len()]);
+        *filled.last_mut().expect("no message is empty") |= filling << (last_bits(kind) - free);
+        let energy = hand::send(kind, grade, number, &filled, &mut frame).expect("the message is good");
+        (energy, frame)
+    };
+    let all: Vec<(u64, Vec<i32>)> = (0..1 << free).map(one).collect();
+    let least = all.iter().map(|one| one.0).min().expect("there is a filling");
+    let taken = all.iter().position(|one| one.0 == least).expect("a filling is least");
+    tally.compare("smallest filling", &input, &[sent, &all[taken].1]);
+    let others: Vec<usize> = (0..all.len()).filter(|&filling| filling != taken).collect();
+    let as_quiet: Vec<usize> = others.iter().copied().filter(|&filling| all[filling].0 == least).collect();
+    for from in [others, as_quiet].iter().filter(|from| !from.is_empty()) {
+        let (energy, frame) = &all[from[random.below(from.len() as u64) as usize]];
+        tally.unsent[(*energy == least) as usize] += 1;
+        readings(kind, grade, free, &[number, number ^ 1], frame, message.len(), tally);
+        for number in [number, number ^ 1] {
+            let answer = hand::read_strict_free(kind, grade, number, free, frame, &mut vec![0; message.len()]);
+            let expected = Err(hand::refusal::UNSHAPED);
+            tally.compare("another filling", &(kind, grade, number, free, frame), &[answer, expected]);
+        }
+    }
+}
+
+/// A message sent under a number, and with an account. With free bits, what is sent is read back.
 fn sendings((kind, grade, number, free, message): Sending, length: usize, random: &mut Random, tally: &mut Tally) {
     let input = (kind, grade, number, free, message);
-    let frames = sent("send", &input, free, length, tally, |coder, frame| {
-        ((coder.send)(kind, grade, number, free, message, frame), ())
+    let (answer, frame) = tally.ask("send", &input, |coder| {
+        let mut frame = vec![77; length];
+        let answer = (coder.send)(kind, grade, number, free, message, &mut frame);
+        (answer, (answer, frame))
     });
-    if free > 0 {
-        frames.iter().for_each(|frame| quiet(input, frame, tally));
+    if answer.is_ok() && free > 0 {
+        quiet(input, &frame, tally);
+        fillings(input, &frame, random, tally);
     }
     let count = [0, 5, 999_998, 999_999, 1_000_000, 1_000_001, u32::MAX][random.below(7) as usize];
     let sum = sum(random);
     let largest = largest(kind, grade, message, length, random);
     let account = (count, sum, largest, changeover(count, 1, random));
-    let frames = sent("send_counted", &(kind, grade, free, message, account), free, length, tally, |coder, frame| {
-        let mut figures = account;
-        let answer = (coder.send_counted)(kind, grade, free, message, frame, &mut figures);
-        (answer, by_bits(figures))
+    let (answer, frame, _) = tally.ask("send_counted", &(kind, grade, free, message, account), |coder| {
+        let (mut frame, mut figures) = (vec![77; length], account);
+        let answer = (coder.send_counted)(kind, grade, free, message, &mut frame, &mut figures);
+        (answer, (answer, frame, by_bits(figures)))
     });
-    if free > 0 {
+    if answer.is_ok() && free > 0 {
         let number = if count < account.3 { 0 } else { count };
-        frames.iter().for_each(|frame| quiet((kind, grade, number, free, message), frame, tally));
+        quiet((kind, grade, number, free, message), &frame, tally);
     }
 }
 
@@ -569,12 +578,20 @@ fn free_count(plan: &Plan, random: &mut Random) -> u8 {
     }
 }
 
+/// The bits of a message's last byte that are not spare.
+fn last_bits(kind: u8) -> u8 {
+    if kind < 5 {
+        4
+    } else {
+        8
+    }
+}
+
 /// Clears the free bits of a message, which lie in its last byte; but at times they stay as they are, and it is refused.
 fn clear_free(kind: u8, free: u8, message: &mut [u8], random: &mut Random) {
-    let bits = if kind < 5 { 4 } else { 8 };
     if random.below(8) > 0 {
         let last = message.last_mut().expect("no message is empty");
-        *last &= !((0xFFu32 >> (8 - free) << (bits - free)) as u8);
+        *last &= !((0xFFu32 >> (8 - free) << (last_bits(kind) - free)) as u8);
     }
 }
 
@@ -615,21 +632,14 @@ fn frame(plan: &Plan, random: &mut Random, tally: &mut Tally) {
     sendings((kind, grade, number, free, &message), length, random, tally);
     let mut frame = vec![0; length];
     if hand::send_free(kind, grade, number, free, &message, &mut frame).is_ok() {
-        readings(kind, grade, free, &[number, number ^ 1], &frame, bytes, tally);
+        // With free bits it has been read where it was sent.
+        if free == 0 {
+            readings(kind, grade, free, &[number, number ^ 1], &frame, bytes, tally);
+        }
         let distant = far::in_the_class(&frame, scale(kind, grade), random);
         readings(kind, grade, free, &[number], &distant, bytes, tally);
         for from in [&frame, &frame, &distant] {
             readings(kind, grade, free, &[number], &damaged(kind, grade, from, random), bytes, tally);
-        }
-        // The frame of a filling, which may be sent or not.
-        if free > 0 {
-            let mut filled = message.clone();
-            let from = 8 * bytes - if kind < 5 { 4 } else { 0 } - free as usize;
-            for k in (from..from + free as usize).filter(|_| random.below(2) == 0) {
-                filled[k / 8] |= 1 << (k % 8);
-            }
-            hand::send(kind, grade, number, &filled, &mut frame).expect("the message is good");
-            readings(kind, grade, free, &[number, number ^ 1], &frame, bytes, tally);
         }
         // Kind 6 is refused, and at kind 5 the second coder takes milliseconds.
         if kind < 5 || kind == 5 && !plan.all || random.below(16) == 0 {
@@ -678,6 +688,7 @@ pub fn run(plan: &Plan) -> u64 {
             coders,
             answers: [0; 19],
             free: 0,
+            unsent: [0; 2],
             near: 0,
             pairs: [0; 3],
             queues: 0,
@@ -709,7 +720,9 @@ pub fn run(plan: &Plan) -> u64 {
             (_, Err(unknown)) => println!("{unknown}: {count}"),
         }
     }
+    let [louder, as_quiet] = sum.unsent;
     println!("frames sent with free bits: {}", sum.free);
+    println!("frames of fillings not sent: {louder} with more energy, {as_quiet} with as much");
     println!("near readings: {}", sum.near);
     let [first, second, none] = sum.pairs;
     println!("pairs of recordings: {}, of which {first} first, {second} second, {none} none", first + second + none);

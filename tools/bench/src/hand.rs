@@ -55,9 +55,9 @@
 //!
 //! # Free bits
 //!
-//! The last bits of a message are those of the last block: fillings differ in that block alone, and a filling of least energy is one
-//! whose last block is least. What a filling adds to the block's leader is the same for every message, so any member of the class
-//! of one filling gives a member of each: the block that is sent for one, or that is read, and what the other filling has more.
+//! The last bits of a message are those of the last block: fillings differ in that block alone, and the filling that is sent is the
+//! first whose last block is least. What a filling adds to the block's leader is the same for every message, so any member of the
+//! class of one filling gives a member of each: the block that is sent for one, or that is read, and what the other filling has more.
 
 #![forbid(unsafe_code)]
 
@@ -378,7 +378,8 @@ impl<const KIND: usize, const B: usize> Format<KIND, B> {
         energy as u64
     }
 
-    /// Puts in place of the last block, which is that of filling 0, the least of all fillings; gives by how much the energy is less.
+    /// Puts in place of the last block, which is that of filling 0, the least of all fillings, the first where several are; gives by
+    /// how much the energy is less.
     #[inline(always)]
     fn quiet<const RULE: u8>(free: u8, frame: &mut [i32]) -> u64 {
         let last = &mut frame.as_chunks_mut::<8>().0[Self::BLOCKS - 1];
@@ -461,13 +462,16 @@ impl<const KIND: usize, const B: usize> Format<KIND, B> {
         Ok((count, 0))
     }
 
-    /// Whether a filling's last block is less than this one, which is that of the filling whose message bits it reduces to.
+    /// Whether another filling is sent than that of this last block, which is the one in the message bits that it reduces to: one with
+    /// a block of less energy, or a smaller one with a block of as much.
     #[inline(never)]
-    fn louder<const RULE: u8>(free: u8, block: &[i32; 8], bits: u32) -> bool {
-        let (own, energy) = (Self::added(free, bits >> (8 * B - free as usize)), square(block));
+    fn outdone<const RULE: u8>(free: u8, block: &[i32; 8], bits: u32) -> bool {
+        let (own, energy) = (bits >> (8 * B - free as usize), square(block));
+        let taken_off = Self::added(free, own);
         (0..1 << free).any(|filling| {
             let added = Self::added(free, filling);
-            square(&shaped::<RULE>(Self::K, &from_fn(|i| block[i] - own[i] + added[i]))) < energy
+            let other = square(&shaped::<RULE>(Self::K, &from_fn(|i| block[i] - taken_off[i] + added[i])));
+            other < energy + (filling < own) as i32
         })
     }
 
@@ -531,7 +535,7 @@ impl<const KIND: usize, const B: usize> Format<KIND, B> {
         }
         if FREE {
             let (last, bits) = (&frame.as_chunks::<8>().0[Self::BLOCKS - 1], &mut packed[Self::BLOCKS - 1]);
-            if RULE != rule::NONE && Self::louder::<RULE>(free, last, *bits) {
+            if RULE != rule::NONE && Self::outdone::<RULE>(free, last, *bits) {
                 return Err(refusal::UNSHAPED);
             }
             *bits &= u32::MAX >> (32 - 8 * B) >> free;
@@ -707,7 +711,7 @@ pub fn read_strict(kind: u8, grade: u8, number: u32, frame: &[i32], message: &mu
     }
 }
 
-/// The same with the last bits of the message free: only the frames of the least fillings.
+/// The same with the last bits of the message free: only the frame of the smallest filling of least energy.
 #[inline(never)]
 pub fn read_strict_free(
     kind: u8,

@@ -155,7 +155,7 @@ impl Account {
     }
 
     /// Sends as [`crate::send_free`] does, with the last bits of the message free, under [`Account::number`]; the account grows by the
-    /// frame as by any other, and alike whichever filling is sent.
+    /// frame as by any other.
     ///
     /// ```
     /// use frame_coder::{Account, Grade, Kind, Refusal};
@@ -164,6 +164,7 @@ impl Account {
     /// let mut frame = [0; 8];
     /// assert_eq!(account.send(Kind::Three, Grade::One, &[0x12, 0x00], &mut frame), Ok(12));
     /// assert_eq!(account.send_free(Kind::Three, Grade::One, 2, &[0x12, 0x00], &mut frame), Ok(4));
+    /// assert_eq!(frame, [0, -1, 0, 1, 0, 1, 0, -1]);
     /// assert_eq!(account, Account::from_parts(2, 1.5 + 0.5, 12, 0));
     /// # Ok::<(), Refusal>(())
     /// ```

@@ -95,7 +95,7 @@ pub fn read_strict(kind: u8, grade: u8, number: u32, frame: &[i32], message: &mu
 ///
 /// # Errors
 ///
-/// As [`read_open_free`], and last a frame that is not one of those that may be sent under the number.
+/// As [`read_open_free`], and last a frame that is not the one that is sent under the number.
 pub fn read_strict_free(
     kind: u8,
     grade: u8,

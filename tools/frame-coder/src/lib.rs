@@ -32,8 +32,8 @@
 //! first in reading order, an odd one as the last: at the first coordinate where two differ, the smaller comes
 //! first. With an account the count before the send is the number, from the account's changeover on.
 //!
-//! The last bits of a message, up to four, can be left to the sender, who makes the frame quieter by them: [`send_free`] sends a
-//! filling whose frame has the least energy, and [`read_open_free`] and [`read_strict_free`] give the other bits.
+//! The last bits of a message, up to four, can be left to the sender, who makes the frame quieter by them: [`send_free`] sends the
+//! smallest of the fillings of least energy, and [`read_open_free`] and [`read_strict_free`] give the other bits.
 //!
 //! What a receiver has of a frame is noisy samples. Of kinds 3 to 5 [`read_near`] finds the frame of the coding set
 //! that is near to them, of which there is never a second one, and gives its message and how far it is. Of two receivers'
@@ -98,8 +98,8 @@ pub fn send(kind: Kind, grade: Grade, number: u32, message: &[u8], frame: &mut [
 /// Sends under a number with the last bits of the message free, `free` of them, from 0 to [`MAX_FREE`]: they are left to the sender,
 /// and must be given as 0.
 ///
-/// Each way to set them is a filling of the message. The frame of some filling is sent whose frame has the least energy of all, never
-/// more than without free bits; which of several it is, where several have that energy, is open. The energy is the same for each.
+/// Each way to set them is a filling of the message, the free bits read as a number, lowest bit first. Of the fillings whose frames
+/// have the least energy the smallest is sent, the same under every number; its frame never has more energy than without free bits.
 ///
 /// ```
 /// use frame_coder::{read_open_free_to_vec, read_strict_free_to_vec, send, send_free, Grade, Kind, Refusal};
@@ -109,13 +109,14 @@ pub fn send(kind: Kind, grade: Grade, number: u32, message: &[u8], frame: &mut [
 /// assert_eq!(send(kind, grade, 0, &message, &mut frame), Ok(12));
 /// assert_eq!(send_free(kind, grade, 0, 2, &message, &mut frame), Ok(4));
 ///
-/// // Two of the four fillings have the least energy: either frame may be sent, and both are read as the message.
-/// let (one, other) = ([0, -1, 0, 1, 0, 1, 0, -1], [0, -1, 0, 1, 0, 1, 0, 1]);
-/// assert!(frame == one || frame == other);
-/// for frame in [one, other] {
-///     assert_eq!(read_open_free_to_vec(kind, grade, 2, &frame), Ok((message.to_vec(), 4)));
-///     assert_eq!(read_strict_free_to_vec(kind, grade, 0, 2, &frame), Ok((message.to_vec(), 4)));
-/// }
+/// // The fillings are 12 00, 12 04, 12 08 and 12 0C: the second and the third have the least energy, and the second is sent.
+/// assert_eq!(frame, [0, -1, 0, 1, 0, 1, 0, -1]);
+/// assert_eq!(read_strict_free_to_vec(kind, grade, 0, 2, &frame), Ok((message.to_vec(), 4)));
+///
+/// // The frame of the third is read as the message too, but not strictly.
+/// let third = [0, -1, 0, 1, 0, 1, 0, 1];
+/// assert_eq!(read_open_free_to_vec(kind, grade, 2, &third), Ok((message.to_vec(), 4)));
+/// assert_eq!(read_strict_free_to_vec(kind, grade, 0, 2, &third), Err(Refusal::Unshaped));
 ///
 /// // A free bit that is 1, and too many free bits.
 /// assert_eq!(send_free(kind, grade, 0, 2, &[0x12, 0x04], &mut frame), Err(Refusal::SpareBits));
@@ -187,18 +188,19 @@ pub fn read_open_free(kind: Kind, grade: Grade, free: u8, frame: &[i32], message
     by_number::read_open_free(kind.number(), grade.number(), free, frame, message)
 }
 
-/// Reads the frames alone that [`send_free`] may send under the number, those of the fillings of least energy: fills the message, its
-/// free bits as 0, and gives the frame's energy.
+/// Reads the frame alone that [`send_free`] sends under the number: fills the message, its free bits as 0, and gives the frame's
+/// energy.
 ///
 /// ```
 /// use frame_coder::{read_open_free, read_strict_free, send_to_vec, Grade, Kind, Refusal};
 ///
 /// let (kind, grade, mut message) = (Kind::Three, Grade::One, [0; 2]);
-/// // The fillings of 12 00 with two bits free: 12 00, 12 04, 12 08 and 12 0C.
-/// for (last, judged) in [(0x00, false), (0x04, true), (0x08, true), (0x0C, false)] {
-///     let (frame, energy) = send_to_vec(kind, grade, 0, &[0x12, last])?;
+/// // The fillings of 12 00 with two bits free, and their energies.
+/// for (last, energy) in [(0x00, 12), (0x04, 4), (0x08, 4), (0x0C, 12)] {
+///     let (frame, own) = send_to_vec(kind, grade, 0, &[0x12, last])?;
+///     assert_eq!(own, energy);
 ///     let answer = read_strict_free(kind, grade, 0, 2, &frame, &mut message);
-///     assert_eq!(answer, if judged { Ok(energy) } else { Err(Refusal::Unshaped) });
+///     assert_eq!(answer, if last == 0x04 { Ok(4) } else { Err(Refusal::Unshaped) });
 ///     assert_eq!(read_open_free(kind, grade, 2, &frame, &mut message), Ok(energy));
 ///     assert_eq!(message, [0x12, 0x00]);
 /// }
@@ -207,7 +209,8 @@ pub fn read_open_free(kind: Kind, grade: Grade, free: u8, frame: &[i32], message
 ///
 /// # Errors
 ///
-/// As [`read_open_free`], and last [`Refusal::Unshaped`] for a frame that is none of a filling of least energy under the number.
+/// As [`read_open_free`], and last [`Refusal::Unshaped`] for a frame that is not the one that is sent under the number: so for that of
+/// any other filling, also of one with the same energy.
 pub fn read_strict_free(
     kind: Kind,
     grade: Grade,
@@ -304,7 +307,7 @@ pub fn send_to_vec(kind: Kind, grade: Grade, number: u32, message: &[u8]) -> Res
     Ok((frame, energy))
 }
 
-/// Sends under a number with the last bits free: the frame of a filling of least energy, and its energy.
+/// Sends under a number with the last bits free: the frame of the smallest filling of least energy, and its energy.
 ///
 /// # Errors
 ///
@@ -332,7 +335,7 @@ pub fn read_open_free_to_vec(kind: Kind, grade: Grade, free: u8, frame: &[i32]) 
     Ok((message, energy))
 }
 
-/// Reads a frame of a filling of least energy under the number: its message, and the frame's energy.
+/// Reads the frame alone that is sent under the number with the last bits free: its message, and the frame's energy.
 ///
 /// # Errors
 ///

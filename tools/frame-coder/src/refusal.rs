@@ -36,7 +36,7 @@ pub enum Refusal {
     BrokenLevel0 = 7,
     /// Reading at kinds 4 to 6: the coordinates' bits of weight 2 are not a codeword.
     BrokenLevel1 = 8,
-    /// Strict reading: the frame is not one that may be sent for its message under the number.
+    /// Strict reading: the frame is not the one that is sent for its message under the number.
     Unshaped = 9,
     /// Sending with an account: it has 1,000,000 frames or more.
     AccountFull = 11,
@@ -94,7 +94,7 @@ impl Refusal {
             Refusal::OverRange => "a coordinate is outside -16777216 to 16777216",
             Refusal::BrokenLevel0 => "level 0 of the frame is not a codeword",
             Refusal::BrokenLevel1 => "level 1 of the frame is not a codeword",
-            Refusal::Unshaped => "the frame is not one that may be sent for its message under the number",
+            Refusal::Unshaped => "the frame is not the one that is sent for its message under the number",
             Refusal::AccountFull => "the account is full",
             Refusal::BrokenLevel2 => "level 2 of the frame is not a codeword",
             Refusal::Changeover => "the changeover is above 1000000",

@@ -304,22 +304,22 @@ fn sixty_four_coordinates() {
     assert_eq!(read_strict_to_vec(Kind::Six, Grade::One, 1, &[4; 64]), Ok((message, 1024)));
 }
 
-/// 12 00 at kind 3, grade 1, worked by hand: with two bits free the energies of its fillings are 12, 4, 4 and 12, and both frames of
-/// energy 4 may be sent, the same under every number.
+/// 12 00 at kind 3, grade 1, worked by hand: with two bits free the energies of its fillings are 12, 4, 4 and 12, and the frame of
+/// filling 1 is sent, the same under every number.
 #[test]
 fn free_bits_by_hand() {
     let (kind, grade, message) = (Kind::Three, Grade::One, [0x12, 0x00]);
-    let (one, other) = (vec![0, -1, 0, 1, 0, 1, 0, -1], vec![0, -1, 0, 1, 0, 1, 0, 1]);
+    let (one, two) = (vec![0, -1, 0, 1, 0, 1, 0, -1], vec![0, -1, 0, 1, 0, 1, 0, 1]);
     for number in [EVEN, ODD].concat() {
-        let (sent, energy) = send_free_to_vec(kind, grade, number, 2, &message).unwrap();
-        assert!(energy == 4 && (sent == one || sent == other));
+        assert_eq!(send_free_to_vec(kind, grade, number, 2, &message), Ok((one.clone(), 4)));
+        assert_eq!(send_to_vec(kind, grade, number, &[0x12, 0x04]), Ok((one.clone(), 4)));
+        assert_eq!(send_to_vec(kind, grade, number, &[0x12, 0x08]), Ok((two.clone(), 4)));
         for (last, energy) in [(0x00, 12), (0x04, 4), (0x08, 4), (0x0C, 12)] {
             let (frame, own) = send_to_vec(kind, grade, number, &[0x12, last]).unwrap();
             assert_eq!(own, energy);
-            assert_eq!(frame == one || frame == other, energy == 4);
             let read = Ok((message.to_vec(), energy));
             assert_eq!(read_open_free_to_vec(kind, grade, 2, &frame), read);
-            let judged = if energy == 4 { read } else { Err(Refusal::Unshaped) };
+            let judged = if frame == one { read } else { Err(Refusal::Unshaped) };
             assert_eq!(read_strict_free_to_vec(kind, grade, number, 2, &frame), judged);
         }
     }
@@ -340,32 +340,40 @@ fn filled(kind: Kind, grade: Grade, seed: usize, free: u8) -> (Vec<u8>, Vec<Vec<
     (with(0), (0..1 << free).map(with).collect())
 }
 
-/// The least energy of all fillings is sent; a frame of a least filling is read strictly, and no other; free bits are read as 0.
+/// The frame of the first of the least fillings is sent, and is read strictly; that of no other is, under a number of either parity;
+/// free bits are read as 0.
 #[test]
 fn free_bits() {
+    let mut tied = 0;
     for (&kind, &grade) in Kind::ALL.iter().flat_map(|kind| Grade::ALL.iter().map(move |grade| (kind, grade))) {
         for (seed, free) in (0..20).flat_map(|seed| (0..=MAX_FREE).map(move |free| (seed, free))) {
             let (message, fillings) = filled(kind, grade, seed, free);
             let number = [EVEN, ODD].concat()[seed % 10];
             let frames: Vec<(Vec<i32>, u64)> =
                 fillings.iter().map(|filling| send_to_vec(kind, grade, number, filling).unwrap()).collect();
-            let least = frames.iter().map(|(_, energy)| *energy).min().unwrap();
-            let (sent, energy) = send_free_to_vec(kind, grade, number, free, &message).unwrap();
-            assert_eq!(energy, least);
-            assert!(frames.contains(&(sent.clone(), energy)));
-            for (frame, own) in &frames {
+            // The first of several that are least.
+            let (taken, (sent, energy)) = frames.iter().enumerate().min_by_key(|(_, (_, energy))| *energy).unwrap();
+            assert_eq!(send_free_to_vec(kind, grade, number, free, &message), Ok((sent.clone(), *energy)));
+            for (filling, (frame, own)) in frames.iter().enumerate() {
                 let read = Ok((message.clone(), *own));
                 assert_eq!(read_open_free_to_vec(kind, grade, free, frame), read);
-                let judged = if *own == least { read } else { Err(Refusal::Unshaped) };
-                assert_eq!(read_strict_free_to_vec(kind, grade, number, free, frame), judged);
+                if filling == taken {
+                    assert_eq!(read_strict_free_to_vec(kind, grade, number, free, frame), read);
+                    continue;
+                }
+                tied += u32::from(own == energy);
+                for number in [number, number ^ 1] {
+                    let judged = read_strict_free_to_vec(kind, grade, number, free, frame);
+                    assert_eq!(judged, Err(Refusal::Unshaped));
+                }
             }
             // With an account it grows by the frame as by any other.
             let mut account = Account::from_parts(number, 0.25, 3, 0);
             match account.send_free_to_vec(kind, grade, free, &message) {
-                Ok((frame, energy)) => {
-                    assert!(energy == least && frames.contains(&(frame.clone(), energy)));
+                Ok((frame, own)) => {
+                    assert_eq!((&frame, &own), (sent, energy));
                     let blocks = frame.chunks_exact(8).map(|block| block.iter().map(|x| (x * x) as u64).sum::<u64>());
-                    let sum = 0.25 + energy as f64 / kind.frame_length() as f64;
+                    let sum = 0.25 + own as f64 / kind.frame_length() as f64;
                     assert_eq!(account, Account::from_parts(number + 1, sum, blocks.max().unwrap().max(3), 0));
                 }
                 Err(refusal) => {
@@ -373,12 +381,10 @@ fn free_bits() {
                     assert_eq!(account, Account::from_parts(number, 0.25, 3, 0));
                 }
             }
-            // Without free bits it is the call that takes none.
-            if free == 0 {
-                assert_eq!(send_to_vec(kind, grade, number, &message), Ok((sent, energy)));
-            }
         }
     }
+    println!("{tied} fillings as quiet as the one that is sent");
+    assert!(tied > 0);
 }
 
 #[test]
@@ -1040,7 +1046,7 @@ fn refusals() {
     }
     let numbers: Vec<u8> = Refusal::ALL.iter().map(|refusal| refusal.number()).collect();
     assert_eq!(numbers, [1, 2, 3, 4, 5, 6, 7, 8, 9, 11, 13, 14, 15, 16, 17, 18]);
-    let unshaped = "refused 9: the frame is not one that may be sent for its message under the number";
+    let unshaped = "refused 9: the frame is not the one that is sent for its message under the number";
     assert_eq!(Refusal::Unshaped.to_string(), unshaped);
     let over_range = "refused 6: a coordinate is outside -16777216 to 16777216";
     assert_eq!(Refusal::OverRange.to_string(), over_range);

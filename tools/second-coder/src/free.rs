@@ -1,6 +1,6 @@
-//! Free bits: the last bits of a message, 0 to 4 of them, left to the sender. It sends some filling whose frame has the least energy of
-//! all fillings. The frame of each filling is found by searching its own class, and all of least energy are kept: any of them may be
-//! sent, and the strict reading passes each.
+//! Free bits: the last bits of a message, 0 to 4 of them, left to the sender. Of the fillings whose frames have the least energy of all
+//! fillings it sends the smallest, the free bits read as a number, lowest bit first. The frame of each filling is found by searching its
+//! own class, and all of least energy are kept; which of them is sent is decided on the messages that they make, bit by bit.
 
 use crate::account::{grown, Account};
 use crate::frame::{self, bit, leader, read_open_into, shaped, Format, Sent, Tie};
@@ -23,13 +23,13 @@ pub fn cleared(format: &Format, free: u8, message: &[u8]) -> Vec<u8> {
     filled(format, free, message, 0)
 }
 
-/// The frames of a message's fillings under one number, that of filling 0 first.
-pub struct Fillings(pub Vec<Sent>);
+/// The frames of a message's fillings under one number, that of filling 0 first; and the messages that the fillings make.
+pub struct Fillings(pub Vec<Sent>, Vec<Vec<u8>>);
 
 impl Fillings {
     pub fn new(format: &Format, tie: Tie, free: u8, message: &[u8]) -> Fillings {
-        let one = |filling| shaped(format, tie, &leader(format, &filled(format, free, message, filling)));
-        Fillings((0..1 << free).map(one).collect())
+        let messages: Vec<Vec<u8>> = (0..1 << free).map(|filling| filled(format, free, message, filling)).collect();
+        Fillings(messages.iter().map(|message| shaped(format, tie, &leader(format, message))).collect(), messages)
     }
 
     /// The least energy of all.
@@ -43,35 +43,40 @@ impl Fillings {
         (0..self.0.len()).filter(|&filling| self.0[filling].energy == energy).collect()
     }
 
-    /// The frames that may be sent: those of the least fillings.
-    pub fn permitted(&self) -> Vec<&[i64]> {
-        self.least().into_iter().map(|filling| &self.0[filling].frame[..]).collect()
+    /// The filling that is sent. The last bit of the message is the highest of the number: from it on, bit by bit, those of the least stay
+    /// whose message has a 0 there, and all where none has.
+    pub fn taken(&self) -> usize {
+        let mut left = self.least();
+        for place in (0..8 * self.1[0].len()).rev() {
+            let zero = |filling: &usize| !bit(&self.1[*filling], place);
+            if left.iter().any(zero) {
+                left.retain(zero);
+            }
+        }
+        assert_eq!(left.len(), 1, "no two fillings make one message");
+        left[0]
     }
 
-    pub fn permits(&self, frame: &[i64]) -> bool {
-        self.permitted().contains(&frame)
+    /// The frame that is sent.
+    pub fn sent(&self) -> &Sent {
+        &self.0[self.taken()]
     }
 }
 
 /// Sending by one rule for ties with so many bits free, and with the number of coordinates that the caller lends.
-pub fn send_by(kind: u8, grade: u8, tie: Tie, free: u8, message: &[u8], coordinates: usize) -> Result<Fillings, u8> {
+pub fn send_by(kind: u8, grade: u8, tie: Tie, free: u8, message: &[u8], coordinates: usize) -> Result<Sent, u8> {
     let format = frame::test(kind, grade, free, message, coordinates)?;
-    Ok(Fillings::new(&format, tie, free, message))
+    let mut fillings = Fillings::new(&format, tie, free, message);
+    let taken = fillings.taken();
+    Ok(fillings.0.swap_remove(taken))
 }
 
 /// Sending under a number.
-pub fn send_into(
-    kind: u8,
-    grade: u8,
-    number: u32,
-    free: u8,
-    message: &[u8],
-    coordinates: usize,
-) -> Result<Fillings, u8> {
+pub fn send_into(kind: u8, grade: u8, number: u32, free: u8, message: &[u8], coordinates: usize) -> Result<Sent, u8> {
     send_by(kind, grade, Tie::of(number), free, message, coordinates)
 }
 
-/// Sending with an account: the frames that may be sent, and the account grown by one of them. Every one of them grows it alike.
+/// Sending with an account: the frame, and the account grown by it.
 pub fn send_counted(
     kind: u8,
     grade: u8,
@@ -79,12 +84,10 @@ pub fn send_counted(
     message: &[u8],
     coordinates: usize,
     account: Account,
-) -> Result<(Fillings, Account), u8> {
-    let fillings = send_by(kind, grade, account.tie(), free, message, coordinates)?;
-    let all = fillings.permitted().into_iter().map(|frame| grown(account, frame)).collect::<Result<Vec<_>, u8>>()?;
-    assert!(all.iter().all(|one| one.largest == all[0].largest), "one largest block");
-    let account = all[0];
-    Ok((fillings, account))
+) -> Result<(Sent, Account), u8> {
+    let sent = send_by(kind, grade, account.tie(), free, message, coordinates)?;
+    let account = grown(account, &sent.frame)?;
+    Ok((sent, account))
 }
 
 /// Reading openly with so many bits free, which are given as 0.
@@ -95,7 +98,7 @@ pub fn read_open(kind: u8, grade: u8, free: u8, frame: &[i64], bytes: usize) -> 
     Ok((cleared(&format, free, &message), energy))
 }
 
-/// Reading strictly under a number: the frame must be one that may be sent for its message.
+/// Reading strictly under a number: the frame must be the one that is sent under it for its message.
 pub fn read_strict(
     kind: u8,
     grade: u8,
@@ -105,7 +108,7 @@ pub fn read_strict(
     bytes: usize,
 ) -> Result<(Vec<u8>, u64), u8> {
     let (message, energy) = read_open(kind, grade, free, frame, bytes)?;
-    if !send_into(kind, grade, number, free, &message, frame.len())?.permits(frame) {
+    if send_into(kind, grade, number, free, &message, frame.len())?.frame != frame {
         return Err(refusal::UNSHAPED);
     }
     Ok((message, energy))
@@ -133,22 +136,27 @@ mod tests {
         all.map(|(kind, grade)| (kind, grade, Format::new(kind, grade).unwrap()))
     }
 
-    /// 12 00 at kind 3, grade 1 with two bits free, the upper two of s8: 0 1 0 3 0 1 0 1 and 2 times the filling at the last place.
+    /// 12 00 at kind 3, grade 1 with two bits free, the upper two of s8: 0 1 0 3 0 1 0 1 and 2 times the filling at the last place. Of the
+    /// two least fillings the first is sent.
     #[test]
     fn by_hand() {
         let message = [0x12, 0x00];
         let one = [0, -1, 0, 1, 0, 1, 0, -1];
         let two = [0, -1, 0, 1, 0, 1, 0, 1];
         for number in NUMBERS {
-            let fillings = send_into(3, 1, number, 2, &message, 8).unwrap();
+            let fillings = Fillings::new(&Format::new(3, 1).unwrap(), Tie::of(number), 2, &message);
             let energies: Vec<u64> = fillings.0.iter().map(|sent| sent.energy).collect();
             assert_eq!(energies, [12, 4, 4, 12]);
             assert_eq!(fillings.least(), [1, 2]);
-            assert_eq!(fillings.permitted(), [one, two]);
-            for sent in &fillings.0 {
+            assert_eq!(fillings.taken(), 1);
+            assert_eq!((&fillings.0[1].frame[..], &fillings.0[2].frame[..]), (&one[..], &two[..]));
+            assert_eq!((&fillings.sent().frame[..], fillings.sent().energy), (&one[..], 4));
+            let sent = send_into(3, 1, number, 2, &message, 8).unwrap();
+            assert_eq!((&sent.frame[..], sent.energy), (&one[..], 4));
+            for (filling, sent) in fillings.0.iter().enumerate() {
                 let own = sent.energy;
                 assert_eq!(read_open(3, 1, 2, &sent.frame, 2), Ok((message.to_vec(), own)));
-                let judged = if own == 4 { Ok((message.to_vec(), 4)) } else { Err(refusal::UNSHAPED) };
+                let judged = if filling == 1 { Ok((message.to_vec(), 4)) } else { Err(refusal::UNSHAPED) };
                 assert_eq!(read_strict(3, 1, number, 2, &sent.frame, 2), judged);
             }
             // With one bit free, or none, each frame has a message of its own.
@@ -191,8 +199,8 @@ mod tests {
             for message in messages(&format, 0, 6, &mut random) {
                 for number in NUMBERS {
                     let sent = send(kind, grade, number, &message).unwrap();
-                    let fillings = send_into(kind, grade, number, 0, &message, format.length()).unwrap();
-                    assert_eq!((fillings.permitted(), fillings.energy()), (vec![&sent.frame[..]], sent.energy));
+                    let one = send_into(kind, grade, number, 0, &message, format.length()).unwrap();
+                    assert_eq!((&one.frame, one.energy), (&sent.frame, sent.energy));
                     let moved = moved_by_point(&format, &sent.frame, &mut random);
                     for frame in [&sent.frame, &moved] {
                         let bytes = message.len();
@@ -208,27 +216,53 @@ mod tests {
         }
     }
 
-    /// Never more energy than with fewer free bits, or with none; what is sent reads back; a frame of the class of a filling that is not
-    /// sent is read openly alone.
+    /// The filling that is sent is the smallest of the least, the same under every number, and stands in the free bits of the sent frame's message.
+    #[test]
+    fn the_smallest_of_the_least_under_every_number() {
+        let mut random = Random::new(24);
+        for (kind, grade, format) in formats() {
+            let n = format.length();
+            for free in 0..=4u8 {
+                let mut several = 0;
+                for message in messages(&format, free, 40, &mut random) {
+                    let all = NUMBERS.map(|number| Fillings::new(&format, Tie::of(number), free, &message));
+                    let least = all[0].least();
+                    several += (least.len() > 1) as usize;
+                    assert_eq!(Some(&all[0].taken()), least.iter().min());
+                    for (number, fillings) in NUMBERS.into_iter().zip(&all) {
+                        assert_eq!((fillings.least(), fillings.taken()), (least.clone(), all[0].taken()));
+                        let sent = send_into(kind, grade, number, free, &message, n).unwrap();
+                        assert_eq!((&sent.frame, sent.energy), (&fillings.sent().frame, fillings.energy()));
+                        let (read, _) = frame::read_strict(kind, grade, number, &sent.frame).unwrap();
+                        assert_eq!(filling_of(&format, free, &read), fillings.taken());
+                        assert_eq!(cleared(&format, free, &read), message);
+                    }
+                }
+                assert_eq!(several > 0, free > 0, "kind {kind}, grade {grade}, {free} free");
+            }
+        }
+    }
+
+    /// Never more energy than with fewer free bits, or with none; what is sent reads back; the frame of a filling that is not sent, and any
+    /// other frame of a class, is read openly alone.
     #[test]
     fn quieter_and_read_back() {
         let mut random = Random::new(21);
         for (kind, grade, format) in formats() {
-            let (n, m) = (format.length(), format.message_bytes());
+            let m = format.message_bytes();
             for message in messages(&format, 4, 6, &mut random) {
                 let number = random.draw() as u32;
                 let mut before = u64::MAX;
                 for free in 0..=4 {
-                    let fillings = send_into(kind, grade, number, free, &message, n).unwrap();
+                    let fillings = Fillings::new(&format, Tie::of(number), free, &message);
                     assert!(fillings.energy() <= before);
                     before = fillings.energy();
                     for (filling, sent) in fillings.0.iter().enumerate() {
                         assert_eq!(sent.energy, energy(&sent.frame));
                         assert_eq!(read_open(kind, grade, free, &sent.frame, m), Ok((message.clone(), sent.energy)));
                         let judged = read_strict(kind, grade, number, free, &sent.frame, m);
-                        let least = fillings.least().contains(&filling);
                         let read = Ok((message.clone(), sent.energy));
-                        assert_eq!(judged, if least { read } else { Err(refusal::UNSHAPED) });
+                        assert_eq!(judged, if filling == fillings.taken() { read } else { Err(refusal::UNSHAPED) });
                         let moved = moved_by_point(&format, &sent.frame, &mut random);
                         assert_eq!(read_open(kind, grade, free, &moved, m).unwrap().0, message);
                         assert_eq!(read_strict(kind, grade, number, free, &moved, m), Err(refusal::UNSHAPED));
@@ -244,7 +278,7 @@ mod tests {
         energy(&difference)
     }
 
-    /// The frames that may be sent for every message of kind 3, grade 1 with each free count, under both rules: those of two messages that
+    /// The frames that are sent for every message of kind 3, grade 1 with each free count, under both rules: those of two messages that
     /// differ in a bit which is fixed for both are 4 apart or more, and at each pair of counts some are at 4.
     #[test]
     fn every_message_of_kind_3_grade_1_keeps_its_distance() {
@@ -253,9 +287,7 @@ mod tests {
                 let messages = 0..1u32 << (12 - free);
                 let sent = |bits: u32| {
                     let both = [0, 1].map(|number| send_into(3, 1, number, free, &bits.to_le_bytes()[..2], 8).unwrap());
-                    let mut frames: Vec<Vec<i64>> =
-                        both.iter().flat_map(|fillings| fillings.permitted()).map(|frame| frame.to_vec()).collect();
-                    frames.sort();
+                    let mut frames: Vec<Vec<i64>> = both.into_iter().map(|sent| sent.frame).collect();
                     frames.dedup();
                     (bits, frames)
                 };
@@ -278,11 +310,11 @@ mod tests {
         }
     }
 
-    /// At every kind and grade, messages that differ in one fixed bit, with two free counts and two numbers.
+    /// At every kind and grade, messages that differ in one fixed bit, with two free counts and two numbers: the frames of all least fillings.
     #[test]
     fn fixed_bits_keep_their_distance() {
         let mut random = Random::new(22);
-        for (kind, grade, format) in formats() {
+        for (kind, _, format) in formats() {
             for round in 0..30 {
                 let counts = [random.below(5) as u8, random.below(5) as u8];
                 let most = *counts.iter().max().unwrap();
@@ -292,13 +324,15 @@ mod tests {
                 let mut other = message.clone();
                 other[place / 8] ^= 1 << (place % 8);
                 let numbers = [random.draw() as u32, random.draw() as u32];
-                let sent = |i: usize, message: &[u8]| {
-                    send_into(kind, grade, numbers[i], counts[i], message, format.length()).unwrap()
+                let fillings = |i: usize, message: &[u8]| {
+                    let (tie, free) = (Tie::of(numbers[i]), counts[i]);
+                    assert_eq!(cleared(&format, free, message), message);
+                    Fillings::new(&format, tie, free, message)
                 };
-                let (one, two) = (sent(0, &message), sent(1, &other));
-                for frame in one.permitted() {
-                    for other in two.permitted() {
-                        assert!(apart(frame, other) >= 4 << (kind - 3));
+                let (one, two) = (fillings(0, &message), fillings(1, &other));
+                for filling in one.least() {
+                    for other in two.least() {
+                        assert!(apart(&one.0[filling].frame, &two.0[other].frame) >= 4 << (kind - 3));
                     }
                 }
             }
@@ -341,12 +375,28 @@ mod tests {
         }
     }
 
-    /// In an account a frame sent with free bits counts like any other.
+    /// In an account a frame sent with free bits counts like any other; and every least filling would grow it alike.
     #[test]
     fn accounts() {
         let account = Account { count: 3, sum: 0.25, largest: 3, changeover: 0 };
-        let (fillings, grown) = send_counted(3, 1, 2, &[0x12, 0x00], 8, account).unwrap();
-        assert_eq!(fillings.energy(), 4);
-        assert_eq!((grown.count, grown.sum, grown.largest, grown.changeover), (4, 0.75, 4, 0));
+        let (sent, grown_by_it) = send_counted(3, 1, 2, &[0x12, 0x00], 8, account).unwrap();
+        assert_eq!((&sent.frame[..], sent.energy), (&[0, -1, 0, 1, 0, 1, 0, -1][..], 4));
+        let figures = |account: Account| (account.count, account.sum, account.largest, account.changeover);
+        assert_eq!(figures(grown_by_it), (4, 0.75, 4, 0));
+        let mut random = Random::new(25);
+        for (kind, grade, format) in formats() {
+            for free in 1..=4 {
+                for message in messages(&format, free, 10, &mut random) {
+                    let count = random.below(FULL as u64) as u32;
+                    let account = Account { count, changeover: random.below(FULL as u64) as u32, ..account };
+                    let (sent, after) = send_counted(kind, grade, free, &message, format.length(), account).unwrap();
+                    let fillings = Fillings::new(&format, account.tie(), free, &message);
+                    assert_eq!(sent.frame, fillings.sent().frame);
+                    for filling in fillings.least() {
+                        assert_eq!(figures(grown(account, &fillings.0[filling].frame).unwrap()), figures(after));
+                    }
+                }
+            }
+        }
     }
 }

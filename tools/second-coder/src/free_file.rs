@@ -1,10 +1,14 @@
 //! Calls with free bits, with what they must answer and leave, the same on every run.
 
+use std::cmp::Reverse;
+use std::collections::{BTreeMap, BTreeSet};
+
 use crate::account::{largest_block, Account, FULL};
 use crate::calls::{write_account, ONE_FIGURE};
 use crate::class::energy;
-use crate::frame::{Format, FURTHEST, GRADES, KINDS, MOST_FREE};
-use crate::free::{cleared, read_open, read_strict, send_counted, send_into, Fillings};
+use crate::far::added;
+use crate::frame::{leader, shaped, test, Format, Tie, FURTHEST, GRADES, KINDS, MOST_FREE};
+use crate::free::{cleared, filled, read_open, read_strict, send_counted, send_into, Fillings};
 use crate::random::Random;
 use crate::refusal;
 use crate::test_file::TestFile;
@@ -43,6 +47,7 @@ struct Record {
     sent: (u8, u64),
     /// What sending with the account answers, and the account afterwards.
     counted: (u8, u64, Account),
+    /// Where the message is sent the first is the one that is sent, and the only one that passes strictly.
     frames: Vec<Judged>,
 }
 
@@ -51,12 +56,18 @@ fn bits_of(account: Account) -> (u32, u64, u64, u32) {
     (account.count, account.sum.to_bits(), account.largest, account.changeover)
 }
 
+/// The frame that is sent, and behind it those of the other fillings among these.
+fn sent_first(fillings: &Fillings, chosen: impl IntoIterator<Item = usize>) -> Vec<Vec<i64>> {
+    let taken = fillings.taken();
+    let others = chosen.into_iter().filter(|&filling| filling != taken);
+    [taken].into_iter().chain(others).map(|filling| fillings.0[filling].frame.clone()).collect()
+}
+
 impl Record {
     /// With the frames of all fillings where the message is sent, and none where it is refused.
     fn new(kind: u8, grade: u8, free: u8, account: Account, message: &[u8], n: usize) -> Record {
-        let number = account.number();
-        let sent = send_into(kind, grade, number, free, message, n);
-        let frames = sent.map_or(vec![], |fillings| fillings.0.into_iter().map(|sent| sent.frame).collect());
+        let frames = test(kind, grade, free, message, n)
+            .map_or(vec![], |format| sent_first(&Fillings::new(&format, account.tie(), free, message), 0..1 << free));
         Record::with(kind, grade, free, account, message, n, frames)
     }
 
@@ -72,11 +83,11 @@ impl Record {
     ) -> Record {
         let (number, m) = (account.number(), message.len());
         let sent = match send_into(kind, grade, number, free, message, n) {
-            Ok(fillings) => (0, fillings.energy()),
+            Ok(sent) => (0, sent.energy),
             Err(number) => (number, 0),
         };
         let counted = match send_counted(kind, grade, free, message, n, account) {
-            Ok((fillings, grown)) => (0, fillings.energy(), grown),
+            Ok((sent, grown)) => (0, sent.energy, grown),
             Err(number) => (number, 0, account),
         };
         let judged = |frame: Vec<i64>| Judged {
@@ -85,7 +96,9 @@ impl Record {
             energy: energy(&frame),
             frame,
         };
-        let frames = frames.into_iter().map(judged).collect();
+        let frames: Vec<Judged> = frames.into_iter().map(judged).collect();
+        let passed = frames.iter().map(|judged| judged.strict == 0);
+        assert!(passed.eq((0..frames.len()).map(|i| i == 0 && sent.0 == 0)), "the first is sent, and no other");
         let message = message.to_vec();
         Record { kind, grade, free, n, number, account, message, sent, counted, frames }
     }
@@ -112,14 +125,6 @@ impl Record {
         record
     }
 
-    /// Whether any of the frames that may be sent is one of the record's that pass strictly. It must not hang on which of them is sent.
-    fn has(&self, fillings: &Fillings) -> bool {
-        let passes = |frame: &[i64]| self.frames.iter().any(|judged| judged.strict == 0 && judged.frame == frame);
-        let found: Vec<bool> = fillings.permitted().into_iter().map(passes).collect();
-        assert!(found.iter().all(|one| *one == found[0]), "it hangs on which filling is sent");
-        found[0]
-    }
-
     /// The checks that the program makes, in its order, and whether the record passes each.
     fn checks(&self) -> Vec<(usize, bool)> {
         let Record { kind, grade, free, n, number, account, ref message, sent, counted, ref frames } = *self;
@@ -133,15 +138,14 @@ impl Record {
             let strict = right(judged.strict, read_strict(kind, grade, number, free, &judged.frame, message.len()));
             checks.extend([(READ_OPEN, open), (READ_STRICT, strict), (EXPORTED_OPEN, open), (EXPORTED_STRICT, strict)]);
         }
+        let is_first = |frame: Vec<i64>| frames.first().is_some_and(|judged| judged.frame == frame);
         let one = match send_into(kind, grade, number, free, message, n) {
-            Ok(fillings) => sent == (0, fillings.energy()) && self.has(&fillings),
+            Ok(left) => sent == (0, left.energy) && is_first(left.frame),
             Err(number) => sent == (number, 0),
         };
         let after = |expected: Account| bits_of(counted.2) == bits_of(expected);
         let with_account = match send_counted(kind, grade, free, message, n, account) {
-            Ok((fillings, grown)) => {
-                (counted.0, counted.1) == (0, fillings.energy()) && after(grown) && self.has(&fillings)
-            }
+            Ok((left, grown)) => (counted.0, counted.1) == (0, left.energy) && after(grown) && is_first(left.frame),
             Err(number) => (counted.0, counted.1) == (number, 0) && after(account),
         };
         checks.extend([(SENT, one), (COUNTED, with_account), (EXPORTED_SENT, one), (EXPORTED_COUNTED, with_account)]);
@@ -149,9 +153,9 @@ impl Record {
         checks
     }
 
-    /// How many of the frames pass strictly.
-    fn least(&self) -> usize {
-        self.frames.iter().filter(|judged| judged.strict == 0).count()
+    /// The fillings of a message that is sent, under the record's number.
+    fn fillings(&self) -> Fillings {
+        Fillings::new(&Format::new(self.kind, self.grade).unwrap(), Tie::of(self.number), self.free, &self.message)
     }
 
     /// Records that are right but for one thing: a number, an energy, a figure of the account, a coordinate, or a bit of the message.
@@ -181,10 +185,6 @@ impl Record {
             let accepted = judged.open == 0;
             if accepted {
                 change(&|record| record.frames[i].energy += 1);
-            }
-            // One of several least fillings that is changed is a difference to sending only where it is the one that is sent.
-            if judged.strict == 0 && self.least() > 1 {
-                continue;
             }
             change(&|record| record.frames[i].strict ^= 1);
             if accepted {
@@ -249,6 +249,15 @@ impl Calls {
         [EVEN, ODD][odd as usize][self.numbers / 2 % 8]
     }
 
+    /// The next number of a parity for which an account has room.
+    fn number_with_room(&mut self, odd: bool) -> u32 {
+        let mut number = self.number(odd);
+        while number >= FULL {
+            number = self.number(odd);
+        }
+        number
+    }
+
     /// The next number, even and odd by turns.
     fn any(&mut self) -> u32 {
         let odd = self.numbers % 2 == 1;
@@ -268,12 +277,20 @@ impl Calls {
         Account { count, sum, largest, changeover }
     }
 
-    /// A message that is sent under a number, with the frames of its fillings.
-    fn sent(&mut self, kind: u8, grade: u8, free: u8, number: u32, message: &[u8]) {
-        let n = 1 << kind;
-        let fillings = send_into(kind, grade, number, free, message, n).unwrap();
-        let account = self.account(number, largest_block(fillings.permitted()[0]));
-        self.all.push(Record::new(kind, grade, free, account, message, n));
+    /// A message that is sent under a number, with the sent frame and those of these fillings.
+    fn sent(
+        &mut self,
+        kind: u8,
+        grade: u8,
+        free: u8,
+        number: u32,
+        message: &[u8],
+        chosen: impl IntoIterator<Item = usize>,
+    ) {
+        let format = Format::new(kind, grade).unwrap();
+        let frames = sent_first(&Fillings::new(&format, Tie::of(number), free, message), chosen);
+        let account = self.account(number, largest_block(&frames[0]));
+        self.all.push(Record::with(kind, grade, free, account, message, format.length(), frames));
     }
 
     /// A call that is refused, with a frame for the readings to refuse.
@@ -299,7 +316,7 @@ impl Calls {
 fn by_hand(calls: &mut Calls) {
     for free in 0..=MOST_FREE {
         for number in [0, 1, 2, 999_999, u32::MAX - 1, u32::MAX] {
-            calls.sent(3, 1, free, number, &[0x12, 0x00]);
+            calls.sent(3, 1, free, number, &[0x12, 0x00], 0..1 << free);
         }
     }
 }
@@ -311,7 +328,7 @@ fn bits(calls: &mut Calls, kind: u8, grade: u8, free: u8, random: &mut Random) {
     let any = random.below(fixed as u64) as usize;
     for places in [&[][..], &[0], &[fixed - 1], &[fixed - 2], &[any]] {
         let number = calls.any();
-        calls.sent(kind, grade, free, number, &with_bits(&format, places));
+        calls.sent(kind, grade, free, number, &with_bits(&format, places), 0..1 << free);
     }
 }
 
@@ -319,91 +336,161 @@ fn bits(calls: &mut Calls, kind: u8, grade: u8, free: u8, random: &mut Random) {
 const FOR_EACH: [usize; 4] = [100, 60, 40, 40];
 
 /// For each filling a message of which it is the only least one, where one is found: fillings that move the last coordinate away from
-/// both of the nearest points are never least.
+/// both of the nearest points are never least. From two free bits on one more, where a filling before the only least one is quieter than
+/// filling 0 and has a bit that the least one has not. Each message under a number with the frames of all fillings, or with four bits free of
+/// half of them, and under one of the other parity with the sent frame and that of filling 0.
 fn each_filling(calls: &mut Calls, kind: u8, grade: u8, free: u8, random: &mut Random) {
     let format = Format::new(kind, grade).unwrap();
     let mut left: Vec<usize> = (0..1 << free).collect();
+    let mut steps = free > 1;
     for _ in 0..FOR_EACH[kind as usize - 3] << free {
-        if left.is_empty() {
+        if left.is_empty() && !steps {
             break;
         }
-        let number = calls.any();
         let message = cleared(&format, free, &dense(&format, random));
-        let fillings = send_into(kind, grade, number, free, &message, format.length()).unwrap();
+        let fillings = Fillings::new(&format, Tie::First, free, &message);
         if let [only] = fillings.least()[..] {
-            if left.contains(&only) {
+            let quieter = |filling: usize| fillings.0[filling].energy < fillings.0[0].energy;
+            let by_steps = (0..only).any(|filling| filling & !only != 0 && quieter(filling));
+            if left.contains(&only) || (steps && by_steps) {
                 left.retain(|filling| *filling != only);
-                calls.sent(kind, grade, free, number, &message);
+                steps &= !by_steps;
+                let half = 1 << free.min(3);
+                let from = half * random.below(1 << (free / 4)) as usize;
+                let odd = random.one_in(2);
+                for (odd, chosen) in [(odd, from..from + half), (!odd, 0..1)] {
+                    let number = calls.number(odd);
+                    calls.sent(kind, grade, free, number, &message, chosen);
+                }
             }
         }
     }
 }
 
-/// How many messages on the edge are looked at for ties.
-const LOOKED_AT: usize = 60;
+/// Where the bits of the blocks begin.
+fn first_block(format: &Format) -> usize {
+    format.message_bits() - format.length() * format.grade
+}
 
-/// Messages with several least fillings, under an even and an odd number: that with the most, and, the filling 0 being one of the least in
-/// the one and not in the other, two more.
+/// A message whose last block lies on quarters of M, but for its last coordinate, and every other time for its level words: the bits of
+/// less than a quarter are 0.
+fn quartered(format: &Format, random: &mut Random) -> Vec<u8> {
+    let (b, mut message) = (format.grade, dense(format, random));
+    let mut clear = |from: usize, to: usize| (from..to).for_each(|place| message[place / 8] &= !(1 << (place % 8)));
+    if random.one_in(2) {
+        clear(0, first_block(format));
+    }
+    let mut next = format.message_bits() - 8 * b;
+    for width in [b - 1, b, b, b, b, b, b] {
+        clear(next, next + b.saturating_sub(2));
+        next += width;
+    }
+    message
+}
+
+/// How many messages are looked at for ties, by the free count from 1 on.
+const LOOKED_AT: [usize; 4] = [300, 600, 2000, 6000];
+
+/// What a message with several least fillings can show.
+#[derive(Clone, Copy, PartialEq, Eq, PartialOrd, Ord)]
+enum Shown {
+    /// The one filling is sent, and the other is least too.
+    Before(usize, usize),
+    /// Of the frames of the least fillings by the rule of odd numbers, or of even ones, the sent one is not the first in reading order.
+    NotFirst(bool),
+    /// Nor the last.
+    NotLast(bool),
+}
+
+/// What the last block shows of these least fillings: the others are the same for all. Given are the blocks of all fillings.
+fn shown(format: &Format, blocks: &[Vec<i64>], least: &[usize]) -> Vec<Shown> {
+    let mut all: Vec<Shown> = least[1..].iter().map(|&other| Shown::Before(least[0], other)).collect();
+    for odd in [false, true] {
+        let frame = |filling: &usize| shaped(format, Tie::of(odd as u32), &blocks[*filling]).frame;
+        let frames: Vec<Vec<i64>> = least.iter().map(frame).collect();
+        all.extend(frames.iter().any(|frame| *frame < frames[0]).then_some(Shown::NotFirst(odd)));
+        all.extend(frames.iter().any(|frame| *frame > frames[0]).then_some(Shown::NotLast(odd)));
+    }
+    all
+}
+
+/// Messages with several least fillings, each under an even and an odd number, with the frames of the least: as few as are found to show all
+/// that was found. So each two fillings come of which the one is sent where the other is least too, and whoever goes through the fillings in
+/// another order sends another frame of some record, if any message that was looked at has one.
 fn ties(calls: &mut Calls, kind: u8, grade: u8, free: u8, random: &mut Random) {
     let format = Format::new(kind, grade).unwrap();
-    let mut found: Vec<(Vec<usize>, Vec<u8>)> = Vec::new();
-    for _ in 0..LOOKED_AT {
-        let message = cleared(&format, free, &edge(&format, random));
-        let fillings = send_into(kind, grade, 0, free, &message, format.length()).unwrap();
-        let (least, seen) = (fillings.least(), found.iter().any(|(_, other)| *other == message));
-        if least.len() > 1 && !seen {
-            found.push((least, message));
+    // In the last block the filling is added.
+    let last = |message: &[u8]| leader(&format, message)[format.length() - 8..].to_vec();
+    let alone = |filling| last(&filled(&format, free, &with_bits(&format, &[]), filling));
+    let fillings: Vec<Vec<i64>> = (0..1 << free).map(alone).collect();
+    let mut found: BTreeMap<Vec<Shown>, Vec<u8>> = BTreeMap::new();
+    for round in 0..LOOKED_AT[free as usize - 1] {
+        let message = match round % 3 {
+            0 => edge(&format, random),
+            1 => dense(&format, random),
+            _ => quartered(&format, random),
+        };
+        let message = cleared(&format, free, &message);
+        let block = last(&message);
+        let blocks: Vec<Vec<i64>> = fillings.iter().map(|filling| added(&block, filling)).collect();
+        let energies: Vec<u64> = blocks.iter().map(|block| shaped(&format, Tie::First, block).energy).collect();
+        let energy = *energies.iter().min().unwrap();
+        let least: Vec<usize> = (0..1 << free).filter(|&filling| energies[filling] == energy).collect();
+        if least.len() > 1 {
+            found.entry(shown(&format, &blocks, &least)).or_insert(message);
         }
     }
-    found.sort_by_key(|(least, _)| least.len());
-    let mut chosen: Vec<(Vec<usize>, Vec<u8>)> = found.pop().into_iter().collect();
-    for with_zero in [true, false] {
-        if let Some(place) = found.iter().rposition(|(least, _)| least.contains(&0) == with_zero) {
-            chosen.push(found.remove(place));
-        }
-    }
-    for (_, message) in chosen {
+    let mut left: BTreeSet<Shown> = found.keys().flatten().copied().collect();
+    while !left.is_empty() {
+        let new = |all: &[Shown]| all.iter().filter(|one| left.contains(one)).count();
+        let (all, message) = found.iter().max_by_key(|(all, _)| (new(all), Reverse(all.len()))).unwrap();
+        let least = Fillings::new(&format, Tie::First, free, message).least();
         for odd in [false, true] {
-            let number = calls.number(odd);
-            calls.sent(kind, grade, free, number, &message);
+            let number = calls.number_with_room(odd);
+            calls.sent(kind, grade, free, number, message, least.clone());
         }
+        left.retain(|one| !all.contains(one));
     }
 }
 
-/// A message whose least fillings have ties in their classes, under an even and an odd number; and the frames that may be sent, with others
-/// behind them: those that may be sent under a number of the other parity, other members of the classes, frames at the ends of the range
-/// and past them, and frames with a broken level.
+/// A message whose least fillings have ties in their classes, under an even and an odd number; and the frame that is sent, with others
+/// behind it: those of the other least fillings, those of all least fillings under a number of the other parity, other members of the classes,
+/// frames at the ends of the range and past them, and frames with a broken level.
 fn others(calls: &mut Calls, kind: u8, grade: u8, free: u8, random: &mut Random) {
     let format = Format::new(kind, grade).unwrap();
     let (n, levels, scale) = (format.length(), format.levels.len(), format.scale());
-    let both = |message: &[u8]| [0, 1].map(|number| send_into(kind, grade, number, free, message, n).unwrap());
+    let both = |message: &[u8]| {
+        [Tie::First, Tie::Last].map(|tie| {
+            let fillings = Fillings::new(&format, tie, free, message);
+            sent_first(&fillings, fillings.least())
+        })
+    };
     let message = (0..1000).map(|_| cleared(&format, free, &edge(&format, random))).find(|message| {
         let [even, odd] = both(message);
-        even.permitted().len() <= 3 && !odd.permitted().iter().any(|frame| even.permits(frame))
+        even.len() <= 3 && !odd.iter().any(|frame| even.contains(frame))
     });
     let message = message.expect("there is such a message");
     for odd in [false, true] {
         let number = calls.number(odd);
-        calls.sent(kind, grade, free, number, &message);
-        let fillings = both(&message);
-        let own: Vec<Vec<i64>> = fillings[odd as usize].permitted().iter().map(|frame| frame.to_vec()).collect();
-        let last = own[own.len() - 1].clone();
+        calls.sent(kind, grade, free, number, &message, 0..1 << free);
+        let [even, other] = both(&message);
+        let (own, other) = if odd { (other, even) } else { (even, other) };
+        let (sent, last) = (own[0].clone(), own[own.len() - 1].clone());
         let place = random.below(n as u64) as usize;
         let with = |place: usize, by: i64| {
-            let mut frame = last.clone();
+            let mut frame = sent.clone();
             frame[place] += by;
             frame
         };
-        let mut frames = own.clone();
-        frames.extend(fillings[1 - odd as usize].permitted().iter().map(|frame| frame.to_vec()));
-        frames.extend([moved_by_point(&format, &own[0], random), moved_by_point(&format, &last, random)]);
+        let mut frames = [own, other].concat();
+        frames.extend([moved_by_point(&format, &sent, random), moved_by_point(&format, &last, random)]);
         // Twice M at one place is a point too: as far as the range goes.
         let far = (FURTHEST - 128) / (2 * scale) * (2 * scale);
         frames.push(with(place, if odd { far } else { -far }));
-        frames.push(with(place, if odd { FURTHEST + 1 } else { -FURTHEST - 1 } - last[place]));
-        frames.push(with(place, if odd { i32::MIN } else { i32::MAX } as i64 - last[place]));
+        frames.push(with(place, if odd { FURTHEST + 1 } else { -FURTHEST - 1 } - sent[place]));
+        frames.push(with(place, if odd { i32::MIN } else { i32::MAX } as i64 - sent[place]));
         frames.extend((0..levels).map(|level| with(n - 1 - place, 1 << level)));
-        let account = calls.account(number, largest_block(&own[0]));
+        let account = calls.account(number, largest_block(&sent));
         calls.all.push(Record::with(kind, grade, free, account, &message, n, frames));
     }
 }
@@ -415,7 +502,7 @@ fn counts(calls: &mut Calls, kind: u8, grade: u8, random: &mut Random) {
     let good = dense(&format, random);
     for free in [5, 6, 8, 127, 128, 255] {
         calls.refused(kind, grade, free, &with_bits(&format, &[]), &vec![0; n]);
-        calls.refused(kind, grade, free, &good, &send_into(kind, grade, 0, 0, &good, n).unwrap().0[0].frame);
+        calls.refused(kind, grade, free, &good, &send_into(kind, grade, 0, 0, &good, n).unwrap().frame);
     }
     let mut broken = vec![0; n];
     broken[n - 1] = 1;
@@ -541,21 +628,50 @@ fn planted() -> Vec<(Record, Vec<Record>)> {
     // 12 00 has two least fillings with two bits free, 1 and 2, and with one bit free one, which is 1.
     let kind_3 = |free, account, message: &[u8]| Record::new(3, 1, free, account, message, 8);
     let format = Format::new(6, 1).unwrap();
-    let long = (0..).map(|seed| cleared(&format, 4, &dense(&format, &mut Random::new(seed))));
-    let mut long = long.map(|message| Record::new(6, 1, 4, account, &message, 64));
+    let mut long = (0..).map(|seed| cleared(&format, 4, &dense(&format, &mut Random::new(seed))));
+    let fillings = |message: &[u8]| Fillings::new(&format, account.tie(), 4, message);
+    // The only least filling is 3.
+    let long = long.find(|message| fillings(message).least() == [3]).unwrap();
     let right = [
         kind_3(1, account, &[0x12, 0x00]),
         kind_3(2, account, &[0x12, 0x00]),
         kind_3(1, full, &[0x12, 0x00]),
         Record::new(4, 1, 0, account, &[0x20, 0, 0, 0, 0], 16),
-        // The only least filling is 3.
-        long.find(|record| record.least() == 1 && record.frames[3].strict == 0).unwrap(),
+        Record::with(6, 1, 4, account, &long, 64, sent_first(&fillings(&long), 0..5)),
         // A free bit is 1; five bits are free; a byte is too few.
         kind_3(2, account, &[0x12, 0x08]),
         Record::with(3, 1, 5, account, &[0x12, 0x00], 8, vec![vec![0; 8]]),
         Record::with(5, 2, 3, account, &[0; 11], 32, vec![vec![0; 32]]),
     ];
     right.into_iter().map(|record| (record.clone(), record.wrong())).collect()
+}
+
+/// Records with several least fillings, of each kind with each free count, under an even and an odd number: each with the sent frame and that of
+/// another least filling exchanged, once without what the readings answer of them, which stays at its place, and once with it.
+fn exchanged() -> Vec<(Record, [Record; 2])> {
+    let mut all = Vec::new();
+    for (kind, free) in KINDS.flat_map(|kind| (1..=MOST_FREE).map(move |free| (kind, free))) {
+        let grade = 1 + (kind + free) % 4;
+        let format = Format::new(kind, grade).unwrap();
+        for count in [4, 5] {
+            let account = Account { count, sum: 0.25, largest: 7, changeover: 2 };
+            let edges = (0..).map(|seed| cleared(&format, free, &edge(&format, &mut Random::new(seed))));
+            let mut all_least = edges.map(|message| {
+                let fillings = Fillings::new(&format, account.tie(), free, &message);
+                (message, sent_first(&fillings, fillings.least()))
+            });
+            let (message, least) = all_least.find(|(_, least)| (2..4).contains(&least.len())).unwrap();
+            let right = Record::with(kind, grade, free, account, &message, format.length(), least);
+            let last = right.frames.len() - 1;
+            let (mut frames, mut answers) = (right.clone(), right.clone());
+            answers.frames.swap(0, last);
+            for (i, other) in [(0, last), (last, 0)] {
+                frames.frames[i].frame = right.frames[other].frame.clone();
+            }
+            all.push((right, [frames, answers]));
+        }
+    }
+    all
 }
 
 /// The records of a kind and grade that are sent: how many there are for each free count, how many of them have several least fillings, and
@@ -601,7 +717,7 @@ pub fn free_file() -> (TestFile, Counts) {
             strict[judged.strict as usize] += 1;
         }
         if record.sent.0 == 0 {
-            let least = record.least();
+            let least = record.fillings().least().len();
             let own = ties.iter_mut().find(|count| (count.kind, count.grade) == (record.kind, record.grade)).unwrap();
             let free = record.free as usize;
             own.records[free] += 1;
@@ -609,7 +725,8 @@ pub fn free_file() -> (TestFile, Counts) {
             own.most[free] = own.most[free].max(least);
         }
     }
-    let wrong: Vec<Record> = planted().into_iter().flat_map(|(_, wrong)| wrong).collect();
+    let mut wrong: Vec<Record> = planted().into_iter().flat_map(|(_, wrong)| wrong).collect();
+    wrong.extend(exchanged().into_iter().flat_map(|(_, wrong)| wrong));
     for record in &wrong {
         file.put(&record.bytes(), &record.checks());
     }
@@ -623,7 +740,6 @@ pub fn free_file() -> (TestFile, Counts) {
 mod tests {
     use super::*;
     use crate::far::tests::{past, WRONG_RANGES};
-    use crate::frame::{leader, shaped, Tie};
     use crate::free::filling_of;
     use crate::test_file::fields_apart;
 
@@ -655,6 +771,50 @@ mod tests {
         assert_eq!(came(counts.open), [0, 1, 2, 3, 4, 6, 7, 8, 13, 17]);
         assert_eq!(came(counts.strict), [0, 1, 2, 3, 4, 6, 7, 8, 9, 13, 17]);
         assert!(counts.ties.iter().all(|count| count.tied[1..].iter().all(|&tied| tied > 3)));
+        // What is sent passes strictly, and nothing else.
+        assert_eq!(counts.strict[0], counts.sent[0]);
+    }
+
+    /// The sent filling of a message with each other that is least too.
+    fn twos(fillings: &Fillings) -> Vec<(usize, usize)> {
+        let taken = fillings.taken();
+        fillings.least().into_iter().filter(|&filling| filling != taken).map(|other| (taken, other)).collect()
+    }
+
+    /// Those of the records whose numbers have this parity, where the frame of the other is read strictly.
+    fn twos_read(sent: &[&Record], parity: u32) -> BTreeSet<(usize, usize)> {
+        let own = |record: &&Record| {
+            let fillings = record.fillings();
+            let mut all = twos(&fillings);
+            all.retain(|(_, other)| {
+                let is_other = |judged: &&Judged| judged.frame == fillings.0[*other].frame;
+                let read = record.frames.iter().find(is_other).map(|judged| (judged.open, judged.strict));
+                assert!(read.is_none_or(|read| read == (0, refusal::UNSHAPED)));
+                read.is_some()
+            });
+            all
+        };
+        sent.iter().filter(|record| record.number % 2 == parity).flat_map(own).collect()
+    }
+
+    /// The same ones under numbers of both parities. With two bits free 3 is never sent before another, nor 2.
+    #[test]
+    fn several_least_fillings_come() {
+        each_sent(|kind, grade, free, sent| {
+            let [even, odd] = [0, 1].map(|parity| twos_read(sent, parity));
+            assert_eq!(even, odd);
+            let all: Vec<(usize, usize)> = even.into_iter().collect();
+            match free {
+                1 => assert_eq!(all, [(0, 1)]),
+                2 => assert_eq!(all, [(0, 1), (0, 2), (0, 3), (1, 2), (1, 3)]),
+                _ => assert!(all.len() > 10, "kind {kind}, grade {grade}, {free} free: {all:?}"),
+            }
+        });
+    }
+
+    /// The checks that a record fails.
+    fn failed(record: &Record) -> Vec<usize> {
+        record.checks().into_iter().filter(|(_, passed)| !passed).map(|(check, _)| check).collect()
     }
 
     /// A planted record differs from the right one in one thing alone, and no two are the same; of each the program finds a difference.
@@ -667,13 +827,25 @@ mod tests {
                 let frame = || [1, 1, 8].into_iter().chain(vec![4; right.n]);
                 head.chain(account).chain(right.frames.iter().flat_map(move |_| frame()))
             };
-            assert!(right.checks().iter().all(|(_, passed)| *passed));
+            assert!(failed(&right).is_empty());
             let all: Vec<Vec<u8>> = wrong.iter().map(Record::bytes).collect();
             for (i, record) in wrong.iter().enumerate() {
                 assert_eq!(fields_apart(&right.bytes(), &all[i], sizes()), 1);
                 assert!(!all[..i].contains(&all[i]));
-                assert!(record.checks().iter().any(|(_, passed)| !passed));
+                assert!(!failed(record).is_empty());
             }
+        }
+    }
+
+    /// Of two frames that are exchanged both have the strict answer of the other, or all answers are right; the sendings differ both times.
+    #[test]
+    fn the_frames_of_two_least_fillings_are_exchanged() {
+        for (right, [frames, answers]) in exchanged() {
+            assert!(failed(&right).is_empty());
+            let sendings = [SENT, COUNTED, EXPORTED_SENT, EXPORTED_COUNTED];
+            let strict = [READ_STRICT, EXPORTED_STRICT];
+            assert_eq!(failed(&frames), [&strict[..], &strict, &sendings].concat());
+            assert_eq!(failed(&answers), sendings);
         }
     }
 
@@ -707,12 +879,14 @@ mod tests {
         all.into_iter().min_by_key(|(_, energy)| *energy).unwrap()
     }
 
-    /// Where the bits of the blocks begin.
-    fn first_block(format: &Format) -> usize {
-        format.message_bits() - format.length() * format.grade
+    /// The filling with those bits set, one after the other, that make the frame quieter.
+    fn bit_by_bit(all: Vec<(Vec<i64>, u64)>, bits: impl Iterator<Item = usize>) -> (Vec<i64>, u64) {
+        let quieter = |filling: usize, bit: usize| all[filling | 1 << bit].1 < all[filling].1;
+        let filling = bits.fold(0, |filling, bit| filling | (quieter(filling, bit) as usize) << bit);
+        all[filling].clone()
     }
 
-    const SENDERS: [(&str, Sender); 12] = [
+    const SENDERS: [(&str, Sender); 16] = [
         ("the first filling", |format, tie, free, message| fillings(format, tie, free, message).swap_remove(0)),
         ("the last filling", |format, tie, free, message| fillings(format, tie, free, message).pop().unwrap()),
         ("the least but the first", |format, tie, free, message| {
@@ -750,29 +924,40 @@ mod tests {
             frame[n - 8..].copy_from_slice(&leader(format, message)[n - 8..]);
             (frame, energy)
         }),
+        ("quieter than the first", |format, tie, free, message| {
+            let all = fillings(format, tie, free, message);
+            all.iter().find(|(_, energy)| *energy < all[0].1).unwrap_or(&all[0]).clone()
+        }),
+        ("no noisier than the last", |format, tie, free, message| {
+            let all = fillings(format, tie, free, message);
+            all.iter().find(|(_, energy)| *energy <= all[all.len() - 1].1).unwrap().clone()
+        }),
+        ("bit by bit, the lowest first", |format, tie, free, message| {
+            bit_by_bit(fillings(format, tie, free, message), 0..free as usize)
+        }),
+        ("bit by bit, the highest first", |format, tie, free, message| {
+            bit_by_bit(fillings(format, tie, free, message), (0..free as usize).rev())
+        }),
     ];
 
-    /// Wrong senders are told apart at each kind and grade with each free count. A frame of kind 3 is one block.
+    /// Wrong senders are told apart at each kind and grade with each free count. A frame of kind 3 is one block; and the last four are right
+    /// with one bit free.
     #[test]
     fn wrong_senders_are_told_apart() {
         each_sent(|kind, grade, free, sent| {
             let format = Format::new(kind, grade).unwrap();
-            for (name, sender) in SENDERS {
+            for (i, (name, sender)) in SENDERS.into_iter().enumerate() {
                 let told = sent.iter().any(|record| {
-                    let (frame, energy) = sender(&format, Tie::of(record.number), free, &record.message);
-                    let permitted = |judged: &Judged| judged.strict == 0 && judged.frame == frame;
-                    energy != record.sent.1 || !record.frames.iter().any(permitted)
+                    let left = sender(&format, Tie::of(record.number), free, &record.message);
+                    left != (record.frames[0].frame.clone(), record.sent.1)
                 });
-                // The lowest bit of the last number, at kind 3 the lowest that is free, then makes no frame quieter.
-                let lowest = kind == 3 && grade > 1 && free == grade + 1;
-                let same = (name == "the first block" && kind == 3) || (name == "one bit too few" && lowest);
+                let same = (name == "the first block" && kind == 3) || (i >= SENDERS.len() - 4 && free == 1);
                 assert_eq!(told, !same, "kind {kind}, grade {grade}, {free} free, {name}");
             }
             // Fillings that are the only least ones: with one bit free both.
             let mut alone: Vec<usize> = Vec::new();
-            for record in sent.iter().filter(|record| record.least() == 1) {
-                let judged = record.frames.iter().find(|judged| judged.strict == 0).unwrap();
-                let (message, _) = crate::frame::read_open(kind, grade, &judged.frame).unwrap();
+            for record in sent.iter().filter(|record| record.fillings().least().len() == 1) {
+                let (message, _) = crate::frame::read_open(kind, grade, &record.frames[0].frame).unwrap();
                 alone.push(filling_of(&format, free, &message));
             }
             alone.sort();
@@ -781,30 +966,153 @@ mod tests {
         });
     }
 
-    /// Wrong readings are told apart at each kind and grade with each free count.
+    /// Of the fillings of a message with so many bits free, under a number, one of the least.
+    type Choice = fn(u8, u32, &Fillings) -> usize;
+
+    /// Whether a choice can be another than the right one at a kind and grade with a free count, under a number of a parity.
+    type Differs = fn(u8, u8, u8, u32) -> bool;
+
+    /// The first of the least by a key.
+    fn by<K: Ord>(fillings: &Fillings, key: impl FnMut(&usize) -> K) -> usize {
+        fillings.least().into_iter().min_by_key(key).unwrap()
+    }
+
+    /// That of the least at a place, or the last.
+    fn at(fillings: &Fillings, place: usize) -> usize {
+        let least = fillings.least();
+        least[place.min(least.len() - 1)]
+    }
+
+    fn last(fillings: &Fillings) -> usize {
+        at(fillings, 15)
+    }
+
+    /// The place of a filling in Gray's order, in which each differs from the one before it in one bit.
+    fn in_grays_order(filling: usize) -> usize {
+        (0..4).fold(0, |place, shift| place ^ filling >> shift)
+    }
+
+    /// Wrong choices. Gray's order and the fewest ones turn some two fillings round: of messages that were looked at such two are the least of
+    /// some for Gray's order where the free bits are not those of the last number alone, and for the fewest ones where three are free and more,
+    /// but not at kind 3, grade 1.
+    const CHOICES: [(&str, Differs, Choice); 15] = [
+        ("the largest", |_, _, _, _| true, |_, _, all| last(all)),
+        (
+            "highest bit first",
+            |_, _, free, _| free > 1,
+            |free, _, all| by(all, |filling| filling.reverse_bits() >> (usize::BITS - free as u32)),
+        ),
+        (
+            "in Gray's order",
+            |_, grade, free, _| free > grade + 1,
+            |_, _, all| by(all, |filling| in_grays_order(*filling)),
+        ),
+        ("odd ones first", |_, _, _, _| true, |_, _, all| by(all, |filling| (1 - filling % 2, *filling))),
+        ("0 after all others", |_, _, _, _| true, |_, _, all| by(all, |filling| (*filling == 0, *filling))),
+        ("with a sign", |_, _, _, _| true, |free, _, all| by(all, |filling| filling ^ 1 << (free - 1))),
+        (
+            "the fewest ones",
+            |kind, grade, free, _| free > 2 && (kind, grade) != (3, 1),
+            |_, _, all| by(all, |filling| (filling.count_ones(), *filling)),
+        ),
+        ("0 or the last", |_, _, free, _| free > 1, |_, _, all| if all.least()[0] == 0 { 0 } else { last(all) }),
+        ("the second", |_, _, _, _| true, |_, _, all| at(all, 1)),
+        (
+            "the last by odd numbers",
+            |_, _, _, parity| parity == 1,
+            |_, number, all| by(all, |filling| if number % 2 == 1 { 16 - filling } else { *filling }),
+        ),
+        (
+            "the last by even numbers",
+            |_, _, _, parity| parity == 0,
+            |_, number, all| by(all, |filling| if number % 2 == 0 { 16 - filling } else { *filling }),
+        ),
+        ("the second by odd numbers", |_, _, _, parity| parity == 1, |_, number, all| at(all, number as usize % 2)),
+        ("the first frame", |_, _, _, _| true, |_, _, all| by(all, |filling| &all.0[*filling].frame)),
+        ("the last frame", |_, _, _, _| true, |_, _, all| by(all, |filling| Reverse(&all.0[*filling].frame))),
+        (
+            "the first frame, by odd numbers the last",
+            |_, _, _, _| true,
+            |_, number, all| match number % 2 {
+                0 => by(all, |filling| &all.0[*filling].frame),
+                _ => by(all, |filling| Reverse(&all.0[*filling].frame)),
+            },
+        ),
+    ];
+
+    /// Wrong choices of one of the least fillings are told apart at each kind and grade with each free count, under numbers of each parity, without
+    /// an account and with one: what is sent is another frame, and a strict reading that passes it refuses the right one.
+    #[test]
+    fn wrong_choices_are_told_apart() {
+        each_sent(|kind, grade, free, sent| {
+            let with_room: Vec<&Record> = sent.iter().copied().filter(|record| record.counted.0 == 0).collect();
+            for (name, differs, choice) in CHOICES {
+                for parity in [0, 1] {
+                    let told = with_room.iter().filter(|record| record.number % 2 == parity).any(|record| {
+                        let fillings = record.fillings();
+                        fillings.0[choice(free, record.number, &fillings)].frame != record.frames[0].frame
+                    });
+                    let expected = differs(kind, grade, free, parity);
+                    assert_eq!(told, expected, "kind {kind}, grade {grade}, {free} free, {name}, parity {parity}");
+                }
+            }
+        });
+    }
+
+    /// At kind 3, grade 1 all messages: the sent filling and each other that is least too are those of a record, so another order of the
+    /// fillings that sends another frame of any message does so of a record; and a choice that is told apart by no record never differs.
+    #[test]
+    fn every_message_of_kind_3_grade_1_is_told_apart() {
+        let format = Format::new(3, 1).unwrap();
+        each_sent(|kind, grade, free, sent| {
+            if (kind, grade) != (3, 1) {
+                return;
+            }
+            let read = twos_read(sent, 0);
+            for parity in [0, 1] {
+                let mut different = [false; CHOICES.len()];
+                for bits in 0..1u32 << (12 - free) {
+                    let fillings = Fillings::new(&format, Tie::of(parity), free, &bits.to_le_bytes()[..2]);
+                    assert!(twos(&fillings).iter().all(|two| read.contains(two)));
+                    for (different, (_, _, choice)) in different.iter_mut().zip(CHOICES) {
+                        *different |= choice(free, parity, &fillings) != fillings.taken();
+                    }
+                }
+                assert_eq!(different, CHOICES.map(|(_, differs, _)| differs(kind, grade, free, parity)));
+            }
+        });
+    }
+
+    /// Wrong readings are told apart at each kind and grade with each free count, the strict ones under numbers of both parities.
     #[test]
     fn wrong_readings_are_told_apart() {
         each_sent(|kind, grade, free, sent| {
             let format = Format::new(kind, grade).unwrap();
             let told = |passes: &dyn Fn(&Record, &Fillings, &[i64]) -> bool| {
-                sent.iter().any(|record| {
-                    let fillings = Fillings::new(&format, Tie::of(record.number), free, &record.message);
-                    let read = record.frames.iter().filter(|judged| judged.open == 0);
-                    { read }.any(|judged| passes(record, &fillings, &judged.frame) != (judged.strict == 0))
+                [0, 1].into_iter().all(|parity| {
+                    sent.iter().filter(|record| record.number % 2 == parity).any(|record| {
+                        let fillings = record.fillings();
+                        let read = record.frames.iter().filter(|judged| judged.open == 0);
+                        { read }.any(|judged| passes(record, &fillings, &judged.frame) != (judged.strict == 0))
+                    })
                 })
             };
-            let of_a_filling = |fillings: &Fillings, frame: &[i64]| fillings.0.iter().any(|sent| sent.frame == frame);
-            assert!(told(&|_, fillings, frame| of_a_filling(fillings, frame)), "every filling");
-            assert!(told(&|_, fillings, frame| fillings.0[0].frame == frame), "filling 0 alone");
-            assert!(told(&|_, fillings, frame| fillings.permitted()[0] == frame), "the first least filling");
-            assert!(told(&|_, fillings, frame| *fillings.permitted().last().unwrap() == frame), "the last least one");
-            assert!(told(&|_, fillings, frame| energy(frame) == fillings.energy()), "any frame of least energy");
-            assert!(told(&|record, _, frame| {
-                Fillings::new(&format, Tie::of(record.number ^ 1), free, &record.message).permits(frame)
-            }));
-            assert!(told(&|record, _, frame| {
-                Fillings::new(&format, Tie::of(record.number), free - 1, &record.message).permits(frame)
-            }));
+            let any_of = |fillings: &Fillings, all: &[usize], frame: &[i64]| {
+                all.iter().any(|filling| fillings.0[*filling].frame == frame)
+            };
+            let other = |record: &Record, number: u32, free: u8| {
+                Fillings::new(&format, Tie::of(number), free, &record.message).sent().frame.clone()
+            };
+            assert!(told(&|_, all, frame| all.0.iter().any(|sent| sent.frame == frame)), "every filling");
+            assert!(told(&|_, all, frame| any_of(all, &all.least(), frame)), "every least filling");
+            assert!(told(&|_, all, frame| all.0[last(all)].frame == frame), "the last least filling");
+            assert!(told(&|_, all, frame| all.0[0].frame == frame), "filling 0 alone");
+            assert!(told(&|_, all, frame| any_of(all, &[0, all.taken()], frame)), "filling 0 too");
+            assert!(told(&|_, all, frame| energy(frame) == all.energy()), "any frame of least energy");
+            assert!(told(&|record, _, frame| other(record, record.number ^ 1, free) == frame), "the other parity");
+            let both = |record: &Record| [0, 1].map(|number| other(record, number, free));
+            assert!(told(&|record, _, frame| both(record).iter().any(|sent| sent == frame)), "either parity");
+            assert!(told(&|record, _, frame| other(record, record.number, free - 1) == frame), "one bit too few");
             // The bytes of the open reading: with the free bits left, with one too many cleared, and one too few.
             let other = |cleared_bits: u8| {
                 sent.iter().any(|record| {

@@ -5,7 +5,7 @@
 //! even number sends the first in reading order, and an odd one the last. The near reading takes
 //! its frame from a list of all whole frames within reach of the samples; of two recordings each is read so,
 //! and messages and distances are compared. Where bits of the message are free, the class of each filling is
-//! searched, and every filling of least energy is kept.
+//! searched, every filling of least energy is kept, and of these the smallest is found on the bits of the messages.
 
 pub mod account;
 pub mod calls;

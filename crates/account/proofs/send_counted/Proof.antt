@@ -1,10 +1,10 @@
 -- `send_counted` meets its contract: what is left, by the number that is answered. Assumes nothing.
-use mathlib.Core.Path.{_≡_, refl, sym, _∙_}
+use mathlib.Core.Path.{_≡_, sym, _∙_}
 use native.Mathlib.Omega.{arith}
 use lib.ListN.{length}
 use Rattle.frames.proofs.Accepted.{all-passed, sent-leaves, refused-leaves}
 use Rattle.frames.proofs.Rows.{grade-low}
-use Rattle.free_bits.proofs.Fillings.{quiet-energy, quiet-least}
+use Rattle.free_bits.proofs.Fillings.{quiet-least}
 use Rattle.power_account.specs.Counted.{numberFor, countedRefusal}
 use Rattle.power_account.proofs.Answers.{passed, account-refused, account-sent}
 use borrow.Author.Needs.{needs}
@@ -24,11 +24,9 @@ returns c =
     let s = t .before .before .before .args in
     let e = c .refused .ensures in
     let no : c .refused .result .number ≡ 0 → ⊥ = λ z. omega (arith, z, e .0, t .if1 .taken) in
-    let n = refused-leaves (c .refused .result .number) (s .kind) (s .grade) (s .free) (numberFor (s .account)) (s .message .now) no in
-    let a = account-refused (c .refused .result .number) (s .kind) (s .grade) (s .free) (s .message .now) (s .account) no in (
-      e .0 ∙ t .before .refusal .ensures,
-      (record { sent = λ z. absurd (no z); kept = λ z. refl }, (e .1 ∙ sym n, (e .2 ∙ sym a, (λ z. absurd (no z))))),
-    )
+    let n = refused-leaves (c .refused .result .number) (s .kind) (s .grade) (s .free) (numberFor (s .account)) (s .message .now) (s .frame .now) no in
+    let a = account-refused (c .refused .result .number) (s .kind) (s .grade) (s .free) (s .message .now) (s .account) no in
+    (e .0 ∙ t .before .refusal .ensures, (sym (n .0), (e .1 ∙ sym (n .1), (e .2 ∙ sym a, λ z. absurd (no z)))))
 
 -- past the test the number is 0
 accepted : (d : tie.Else1) → let s = d .before .before .before .args in
@@ -52,17 +50,16 @@ returns-2 c =
     let p = all-passed (s .kind) (s .grade) (s .free) (s .message .now) (length (s .frame .now))
     (passed (s .kind) (s .grade) (s .free) (s .message .now) (length (s .frame .now)) (s .account) (accepted d)) in
     let low = grade-low (s .grade) (p .grade) in
-    let same = quiet-energy (s .kind) (s .grade) (s .free) (numberFor (s .account)) (s .message .now) _ (e .0) in
-    let t = sent-leaves number (s .kind) (s .grade) (s .free) (numberFor (s .account)) (s .message .now) z in
+    let t = sent-leaves number (s .kind) (s .grade) (s .free) (numberFor (s .account)) (s .message .now) (s .frame .now) z in
     let q = account-sent number (s .kind) (s .grade) (s .free) (s .message .now) (s .account) z in (
       z ∙ sym (accepted d),
       (
-        record { sent = λ _. e .0; kept = λ no. absurd (no z) },
+        e .0 ∙ sym (t .0),
         (
-          e .1 .0 .1 ∙ sym t,
+          e .1 .0 .1 ∙ sym (t .1),
           (
             e .1 .1 ∙ sym q,
-            (λ _. quiet-least (s .kind) (s .grade) (s .free) (numberFor (s .account)) (p .kind) low (s .message .now) _ _ (e .0) (e .1 .0 .1 ∙ sym same)),
+            λ _. quiet-least (s .kind) (s .grade) (s .free) (numberFor (s .account)) (p .kind) low (s .message .now) (e .0) (e .1 .0 .1),
           ),
         ),
       ),

@@ -1,13 +1,17 @@
--- `write_counted` meets its contract: a quiet frame under the account's number, and the account grown by it. Assumes nothing.
-use Prim.Native.Nat.{ℕ, _^_}
-use mathlib.Core.Path.{_≡_, refl, ap, _∙_, subst}
+-- `write_counted` meets its contract: the frame that is sent under the account's number, and the account grown by it. Assumes nothing.
+use Prim.Native.Nat.{ℕ}
+use mathlib.Core.Path.{_≡_, refl, sym, ap, _∙_}
+use mathlib.Core.List.{List}
 use lib.ListN.{length}
-use Rattle.frames.specs.Free.{Quiet, quietEnergy, quietLargest}
+use lib.IntN.{ℤ}
+use Rattle.e8.specs.Energy.{energy}
+use Rattle.e8.specs.Largest.{largestBlock}
+use Rattle.frames.specs.Free.{quietFrame}
 use Rattle.frames.specs.Sending.{sendRefusal}
 use Rattle.frames.proofs.Accepted.{Passed, all-passed, accepted-exactly}
 use Rattle.frames.proofs.Rows.{grade-low, grade-high}
-use Rattle.free_bits.proofs.Fillings.{free-few}
-use Rattle.power_account.specs.Power.{grownWith}
+use Rattle.free_bits.proofs.Fillings.{free-few, quiet-frame-long}
+use Rattle.power_account.specs.Power.{grown}
 use Rattle.power_account.specs.Counted.{numberFor}
 use Rattle.power_account.proofs.Answers.{passed, room, measured}
 use borrow.Author.Needs.{needs}
@@ -38,23 +42,19 @@ write-sent-requires c κs =
 
 -- the number asked for is the account's, and so are the frame, the energy and the largest block
 module _ (w : tie.After-write-sent) where
-  under : w .before .before .next-number .result ≡ numberFor (at-start w .args .account)
-  under = w .before .before .next-number .ensures
+  abbrev sent : List ℤ
+  sent = let a = at-start w .args in quietFrame (a .kind) (a .grade) (a .free) (numberFor (a .account)) (a .message .now)
 
-  frame-is : let a = at-start w .args in Quiet (a .kind) (a .grade) (a .free) (numberFor (a .account)) (a .message .now) (w .write-sent .last .1 .1 .1 .1 .1 .0)
-  frame-is =
+  under : let a = at-start w .args in quietFrame (a .kind) (a .grade) (a .free) (w .before .before .next-number .result) (a .message .now) ≡ sent
+  under =
       let a = at-start w .args in
-      subst (λ (number : ℕ). Quiet (a .kind) (a .grade) (a .free) number (a .message .now) (w .write-sent .last .1 .1 .1 .1 .1 .0)) under (w .write-sent .ensures .0)
+      ap (λ (number : ℕ). quietFrame (a .kind) (a .grade) (a .free) number (a .message .now)) (w .before .before .next-number .ensures)
 
-  energy-is : let a = at-start w .args in w .write-sent .result .energy ≡ quietEnergy (a .kind) (a .grade) (a .free) (numberFor (a .account)) (a .message .now)
-  energy-is =
-      let a = at-start w .args in
-      w .write-sent .ensures .1 .0 ∙ ap (λ (number : ℕ). quietEnergy (a .kind) (a .grade) (a .free) number (a .message .now)) under
+  energy-is : w .write-sent .result .energy ≡ energy sent
+  energy-is = w .write-sent .ensures .1 .0 ∙ ap energy under
 
-  largest-is : let a = at-start w .args in w .write-sent .result .largest ≡ quietLargest (a .kind) (a .grade) (a .free) (numberFor (a .account)) (a .message .now)
-  largest-is =
-      let a = at-start w .args in
-      w .write-sent .ensures .1 .1 ∙ ap (λ (number : ℕ). quietLargest (a .kind) (a .grade) (a .free) number (a .message .now)) under
+  largest-is : w .write-sent .result .largest ≡ largestBlock sent
+  largest-is = w .write-sent .ensures .1 .1 ∙ ap largestBlock under
 
 grow-requires : tie.Need-grow-requires
 grow-requires c κs =
@@ -66,20 +66,20 @@ grow-requires c κs =
 same-length : tie.Need-same-length
 same-length c = search needs
 
--- the account grown by the figures of the sent frame
-has-grown : (c : tie.After-grow) → let a = at-start (c .before .before) .args in
-    c .grow .result ≡ grownWith (a .account) (quietEnergy (a .kind) (a .grade) (a .free) (numberFor (a .account)) (a .message .now)) (2 ^ a .kind)
-    (quietLargest (a .kind) (a .grade) (a .free) (numberFor (a .account)) (a .message .now))
+-- the account grown by the sent frame
+has-grown : (c : tie.After-grow) → c .grow .result ≡ grown (at-start (c .before .before) .args .account) (sent (c .before .before))
 has-grown c =
     let w = c .before .before in
     let s = at-start w in
     let a = s .args in
     let p = tests s in
     let r = room (a .kind) (a .grade) (a .free) (a .message .now) (length (a .frame .now)) (a .account) (s .pre) in
-    simp (r, p .coordinates, energy-is w, largest-is w) at (c .grow .ensures)
+    let low = grade-low (a .grade) (p .grade) in
+    let long = p .coordinates ∙ sym (quiet-frame-long (a .kind) (a .grade) (a .free) (numberFor (a .account)) (p .kind) low (a .message .now)) in
+    simp (r, long, energy-is w, largest-is w) at (c .grow .ensures)
 
 returns : tie.Need-returns
-returns c = let w = c .before .before in (frame-is w, ((refl, energy-is w), has-grown c))
+returns c = let w = c .before .before in (w .write-sent .ensures .0 ∙ under w, ((refl, energy-is w), has-grown c))
 
 pub write-counted-spec : {M : Type 1} → statement M
 write-counted-spec = tie.close (tie.spec next-number-requires write-sent-requires grow-requires same-length returns)

@@ -6,14 +6,13 @@ use native.Mathlib.Omega.{arith}
 use lib.IntN.{ℤ}
 use lib.ListN.{length}
 use mir.Facts.{toZ-ofZ}
-use borrow.Author.Tests.{ne-eqb}
 use Rattle.e8.specs.Energy.{energy}
 use Rattle.frames.specs.Frame.{numberedFrame}
 use Rattle.frames.specs.Sending.{sendRefusal, frameAfter, energySent}
 use Rattle.frames.proofs.Accepted.{Passed, all-passed, sent-leaves, refused-leaves}
 use Rattle.frames.proofs.Rows.{grade-low, grade-high}
-use Rattle.free_bits.proofs.ReadBack.{none-free}
-use Rattle.answers.specs.Answer.{answerOf, sendAnswer, wholeFrame}
+use Rattle.free_bits.proofs.Fillings.{none-quiet}
+use Rattle.answers.specs.Answer.{answerOf, sendAnswer, sendFrame}
 use Rattle.answers.proofs.Bounds.{sent-fits, send-answer}
 use borrow.Author.Needs.{needs}
 use Rattle.bench_plain.proofs.plain_send.Statement.{statement}
@@ -21,22 +20,19 @@ use Rattle.bench_plain.proofs.plain_send.Tie as tie
 
 -- what the refusal number and the energy answer, and the frame that stands with them
 answered : (refusal e k b number : ℕ) (bytes : List ℕ) (f g : List ℤ) → refusal ≡ sendRefusal k b 0 bytes (length f)
-    → e ≡ energySent refusal k b 0 number bytes → g ≡ frameAfter refusal k b number bytes f
-    → (answerOf refusal e ≡ sendAnswer k b 0 number bytes (length f)) × (g ≡ wholeFrame k b number bytes f)
+    → e ≡ energySent refusal k b 0 number bytes → g ≡ frameAfter refusal k b 0 number bytes f
+    → (answerOf refusal e ≡ sendAnswer k b 0 number bytes (length f)) × (g ≡ sendFrame k b 0 number bytes f)
 answered refusal e k b number bytes f g is same after =
-    (ap (answerOf refusal) same ∙ send-answer refusal k b 0 number bytes (length f) is, after ∙ ap (λ (n : ℕ). frameAfter n k b number bytes f) is)
+    (ap (answerOf refusal) same ∙ send-answer refusal k b 0 number bytes (length f) is, after ∙ ap (λ (n : ℕ). frameAfter n k b 0 number bytes f) is)
 
--- a refusal leaves the frame, and past the tests it is that of the number, with its energy
-kept : (refusal k b number : ℕ) (bytes : List ℕ) (f : List ℤ) → (refusal ≡ 0 → ⊥) → f ≡ frameAfter refusal k b number bytes f
-unfolding frameAfter
-kept refusal k b number bytes f h = rw (ne-eqb refusal 0 h)
-
+-- past the tests it is that of the number, with its energy
 written : (refusal k b number : ℕ) (bytes : List ℕ) (f : List ℤ) → refusal ≡ 0
-    → (numberedFrame k b number bytes ≡ frameAfter refusal k b number bytes f)
+    → (numberedFrame k b number bytes ≡ frameAfter refusal k b 0 number bytes f)
     × (energy (numberedFrame k b number bytes) ≡ energySent refusal k b 0 number bytes)
-unfolding frameAfter
 written refusal k b number bytes f e =
-    (rw e, sym (sent-leaves refusal k b 0 number bytes e ∙ none-free k b number bytes 0 .least))
+    let t = sent-leaves refusal k b 0 number bytes f e in
+    let w = none-quiet k b number bytes in
+    (sym (t .0 ∙ w), sym (t .1 ∙ ap energy w))
 
 test-requires : tie.Need-test-requires
 test-requires c κs = search needs
@@ -50,9 +46,9 @@ returns c =
     let s = t .before .before .before .args in
     let r = t .before .test .result in
     let no : r ≡ 0 → ⊥ = λ e. omega (arith, e) in
-    let n = refused-leaves r (s .kind) (s .grade) 0 (s .number) (s .message .now) no in
-    let a = answered r 0 (s .kind) (s .grade) (s .number) (s .message .now) (s .frame .now) (s .frame .now) (t .before .test .ensures) (sym n)
-    (kept r (s .kind) (s .grade) (s .number) (s .message .now) (s .frame .now) no) in
+    let n = refused-leaves r (s .kind) (s .grade) 0 (s .number) (s .message .now) (s .frame .now) no in
+    let a = answered r 0 (s .kind) (s .grade) (s .number) (s .message .now) (s .frame .now) (s .frame .now) (t .before .test .ensures) (sym (n .1))
+    (sym (n .0)) in
     (toZ-ofZ (record { sfits = c .answer .ok }) ∙ c .answer .ensures ∙ a .0, a .1)
 
 -- past the tests a frame can be written
@@ -69,7 +65,7 @@ write-sent-requires c κs =
 
 -- what is sent, where no test refuses
 sent : (w : tie.After-write-sent) → let s = w .before .before .before .before .before .args in
-    (w .write-sent .last .1 .1 .1 .1 .0 ≡ frameAfter (w .before .before .before .test .result) (s .kind) (s .grade) (s .number) (s .message .now) (s .frame .now))
+    (w .write-sent .last .1 .1 .1 .1 .0 ≡ frameAfter (w .before .before .before .test .result) (s .kind) (s .grade) 0 (s .number) (s .message .now) (s .frame .now))
     × (w .write-sent .result ≡ energySent (w .before .before .before .test .result) (s .kind) (s .grade) 0 (s .number) (s .message .now))
 sent w =
     let d = w .before .before in

@@ -16,7 +16,7 @@ use Rattle.e8.specs.Energy.{energy as energy-of, Within}
 use Rattle.e8.specs.Lattice.{part}
 use Rattle.e8.proofs.Frame.{part-is}
 use Rattle.e8.proofs.Within.{within-part}
-use Rattle.free_bits.specs.Search.{firstLeast}
+use Rattle.frames.specs.Free.{firstLeast}
 use Rattle.filling_search.proofs.first_least.Statement.{statement}
 use Rattle.filling_search.proofs.first_least.Tie as tie
 

@@ -10,7 +10,7 @@ use borrow.Author.Needs.{needs}
 use Rattle.e8.specs.Energy.{energy, Within}
 use Rattle.e8.specs.Lattice.{part}
 use Rattle.e8.specs.Ties.{leastFrameBy}
-use Rattle.free_bits.specs.Search.{firstLeast}
+use Rattle.frames.specs.Free.{firstLeast}
 use Rattle.filling_search.specs.Filling.{filledBlocks, shapedBlocks}
 use Rattle.filling_search.proofs.Tried.{all-take, shaped-is, shaped-takes, shaped-first}
 use Rattle.filling_search.proofs.quietest_by.Statement.{statement}

@@ -1,11 +1,13 @@
 -- `coder_send` meets its contract: what `send` ensures, in one number. Assumes nothing.
+use Prim.Native.Nat.{ℕ}
 use mathlib.Core.Path.{ap, _∙_}
 use native.Mathlib.Omega.{arith}
 use lib.ListN.{length}
 use mir.Facts.{toZ-ofZ}
 use borrow.Author.Needs.{needs}
+use Rattle.frames.specs.Sending.{frameAfter}
 use Rattle.answers.specs.Answer.{answerOf}
-use Rattle.answers.proofs.Bounds.{sent-fits, send-answer, quiet-as, least-answer}
+use Rattle.answers.proofs.Bounds.{sent-fits, send-answer, least-answer}
 use Rattle.frame_coder.proofs.coder_send.Statement.{statement}
 use Rattle.frame_coder.proofs.coder_send.Tie as tie
 
@@ -30,7 +32,7 @@ returns c =
     let l = send-answer r (s .kind) (s .grade) (s .free) (s .number) (s .message .now) (length (s .frame .now)) (e .0) in (
       a ∙ ap (answerOf r) (e .1 .1 .0) ∙ l,
       (
-        quiet-as (s .kind) (s .grade) (s .free) (s .number) (s .message .now) (s .frame .now) _ (e .0) (e .1 .0),
+        e .1 .0 ∙ ap (λ (n : ℕ). frameAfter n (s .kind) (s .grade) (s .free) (s .number) (s .message .now) (s .frame .now)) (e .0),
         least-answer (s .kind) (s .grade) (s .free) (s .number) (s .message .now) _ r _ (e .1 .1 .1) _ a,
       ),
     )

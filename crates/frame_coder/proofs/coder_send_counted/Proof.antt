@@ -6,13 +6,14 @@ use lib.ListN.{length}
 use mir.Facts.{toZ-ofZ}
 use borrow.Author.Needs.{needs}
 use Rattle.power_account.specs.declared.Account.{Account}
+use Rattle.frames.specs.Sending.{frameAfter}
 use Rattle.frames.proofs.Accepted.{refused-leaves}
 use Rattle.power_account.specs.Counted.{numberFor, countedAccount}
 use Rattle.power_account.specs.History.{Call}
 use Rattle.power_account.proofs.Answers.{account-refused}
 use Rattle.power_account.proofs.History.{after-changeover}
-use Rattle.answers.specs.Answer.{answerOf, accountOf, CountedFrame, countedHeld}
-use Rattle.answers.proofs.Bounds.{quiet-as, counted-fits, counted-answer, account-of, least-answer}
+use Rattle.answers.specs.Answer.{answerOf, accountOf, countedFrame, countedHeld}
+use Rattle.answers.proofs.Bounds.{counted-fits, counted-answer, account-of, least-answer}
 use Rattle.frame_coder.proofs.coder_send_counted.Statement.{statement}
 use Rattle.frame_coder.proofs.coder_send_counted.Tie as tie
 
@@ -28,11 +29,12 @@ send-counted-requires c κs = search needs
 
 -- what sending with the account leaves, by the definitions
 module _ (w : tie.After-send-counted) where
-  frame-is : let s = start w .args in CountedFrame (s .kind) (s .grade) (s .free) (s .message .now) (held w) (s .frame .now) (w .send-counted .last .1 .1 .1 .1 .0)
+  frame-is : let s = start w .args in
+      w .send-counted .last .1 .1 .1 .1 .0 ≡ countedFrame (s .kind) (s .grade) (s .free) (s .message .now) (held w) (s .frame .now)
   frame-is =
       let s = start w .args in
       let e = w .send-counted .ensures in
-      quiet-as (s .kind) (s .grade) (s .free) (numberFor (held w)) (s .message .now) (s .frame .now) _ (e .0) (e .1 .0)
+      e .1 .0 ∙ ap (λ (n : ℕ). frameAfter n (s .kind) (s .grade) (s .free) (numberFor (held w)) (s .message .now) (s .frame .now)) (e .0)
 
   account-is : let s = start w .args in
       countedAccount (w .send-counted .result .number) (s .kind) (s .grade) (s .free) (s .message .now) (held w)
@@ -60,9 +62,9 @@ returns c =
     let e = w .send-counted .ensures in
     let r = w .send-counted .result .number in
     let l = counted-answer (s .kind) (s .grade) (s .free) (s .message .now) (length (s .frame .now)) (held w) r (e .0) in
-    let z = refused-leaves r (s .kind) (s .grade) (s .free) (numberFor (held w)) (s .message .now) (t .if1 .taken) in
+    let z = refused-leaves r (s .kind) (s .grade) (s .free) (numberFor (held w)) (s .message .now) (s .frame .now) (t .if1 .taken) in
     let a = toZ-ofZ (record { sfits = c .answer .ok }) ∙ c .answer .ensures in (
-      a ∙ ap (answerOf r) (sym z) ∙ l,
+      a ∙ ap (answerOf r) (sym (z .1)) ∙ l,
       (
         frame-is w,
         (

@@ -8,10 +8,9 @@ use lib.ListN.{length, take, drop, length-take, length-drop}
 use borrow.Author.Tests.{eq-eqb}
 use borrow.Author.Needs.{needs}
 use Rattle.frames.specs.Kind.{messageBytes}
-use Rattle.frames.specs.Free.{quietEnergy, quietLargest}
+use Rattle.frames.specs.Free.{quietFrame}
 use Rattle.frames.proofs.Rows.{grade-high}
-use Rattle.free_bits.proofs.ReadBack.{whole-quiet}
-use Rattle.power_account.specs.Power.{grownWith}
+use Rattle.power_account.specs.Power.{grown}
 use Rattle.power_account.specs.Counted.{numberFor, countedRefusal}
 use Rattle.power_account.specs.History.{Call, answer}
 use Rattle.power_account.proofs.History.{after-sent}
@@ -202,14 +201,11 @@ loop-again c =
     let s = at-start a .args in
     let t = turn l in
     let e = w .write-counted .ensures in
-    let number = numberFor (a .loop .grown) in
-    let message = part-is (a .loop .i) (s .messages .now) (t .message) in
+    let sent = ap (quietFrame (s .kind) (s .grade) 0 (numberFor (a .loop .grown))) (part-is (a .loop .i) (s .messages .now) (t .message)) in
     let z : answer (a .loop .grown) (the-call a) ≡ 0 = sym (answer-is (d .before)) ∙ accepted d in
-    let figures = ap (λ (m : List ℕ).
-    grownWith (a .loop .grown) (quietEnergy (s .kind) (s .grade) 0 number m) (2 ^ s .kind) (quietLargest (s .kind) (s .grade) 0 number m)) message in
     one-further (s .kind) (s .grade) (s .messages .now) (a .loop .inv) (t .inside) z
-    (subst (λ (n : ℕ). n * a .loop .i + n ≤ length (a .loop .frames)) (t .frame) (t .coordinates)) (whole-quiet message (e .0)) (sym (t .frame))
-    (after-sent (a .loop .grown) (the-call a) (eq-eqb _ _ z) ∙ sym (e .1 .1 ∙ figures))
+    (subst (λ (n : ℕ). n * a .loop .i + n ≤ length (a .loop .frames)) (t .frame) (t .coordinates)) (e .0 ∙ sent) (sym (t .frame))
+    (after-sent (a .loop .grown) (the-call a) (eq-eqb _ _ z) ∙ sym (e .1 .1 ∙ ap (grown (a .loop .grown)) sent))
 
 same-length-2 : tie.Need-same-length-2 Inv-loop μ-loop
 same-length-2 c = c .before .loop .inv .long

@@ -1,12 +1,12 @@
 -- `send` meets its contract: the definitions by its number, and the demands of what is sent. Assumes nothing.
-use mathlib.Core.Path.{_≡_, refl, sym, _∙_}
+use mathlib.Core.Path.{_≡_, sym, _∙_}
 use native.Mathlib.Omega.{arith}
 use lib.ListN.{length}
 use borrow.Author.Needs.{needs}
 use Rattle.frames.specs.Demands.{Sendable}
 use Rattle.frames.proofs.Accepted.{accepted-exactly, sent-leaves, refused-leaves}
 use Rattle.frames.proofs.Rows.{grade-low, grade-high}
-use Rattle.free_bits.proofs.Fillings.{free-few, quiet-energy, quiet-least}
+use Rattle.free_bits.proofs.Fillings.{free-few, quiet-least}
 use Rattle.sending.proofs.send.Statement.{statement}
 use Rattle.sending.proofs.send.Tie as tie
 
@@ -18,16 +18,9 @@ returns : tie.Need-returns
 returns c =
     let s = c .before .before .before .args in
     let r = c .before .refusal .result in
-    let not-sent : (r ≡ 0 → ⊥) = λ e. omega (arith, e) in (
-      c .before .refusal .ensures,
-      (
-        record { sent = λ e. absurd (not-sent e); kept = λ e. refl },
-        (
-          sym (refused-leaves r (s .kind) (s .grade) (s .free) (s .number) (s .message .now) not-sent),
-          (λ e. absurd (not-sent e)),
-        ),
-      ),
-    )
+    let not-sent : (r ≡ 0 → ⊥) = λ e. omega (arith, e) in
+    let t = refused-leaves r (s .kind) (s .grade) (s .free) (s .number) (s .message .now) (s .frame .now) not-sent in
+    (c .before .refusal .ensures, (sym (t .0), (sym (t .1), λ e. absurd (not-sent e))))
 
 -- past the tests it is a message whose free bits are 0
 accepted : (c : tie.Else1) → c .before .refusal .result ≡ 0
@@ -53,14 +46,14 @@ returns-2 c =
     let d = c .before .before .before in
     let s = d .before .before .before .args in
     let a = passed d in
-    let f = c .before .write-sent .ensures in (
+    let w = c .before .write-sent .ensures in
+    let t = sent-leaves (d .before .refusal .result) (s .kind) (s .grade) (s .free) (s .number) (s .message .now) (s .frame .now) (accepted d) in (
       d .before .refusal .ensures,
       (
-        record { sent = λ e. f .0; kept = λ e. absurd (e (accepted d)) },
+        w .0 ∙ sym (t .0),
         (
-          f .1 .0 ∙ sym (sent-leaves (d .before .refusal .result) (s .kind) (s .grade) (s .free) (s .number) (s .message .now) (accepted d)),
-          (λ e. quiet-least (s .kind) (s .grade) (s .free) (s .number) (a .kind) (grade-low (s .grade) (a .grade)) (s .message .now) _ _ (f .0)
-              (f .1 .0 ∙ sym (quiet-energy (s .kind) (s .grade) (s .free) (s .number) (s .message .now) _ (f .0)))),
+          w .1 .0 ∙ sym (t .1),
+          λ e. quiet-least (s .kind) (s .grade) (s .free) (s .number) (a .kind) (grade-low (s .grade) (a .grade)) (s .message .now) (w .0) (w .1 .0),
         ),
       ),
     )

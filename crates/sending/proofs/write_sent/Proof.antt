@@ -1,4 +1,4 @@
--- `write_sent` meets its contract: with the filling that is taken in its last block the leader is that filling's, and shaped a quiet frame. Assumes nothing.
+-- `write_sent` meets its contract: with the filling that is taken in its last block the leader is that filling's, and shaped the frame that is sent. Assumes nothing.
 use Prim.Native.Nat.{ℕ, _^_, _≤_}
 use mathlib.Core.Path.{_≡_, sym, ap, ap₂, _∙_, subst}
 use mathlib.Core.List.{List}
@@ -10,12 +10,9 @@ use Rattle.e8.specs.Energy.{energy, Within}
 use Rattle.e8.specs.Largest.{largestBlock}
 use Rattle.frames.specs.Kind.{levels}
 use Rattle.frames.specs.Message.{leader}
-use Rattle.frames.specs.Free.{filled, filledFrame, Quiet}
+use Rattle.frames.specs.Free.{filled, filledFrame, quietFilling, quietFrame}
 use Rattle.frames.proofs.One.{leader-length}
 use Rattle.frames.proofs.Limits.{some-level, few-levels, some-block, whole-blocks}
-use Rattle.free_bits.specs.Search.{quietFilling, quietFrame}
-use Rattle.free_bits.proofs.Fillings.{quiet-is, quiet-energy}
-use Rattle.free_bits.proofs.LastBlock.{quiet-largest}
 use Rattle.leader.proofs.Laid.{leader-near}
 use Rattle.filling_search.specs.Filling.{quietLast}
 use Rattle.filling_search.proofs.Quieted.{quiet-leader}
@@ -83,16 +80,9 @@ returns c =
     let d = h .before .before .before in
     let s = d .before .before .before .before .before .before .before in
     let g = s .args in
-    let bytes = g .message .now in
     let e = h .shape-leader .ensures in
-    let is : _ ≡ quietFrame (g .kind) (g .grade) (g .free) (g .number) bytes = sent-is (g .kind) (g .grade) (quiet s) _ (filled-is d) (g .number) in
-    let q = quiet-is (g .kind) (g .grade) (g .free) (g .number) bytes in (
-      subst (Quiet (g .kind) (g .grade) (g .free) (g .number) bytes) (sym (e .0 ∙ is)) q,
-      (
-        e .1 .0 ∙ ap energy is ∙ quiet-energy (g .kind) (g .grade) (g .free) (g .number) bytes _ q,
-        e .1 .1 ∙ ap largestBlock is ∙ quiet-largest (g .kind) (g .grade) (g .free) (g .number) (s .pre .0) (s .pre .1) (s .pre .3) bytes _ q,
-      ),
-    )
+    let is : _ ≡ quietFrame (g .kind) (g .grade) (g .free) (g .number) (g .message .now) = sent-is (g .kind) (g .grade) (quiet s) _ (filled-is d) (g .number) in
+    (e .0 ∙ is, (e .1 .0 ∙ ap energy is, e .1 .1 ∙ ap largestBlock is))
 
 pub write-sent-spec : {M : Type 1} → statement M
 write-sent-spec =

@@ -337,11 +337,11 @@ fn check_free_readings(kind: u8, grade: u8, number: u32, bits: u8, frame: &[i32]
     }
 }
 
-/// Sends with free bits, alone and with an account: one of the frames that may be sent, and no other; reads those of all fillings, and
-/// damaged ones.
+/// Sends with free bits, alone and with an account, and reads the frames of all fillings, and damaged ones.
 fn check_free(rounds: usize, seed: u64) {
     let mut own = Random(seed);
     let mut random = random::Random::new(seed);
+    let mut tied = 0;
     for round in 0..rounds {
         let (kind, grade, bits) = (3 + (round % 4) as u8, 1 + (round / 4 % 4) as u8, (round / 16 % 5) as u8);
         let format = frame::Format::new(kind, grade).unwrap();
@@ -365,12 +365,9 @@ fn check_free(rounds: usize, seed: u64) {
             changeover: account.changeover,
         };
         match free::send_counted(kind, grade, bits, &message, format.length(), second) {
-            Ok((fillings, after)) => {
-                assert_eq!(answer, Ok(fillings.energy()));
-                assert!(
-                    fillings.permits(&wide(&sent)) && fillings.permits(&wide(&counted)),
-                    "{kind} {grade} {bits} {message:?}"
-                );
+            Ok((second, after)) => {
+                assert_eq!(answer, Ok(second.energy));
+                assert_eq!((&wide(&sent), &counted), (&second.frame, &sent), "{kind} {grade} {bits} {message:?}");
                 let figures = Account {
                     count: after.count,
                     sum: after.sum,
@@ -378,6 +375,8 @@ fn check_free(rounds: usize, seed: u64) {
                     changeover: after.changeover,
                 };
                 assert_eq!(grown, figures);
+                let fillings = free::Fillings::new(&format, frame::Tie::of(number), bits, &message);
+                tied += (fillings.least().len() > 1) as usize;
                 for filling in &fillings.0 {
                     let frame: Vec<i32> = filling.frame.iter().map(|&x| x as i32).collect();
                     check_free_readings(kind, grade, number, bits, &frame, message.len());
@@ -393,6 +392,51 @@ fn check_free(rounds: usize, seed: u64) {
             }
         }
     }
+    println!("{rounds} messages, {tied} with several fillings of least energy");
+    assert!(tied > rounds / 10);
+}
+
+/// 12 00 with two bits free, whose fillings are 12 00, 12 04, 12 08 and 12 0C: the second and the third have the least energy, and the
+/// frame of the second alone is sent, and passes.
+#[test]
+fn free_bits_by_hand() {
+    for number in [0, 1, 7, u32::MAX - 1] {
+        let mut sent = [77; 8];
+        assert_eq!(send_free(3, 1, number, 2, &[0x12, 0x00], &mut sent), Ok(4));
+        assert_eq!(sent, [0, -1, 0, 1, 0, 1, 0, -1]);
+        for (last, energy) in [(0x00, 12), (0x04, 4), (0x08, 4), (0x0C, 12)] {
+            let (mut frame, mut message) = ([77; 8], [0xA5; 2]);
+            assert_eq!(send(3, 1, number, &[0x12, last], &mut frame), Ok(energy));
+            let judged = if last == 0x04 { (Ok(4), [0x12, 0x00]) } else { (Err(refusal::UNSHAPED), [0xA5; 2]) };
+            assert_eq!((read_strict_free(3, 1, number, 2, &frame, &mut message), message), judged);
+            assert_eq!(read_open_free(3, 1, 2, &frame, &mut message), Ok(energy));
+            assert_eq!(message, [0x12, 0x00]);
+        }
+    }
+}
+
+/// Every message of kind 3, grade 1 with each free count, by both rules: the frames of all its fillings.
+#[test]
+fn every_message_of_kind_3_grade_1_with_free_bits() {
+    let format = frame::Format::new(3, 1).unwrap();
+    let mut tied = 0;
+    for bits in 0..=4 {
+        for message in (0..1u16 << (12 - bits)).map(u16::to_le_bytes) {
+            for number in [0, 1] {
+                let mut sent = [77; 8];
+                let answer = send_free(3, 1, number, bits, &message, &mut sent);
+                let second = free::send_into(3, 1, number, bits, &message, 8).unwrap();
+                assert_eq!((answer, wide(&sent)), (Ok(second.energy), second.frame));
+                let fillings = free::Fillings::new(&format, frame::Tie::of(number), bits, &message);
+                tied += (fillings.least().len() > 1) as usize;
+                for filling in &fillings.0 {
+                    let frame: Vec<i32> = filling.frame.iter().map(|&x| x as i32).collect();
+                    check_free_readings(3, 1, number, bits, &frame, 2);
+                }
+            }
+        }
+    }
+    println!("kind 3, grade 1: {tied} times several fillings of least energy");
 }
 
 #[test]
@@ -420,7 +464,7 @@ fn lengths_and_free_counts() {
         let mut sent = vec![77; length];
         let answer = send_free(kind, grade, number, bits, &message, &mut sent);
         match free::send_into(kind, grade, number, bits, &message, length) {
-            Ok(fillings) => assert!(answer == Ok(fillings.energy()) && fillings.permits(&wide(&sent))),
+            Ok(second) => assert_eq!((answer, wide(&sent)), (Ok(second.energy), second.frame)),
             Err(number) => assert_eq!((answer, sent), (Err(number), vec![77; length])),
         }
         let frame: Vec<i32> = (0..length).map(|_| random.below(2) as i32 * 33_554_434 - 16_777_217).collect();

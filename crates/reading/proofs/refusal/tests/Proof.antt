@@ -11,11 +11,12 @@ use Rattle.e8.proofs.Within.{within-to}
 use Rattle.frames.specs.Kind.{levels, blocks}
 use Rattle.frames.specs.Frame.{half, isOdd}
 use Rattle.frames.specs.Sending.{unless}
-use Rattle.frames.specs.Reading.{sameFrame, largestRead, openRefusal, isSent}
+use Rattle.frames.specs.Reading.{sameFrame, largestRead, openRefusal}
 use Rattle.frames.proofs.Rows.{grade-low, grade-high}
 use Rattle.frames.proofs.Limits.{few-levels}
 use Rattle.frames.proofs.Refusals.{range-within, Accepted, accepted}
 use Rattle.frames.proofs.Reading.{sent-is-least, taken-in-set}
+use Rattle.free_bits.proofs.Strict.{none-sent}
 use Rattle.reading.specs.Numbers.{refusalOf}
 use Rattle.reading.proofs.Answers.{as-open, sent-decides}
 use Rattle.reading.proofs.Words.{words-none}
@@ -29,13 +30,14 @@ module _ (k b f : ℕ) (frame : List ℤ) (n : ℕ) where
 
   strict-one : (which : ℕ) → (which ≡ 0 → ⊥) → openRefusal k b f frame n ≡ 0
       → refusalOf which k b f frame n ≡ unless (sameFrame frame (leastFrameBy (isOdd (which - 1)) (half k b) (blocks k) frame)) 9 0
-  unfolding isSent
   strict-one zero e h = absurd (e refl)
   strict-one (suc number) e h =
       let p : number ≡ suc number - 1 = omega arith in
       let a = accepted k b f frame n h in
+      let set = taken-in-set k b f frame n h in
       sent-decides k b f number frame n h
-      ∙ ap (λ (g : List ℤ). unless (sameFrame frame g) 9 0) (sent-is-least k b (a .kind) (a .grade) number frame (taken-in-set k b f frame n h))
+      ∙ ap (λ (t : Bool). unless t 9 0) (none-sent k b number (a .kind) (a .grade) frame set)
+      ∙ ap (λ (g : List ℤ). unless (sameFrame frame g) 9 0) (sent-is-least k b (a .kind) (a .grade) number frame set)
       ∙ ap (λ (m : ℕ). unless (sameFrame frame (leastFrameBy (isOdd m) (half k b) (blocks k) frame)) 9 0) p
 
 -- no refusal by the open reading

@@ -1,23 +1,22 @@
--- `read_quiet`: of a frame that is sent for its own message, the least energy of the fillings decides. Assumes nothing.
+-- `read_quiet`: of a frame that is sent for its own message, the comparison with the frame of the filling that is taken decides. Assumes nothing.
 use Prim.Native.Nat.{ℕ}
-use mathlib.Core.Path.{_≡_, sym, ap, ap₂, _∙_, subst}
+use mathlib.Core.Path.{_≡_, sym, ap, _∙_, subst}
 use mathlib.Core.Bool.{Bool}
 use mathlib.Core.List.{List}
 use native.Mathlib.Omega.{arith}
-use lib.Dec.{eqb}
 use lib.IntN.{ℤ}
 use lib.ListN.{length}
 use borrow.Author.Needs.{needs}
 use borrow.Author.Tests.{not-true, not-false}
-use Rattle.e8.specs.Energy.{energy}
-use Rattle.frames.specs.Free.{FreeMessage, quietEnergy}
+use Rattle.frames.specs.Free.{FreeMessage, quietFrame}
 use Rattle.frames.specs.Sending.{unless}
-use Rattle.frames.specs.Reading.{fixedMessage, openRefusal, strictRefusal, messageAfter}
+use Rattle.frames.specs.Reading.{fixedMessage, sameFrame, openRefusal, isSent, strictRefusal, messageAfter}
 use Rattle.frames.proofs.Refusals.{accepted}
 use Rattle.frames.proofs.Reading.{taken-in-set}
 use Rattle.free_bits.proofs.ReadBack.{fixed-message}
+use Rattle.free_bits.proofs.Strict.{strict-decides}
 use Rattle.reading.specs.Numbers.{sentRefusal}
-use Rattle.reading.proofs.Answers.{sent-passed, sent-refused, energy-decides, bytes-kept, no-energy, message-given, energy-given}
+use Rattle.reading.proofs.Answers.{sent-passed, sent-refused, bytes-kept, no-energy, message-given}
 use Rattle.reading.proofs.strict.read_quiet.Statement.{statement}
 use Rattle.reading.proofs.strict.read_quiet.Tie as tie
 
@@ -67,18 +66,16 @@ module _ (c : tie.Else1) where
   fixed-is : own r ≡ fixedMessage (k r) (b r) (f r) (frame r)
   fixed-is = own-is r ∙ sym (message-given _ (k r) (b r) (f r) (frame r) (s r .args .own .now) none)
 
-  energy-is : r .read-sent .result .energy ≡ energy (frame r)
-  energy-is = r .read-sent .ensures .1 .1 ∙ sym (energy-given _ (frame r) (c .if1 .left))
-
 -- the comparison decides
-decided : (c : tie.After-is-quietest) → let r = r (c .before .before) in
-    strictRefusal (k r) (b r) (f r) (number r) (frame r) (n r) ≡ unless (c .is-quietest .result) 9 0
+decided : (c : tie.After-is-sent) → let r = r (c .before .before) in
+    strictRefusal (k r) (b r) (f r) (number r) (frame r) (n r) ≡ unless (c .is-sent .result) 9 0
+unfolding isSent
 decided c =
     let d = c .before .before in
     let r = r d in
-    energy-decides (k r) (b r) (f r) (number r) (frame r) (n r) (none d)
-    ∙ ap (λ (t : Bool). unless t 9 0) (sym (c .is-quietest .ensures
-    ∙ ap₂ (λ (e : ℕ) (x : List ℕ). eqb e (quietEnergy (k r) (b r) (f r) (number r) x)) (energy-is d) (fixed-is d)))
+    strict-decides (k r) (b r) (f r) (number r) (frame r) (n r) (taken d)
+    ∙ ap (λ (t : Bool). unless t 9 0) (sym (c .is-sent .ensures
+    ∙ ap (λ (x : List ℕ). sameFrame (frame r) (quietFrame (k r) (b r) (f r) (number r) x)) (fixed-is d)))
 
 read-sent-requires : tie.Need-read-sent-requires
 read-sent-requires c κs = search needs
@@ -94,8 +91,8 @@ returns c =
       (bytes-kept (r .read-sent .result .number) (k r) (b r) (f r) (frame r) (s r .args .message .now) (c .if1 .taken), (e .1 .1, own-is r)),
     )
 
-is-quietest-requires : tie.Need-is-quietest-requires
-is-quietest-requires c κs =
+is-sent-requires : tie.Need-is-sent-requires
+is-sent-requires c κs =
     let d = c .before in
     let r = r d in
     let a = accepted (k r) (b r) (f r) (frame r) (n r) (taken d) in (
@@ -104,6 +101,7 @@ is-quietest-requires c κs =
       a .few,
       subst (FreeMessage (k r) (b r) (f r)) (sym (fixed-is d))
           (fixed-message (k r) (b r) (f r) (a .kind) (a .grade) (a .few) (frame r) (taken-in-set (k r) (b r) (f r) (frame r) (n r) (taken d))),
+      a .coordinates,
     )
 
 same-length-2 : tie.Need-same-length-2
@@ -113,7 +111,7 @@ returns-2 : tie.Need-returns-2
 returns-2 c =
     let q = c .before in
     let r = r (q .before .before) in (
-      sym (decided q ∙ ap (λ (t : Bool). unless t 9 0) (not-true (q .is-quietest .result) (c .if2 .taken))),
+      sym (decided q ∙ ap (λ (t : Bool). unless t 9 0) (not-true (q .is-sent .result) (c .if2 .taken))),
       (
         bytes-kept 9 (k r) (b r) (f r) (frame r) (s r .args .message .now) (λ e. omega (arith, e)),
         (no-energy 9 (frame r) (λ e. omega (arith, e)), own-is r),
@@ -136,7 +134,7 @@ returns-3 c =
     let q = w .before in
     let d = q .before .before in
     let e = p .read .ensures in (
-      e .0 ∙ taken d ∙ sym (decided q ∙ ap (λ (t : Bool). unless t 9 0) (not-false (q .is-quietest .result) (w .if2 .left))),
+      e .0 ∙ taken d ∙ sym (decided q ∙ ap (λ (t : Bool). unless t 9 0) (not-false (q .is-sent .result) (w .if2 .left))),
       (e .1 .0, (e .1 .1, own-is (r d))),
     )
 
@@ -147,7 +145,7 @@ read-quiet-spec =
     read-sent-requires
     same-length
     returns
-    is-quietest-requires
+    is-sent-requires
     same-length-2
     returns-2
     read-requires

@@ -1,6 +1,6 @@
 -- `read_sent`: a number and its remainder modulo 2 have one tie rule. Assumes nothing.
 use Prim.Native.Nat.{ℕ, suc, _+_, _%_}
-use mathlib.Core.Path.{_≡_, ap, _∙_}
+use mathlib.Core.Path.{_≡_, sym, ap, _∙_}
 use mathlib.Core.Bool.{cond}
 use mathlib.Core.List.{List}
 use native.Mathlib.Nat.{mod-mod}
@@ -11,8 +11,9 @@ use lib.ListN.{length}
 use borrow.Author.Needs.{needs}
 use Rattle.frames.specs.Frame.{isOdd}
 use Rattle.frames.specs.Sending.{unless}
-use Rattle.frames.specs.Reading.{sameFrame, openMessage, openRefusal, isSent}
+use Rattle.frames.specs.Reading.{fixedMessage, sameFrame, openRefusal, isSent}
 use Rattle.frames.proofs.Numbered.{same-rule}
+use Rattle.free_bits.proofs.Fillings.{none-quiet}
 use Rattle.reading.specs.Numbers.{sentRefusal, refusalOf}
 use Rattle.reading.proofs.strict.read_sent.Statement.{statement}
 use Rattle.reading.proofs.strict.read_sent.Tie as tie
@@ -23,11 +24,14 @@ one-rule number = ap (λ (m : ℕ). eqb m 1) (mod-mod number 2)
 
 -- the reading under either of them
 module _ (k b f number : ℕ) (frame : List ℤ) (n : ℕ) where
+  abbrev bytes : List ℕ
+  bytes = fixedMessage k b 0 frame
+
   same-reading : sentRefusal k b f (number % 2) frame n ≡ sentRefusal k b f number frame n
   unfolding sentRefusal isSent
   same-reading =
       ap (λ (g : List ℤ). cond (eqb (openRefusal k b f frame n) 0) (unless (sameFrame frame g) 9 0) (openRefusal k b f frame n))
-      (same-rule k b (number % 2) number (openMessage k b frame) (one-rule number))
+      (none-quiet k b (number % 2) bytes ∙ same-rule k b (number % 2) number bytes (one-rule number) ∙ sym (none-quiet k b number bytes))
 
   by-remainder : refusalOf (1 + number % 2) k b f frame n ≡ sentRefusal k b f number frame n
   by-remainder = let e : 1 + number % 2 ≡ suc (number % 2) = omega arith in ap (λ (which : ℕ). refusalOf which k b f frame n) e ∙ same-reading

@@ -2,8 +2,6 @@
 use mathlib.Core.Path.{_∙_}
 use lib.ListN.{length}
 use mir.Facts.{toZ-ofZ}
-use Rattle.free_bits.proofs.ReadBack.{whole-frame}
-use Rattle.power_account.specs.Counted.{numberFor}
 use Rattle.test_calls.proofs.Decoding.{decoded-counted}
 use borrow.Author.Needs.{needs}
 use Rattle.test_calls.proofs.exported.send_counted.Statement.{statement}
@@ -25,7 +23,7 @@ returns c =
     let e = t .coder-send-counted .ensures in (
       decoded-counted (s .kind) (s .grade) 0 (s .message .now) (length (s .frame .now)) (s .account) (c .answer .ensures)
           (toZ-ofZ (record { sfits = t .coder-send-counted .ok }) ∙ e .0) (e .1 .1 .0),
-      whole-frame _ (s .kind) (s .grade) (numberFor (s .account)) (s .message .now) (s .frame .now) _ (e .1 .0),
+      e .1 .0,
     )
 
 pub send-counted-spec : {M : Type 1} → statement M

@@ -36,7 +36,7 @@ returns-2 c =
     let s = u .before .before .args in
     let e = t .send-counted2 .ensures in
     rw (u .if1 .taken)
-    (sent-given (s .u .kind) (s .u .grade) (s .u .free) (c .given .ensures) (e .0) (numberFor (s .account))
+    (sent-given (s .u .kind) (s .u .grade) (s .u .free) (c .given .ensures) (e .0) (numberFor (s .account)) (s .message .now) (s .frame .now)
     (λ n. countedAccount n (s .u .kind) (s .u .grade) (s .u .free) (s .message .now) (s .account)) (e .1 .0) (e .1 .1 .0) (e .1 .1 .1 .0))
 
 coder-send-requires : tie.Need-coder-send-requires
@@ -74,7 +74,7 @@ returns-4 c =
     let s = u .before .before .args in
     let e = t .send .ensures in
     rw (u .if1 .left)
-    (sent-given (s .u .kind) (s .u .grade) (s .u .free) (c .given2 .ensures) (e .0) (s .u .number) (λ n. s .account) (e .1 .0) (e .1 .1 .0) refl)
+    (sent-given (s .u .kind) (s .u .grade) (s .u .free) (c .given2 .ensures) (e .0) (s .u .number) (s .message .now) (s .frame .now) (λ n. s .account) (e .1 .0) (e .1 .1 .0) refl)
 
 pub send-spec : {M : Type 1} → statement M
 send-spec =

@@ -1,8 +1,11 @@
 -- `leaves`: by the answer, and then by the frame. Assumes nothing.
 use mathlib.Core.Path.{refl, sym, ap, _∙_}
+use mathlib.Core.List.{List}
+use lib.IntN.{ℤ}
 use borrow.Author.Tests.{not-true, not-false, eq-eqb, ne-eqb}
+use Rattle.frames.specs.Reading.{sameFrame}
 use Rattle.test_free.specs.declared.calls.Sent.{Sent}
-use Rattle.test_free.specs.Judged.{sameSent}
+use Rattle.test_free.specs.Judged.{sameSent, isFirst}
 use borrow.Author.Needs.{needs}
 use Rattle.test_free.proofs.checks.leaves.Statement.{statement}
 use Rattle.test_free.proofs.checks.leaves.Tie as tie
@@ -25,8 +28,8 @@ returns c =
       d .send .ensures .1,
     )
 
-is-among-requires : tie.Need-is-among-requires
-is-among-requires c κs = search needs
+is-first-requires : tie.Need-is-first-requires
+is-first-requires c κs = search needs
 
 same-length-2 : tie.Need-same-length-2
 same-length-2 c = search needs
@@ -41,7 +44,7 @@ returns-2 c =
       rw (
         ap (λ (a : Sent). sameSent a (s .expected)) (sym (d .send .ensures .0)) ∙ sym (t .same-sent .ensures) ∙ not-false (t .same-sent .result) (f .if1 .left),
         eq-eqb _ _ (n .if2 .taken),
-      ) (c .is-among .ensures),
+      ) (c .is-first .ensures ∙ ap (λ (x : List ℤ). isFirst x (s .frames .now)) (d .send .ensures .1)),
       d .send .ensures .1,
     )
 
@@ -61,7 +64,7 @@ returns-3 c =
       rw (
         ap (λ (a : Sent). sameSent a (s .expected)) (sym (d .send .ensures .0)) ∙ sym (t .same-sent .ensures) ∙ not-false (t .same-sent .result) (f .if1 .left),
         ne-eqb _ _ (n .if2 .left),
-      ) (c .same-coordinates .ensures),
+      ) (c .same-coordinates .ensures ∙ ap (λ (x : List ℤ). sameFrame x (s .lent .now)) (d .send .ensures .1)),
       d .send .ensures .1,
     )
 
@@ -73,7 +76,7 @@ leaves-spec =
     same-sent-requires
     same-length
     returns
-    is-among-requires
+    is-first-requires
     same-length-2
     returns-2
     same-coordinates-requires

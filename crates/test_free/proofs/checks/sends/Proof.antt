@@ -45,7 +45,7 @@ returns c =
     let n = s .n in
     passes (s .counted) (s .u) (s .message .now) n (s .account) (s .expected) (s .frames .now)
     (ap₂ take (sub-zero n) (o .marks .ensures .0)) (ap₂ take (sub-zero n) (l .marks2 .ensures .0))
-    (mid-len 0 n (o .marks .result) (omega (arith, o .marks .ensures .1)) ∙ sub-zero n) (g .leaves .ensures .1) (g .leaves .ensures .0)
+    (mid-len 0 n (o .marks .result) (omega (arith, o .marks .ensures .1)) ∙ sub-zero n) (g .leaves .ensures .0)
 
 pub sends-spec : {M : Type 1} → statement M
 sends-spec =

@@ -1,5 +1,5 @@
--- `hold_sendings`: the tally grows by the four judgements. Assumes nothing.
-use Rattle.test_tally.proofs.Counted.{grown-more, by-one}
+-- `hold_sendings`: judgement after judgement. Assumes nothing.
+use Rattle.test_free.proofs.Judging.{four-sendings}
 use borrow.Author.Needs.{needs}
 use Rattle.test_free.proofs.record.hold_sendings.Statement.{statement}
 use Rattle.test_free.proofs.record.hold_sendings.Tie as tie
@@ -33,8 +33,10 @@ returns c =
     let j₃ = c .before .before .before in
     let j₂ = j₃ .before .before .before in
     let j₁ = j₂ .before .before .before in
-    grown-more (grown-more (grown-more (by-one _ _ (j₁ .judge .ensures)) (by-one _ _ (j₂ .judge2 .ensures))) (by-one _ _ (j₃ .judge3 .ensures)))
-    (by-one _ _ (c .judge4 .ensures))
+    let s = j₁ .before .before .before .before .before .args in
+    four-sendings (s .u) (s .message .now) (s .n) (s .account) (s .sent) (s .counted) (s .frames .now) (s .tally .now)
+    (j₁ .judge .ensures) (j₁ .before .sends .ensures) (j₂ .judge2 .ensures) (j₂ .before .sends2 .ensures)
+    (j₃ .judge3 .ensures) (j₃ .before .sends3 .ensures) (c .judge4 .ensures) (c .before .sends4 .ensures)
 
 pub hold-sendings-spec : {M : Type 1} → statement M
 hold-sendings-spec =

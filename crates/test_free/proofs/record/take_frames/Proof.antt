@@ -84,7 +84,7 @@ hold-sendings-requires c κs = search needs
 returns-2 : tie.Need-returns-2
 returns-2 c =
     let h = c .before .before .before .before .before in
-    grown-more (record { judgements = _; counted = h .hold-frames .ensures }) (c .hold-sendings .ensures)
+    grown-more (record { judgements = _; counted = h .hold-frames .ensures }) (record { judgements = _; counted = c .hold-sendings .ensures })
 
 pub take-frames-spec : {M : Type 1} → statement M
 take-frames-spec =

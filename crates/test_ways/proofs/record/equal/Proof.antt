@@ -8,8 +8,7 @@ use mir.Val.{toZ, ofZ}
 use mir.Facts.{toZ-ofZ}
 use borrow.Author.Tests.{not-true, not-false}
 use Rattle.frames.specs.Reading.{sameFrame}
-use Rattle.free_bits.proofs.ReadBack.{whole-frame}
-use Rattle.answers.specs.Answer.{sendAnswer, wholeFrame}
+use Rattle.answers.specs.Answer.{sendAnswer, sendFrame}
 use Rattle.test_ways.proofs.Equal.{frames-differ, was-to-be-sent, left-as-lent, was-to-be-refused, as-it-has-to}
 use borrow.Author.Needs.{needs}
 use Rattle.test_ways.proofs.record.equal.Statement.{statement}
@@ -37,10 +36,8 @@ answer q = toZ-ofZ (record { sfits = q .coder-send .ok })
 
 -- the frame that it leaves
 words-is : (q : tie.After-coder-send) → let s = q .before .before .before .args in
-    q .coder-send .last .1 .1 .1 .1 .1 .0 ≡ wholeFrame (s .kind) (s .grade) (s .number) (s .message .now) (s .words .now)
-words-is q =
-    let s = q .before .before .before .args in
-    whole-frame _ (s .kind) (s .grade) (s .number) (s .message .now) (s .words .now) _ (q .coder-send .ensures .1 .0)
+    q .coder-send .last .1 .1 .1 .1 .1 .0 ≡ sendFrame (s .kind) (s .grade) 0 (s .number) (s .message .now) (s .words .now)
+words-is q = q .coder-send .ensures .1 .0
 
 -- the frames came out the same
 same : (e₂ : tie.Else2) → sameFrame (coder (e₂ .before .before .before .before .before) .coder-send .last .1 .1 .1 .1 .1 .0)
