@@ -1,22 +1,22 @@
 -- Laws of the tests: whether a free or a spare bit is set. Assumes nothing.
 use Prim.Native.Nat.{ℕ, _+_, _-_, _*_, _/_, _^_, _≤_, _<_}
-use mathlib.Core.Path.{_≡_, refl, sym, ap, _∙_, subst}
+use mathlib.Core.Path.{_≡_, refl, sym, ap, _∙_}
 use mathlib.Core.Bool.{Bool, true, false, not, true≢false}
 use mathlib.Core.List.{List}
 use native.Mathlib.Nat.{zero-mul}
 use native.Mathlib.Omega.{arith}
 use lib.Dec.{eqb}
 use lib.ListN.{length, getD}
-use lib.Pow.{shr-lt}
 use borrow.Author.Tests.{eq-eqb, ne-eqb}
 use Rattle.bits.specs.Message.{messageBit}
 use Rattle.bits.proofs.Sum.{sum-zero}
-use Rattle.bits.proofs.Message.{number-of, message-small, bit-of-byte}
-use Rattle.bits.proofs.Digits.{digit, digit-none, digit-from}
+use Rattle.bits.proofs.Message.{number-of, message-small}
+use Rattle.bits.proofs.Digits.{digit, digit-none}
 use Rattle.frames.specs.Kind.{messageBytes}
 use Rattle.frames.specs.Sending.{anySet, freeSet}
 use Rattle.frames.specs.Free.{freeFrom}
 use Rattle.frames.proofs.Accepted.{none-set, set-none}
+use Rattle.free_bits.proofs.LastByte.{last-below, last-bits}
 
 -- one of n bits is set where the number y that holds them is not 0
 any-held : (bit : ℕ → ℕ) → ((i : ℕ) → bit i < 2) → (from n y : ℕ) → y < 2 ^ n → ((i : ℕ) → i < n → bit (from + i) ≡ digit y i)
@@ -40,19 +40,9 @@ module _ (k b f at : ℕ) (bytes : List ℕ) (long : length bytes ≡ messageByt
   pub free-last : ((j : ℕ) → getD bytes j 0 < 256) → at < 8 → not (eqb (getD bytes (length bytes - 1) 0 / 2 ^ at) 0) ≡ freeSet k b f bytes
   unfolding freeSet
   free-last small less =
-      any-held (messageBit bytes) (message-small bytes) (freeFrom k b f) (8 - at) (byte / 2 ^ at) (shr-lt (8 - at) at fits) each
+      any-held (messageBit bytes) (message-small bytes) (freeFrom k b f) (8 - at) (getD bytes (length bytes - 1) 0 / 2 ^ at)
+      (last-below k b f at bytes small some place less) (last-bits k b f at bytes small some place less)
       ∙ ap (anySet (messageBit bytes) (freeFrom k b f)) count
     where
-      byte : ℕ
-      byte = getD bytes (length bytes - 1) 0
-
       count : 8 - at ≡ 8 * messageBytes k b - freeFrom k b f
       count = omega arith
-
-      fits : byte < 2 ^ (8 - at + at)
-      fits = let e : 8 ≡ 8 - at + at = omega arith in subst (λ (w : ℕ). byte < 2 ^ w) e (small (length bytes - 1))
-
-      each : (i : ℕ) → i < 8 - at → messageBit bytes (freeFrom k b f + i) ≡ digit (byte / 2 ^ at) i
-      each i l =
-          let e : freeFrom k b f + i ≡ 8 * (length bytes - 1) + (at + i) = omega arith in
-          ap (messageBit bytes) e ∙ bit-of-byte bytes (length bytes - 1) (at + i) (omega arith) ∙ sym (digit-from byte at i)

@@ -5,16 +5,17 @@ use mathlib.Core.Bool.{Bool, true, false}
 use mathlib.Core.List.{List, [], _++_}
 use Prim.Native.Nat.{ℕ, suc, _*_, _<_}
 use native.Mathlib.Omega.{arith}
-use lib.ListN.{length, length-take, length-drop}
+use lib.ListN.{length, take, drop, length-take, length-drop}
 use lib.Seq.{take-all, take-at, drop-at}
 use lib.IntN.{ℤ}
 use Rattle.e8.specs.Energy.{energy, Within}
 use Rattle.e8.specs.Order.{Reads}
-use Rattle.e8.specs.Lattice.{part, Differ}
+use Rattle.e8.specs.Lattice.{InBlock, part, Differ}
 use Rattle.e8.specs.Largest.{largestTo, largestBlock}
 use Rattle.e8.specs.Least.{GoesBefore, IsLeast, leastBlock, leastFrame}
 use Rattle.e8.specs.Ties.{negated, leastBlockBy, leastFrameBy}
 use Rattle.e8.proofs.Order.{reads-antisym}
+use Rattle.e8.proofs.Group.{block-length}
 use Rattle.e8.proofs.Frame.{differ-sym, differ-trans, block-size, frame-size, leastFrame-is, leastFrame-within, leastFrame-snoc, leastFrame-part}
 use Rattle.e8.proofs.Largest.{largest-same}
 use Rattle.e8.proofs.Negation.{negated-twice, negated-length, negated-append, negated-part, negated-within}
@@ -145,6 +146,20 @@ module _ (H : ℕ) (pos-H : 0 < H) where
   leastFrameBy-part true n x l i h =
       sym (negated-part i (leastFrame H n (negated x)))
       ∙ ap negated (leastFrame-part H pos-H n (negated x) (negated-length x ∙ l) i h ∙ ap (leastBlock H) (sym (negated-part i x)))
+
+  -- members of one class of blocks have one least block
+  pub blockBy-class : (last : Bool) (x y : List ℤ) → length x ≡ 8 → InBlock H x y → leastBlockBy last H x ≡ leastBlockBy last H y
+  blockBy-class last x y l i =
+      sym (one-least last H x l) ∙ leastFrameBy-class H pos-H 1 last x y l (record { whole = l; long = long; blocks = blocks }) ∙ one-least last H y (long ∙ l)
+    where
+      long : length y ≡ length x
+      long = block-length H x y i
+
+      first : (j : ℕ) → j < 1 → (z : List ℤ) → length z ≡ 8 → z ≡ part j z
+      first j h z m = let e : 8 * j ≡ 0 = omega arith in sym (ap (λ (n : ℕ). take 8 (drop n z)) e ∙ take-all 8 z (omega (arith, m)))
+
+      blocks : (j : ℕ) → j < 1 → InBlock H (part j x) (part j y)
+      blocks j h = subst (InBlock H (part j x)) (first j h y (long ∙ l)) (subst (λ (z : List ℤ). InBlock H z y) (first j h x l) i)
 
   -- the energy of a block is the same by both rules
   block-energy : (last other : Bool) (x : List ℤ) → length x ≡ 8 → energy (leastBlockBy last H x) ≡ energy (leastBlockBy other H x)

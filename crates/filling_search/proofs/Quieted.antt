@@ -185,7 +185,7 @@ module _ (k b f : ℕ) (kind : isKind k ≡ true) (low : 1 ≤ b) (high : b ≤ 
   abbrev L : List ℤ
   L = leader k b bytes
 
-  filling-is : (number : ℕ) → quietOf (levels k) b f (part n L) ≡ quietFilling k b f number bytes
+  pub filling-is : (number : ℕ) → quietOf (levels k) b f (part n L) ≡ quietFilling k b f number bytes
   unfolding quietOf quietFilling half isOdd
   filling-is number =
       firstLeast-ext (2 ^ f) (λ φ l. ap (λ (x : List ℤ). energy (leastBlockBy false (half k b) x)) (last-is φ l))

@@ -1,7 +1,7 @@
 -- The blocks of the fillings: their coordinates, their size, and that they stand one behind the other. Assumes nothing.
 use Prim.Native.Nat.{ℕ, zero, suc, _+_, _-_, _*_, _/_, _%_, _^_, _≤_, _<_}
 use mathlib.Core.Path.{_≡_, refl, sym, ap, _∙_}
-use mathlib.Core.Bool.{false}
+use mathlib.Core.Bool.{Bool, true, false}
 use mathlib.Core.List.{List, [], _∷_, _++_, append-nil}
 use native.Mathlib.Nat.{mul-le-mul, zero-mul}
 use native.Mathlib.Numerals.{add-one}
@@ -20,26 +20,26 @@ use Rattle.e8.specs.Lattice.{part}
 use Rattle.e8.specs.Ties.{leastBlockBy, leastFrameBy}
 use Rattle.e8.proofs.Within.{within-to, within-at, within-all}
 use Rattle.e8.proofs.Ties.{leastFrameBy-size, leastFrameBy-within, leastFrameBy-part}
-use Rattle.coordinates.proofs.Size.{sum-abs}
+use Rattle.coordinates.proofs.Size.{sum-abs, less-abs}
 use Rattle.frames.specs.Message.{widths}
 use Rattle.frames.specs.Free.{firstLeast}
 use Rattle.free_bits.proofs.First.{firstLeast-at, firstLeast-ext}
 use Rattle.e8.proofs.Blockwise.{Made}
-use Rattle.filling_search.specs.Filling.{fillingNumbers, raise, filledBlock, filledBlocks, shapedBlocks, quietOf, quietLast}
+use Rattle.filling_search.specs.Filling.{fillingNumbers, shift, shiftAll, shiftedBlock, filledBlock, filledBlocks, shapedBlocks, quietOf, quietLast}
 use Rattle.frames.proofs.Numbers.{total}
 use Rattle.leader.proofs.BlockNumbers.{numbers-at, numbers-length, numbers-below}
 
-raise-length : (a : ℕ) (ss : List ℕ) (zs : List ℤ) → length ss ≡ length zs → length (raise a ss zs) ≡ length zs
-raise-length a [] zs h = h
-raise-length a (s ∷ ss) [] h = refl
-raise-length a (s ∷ ss) (z ∷ zs) h = ap suc (raise-length a ss zs (omega arith))
+shift-length : (off : Bool) (a : ℕ) (ss : List ℕ) (zs : List ℤ) → length ss ≡ length zs → length (shiftAll off a ss zs) ≡ length zs
+shift-length off a [] zs h = h
+shift-length off a (s ∷ ss) [] h = refl
+shift-length off a (s ∷ ss) (z ∷ zs) h = ap suc (shift-length off a ss zs (omega arith))
 
-raise-at : (a : ℕ) (ss : List ℕ) (zs : List ℤ) → length ss ≡ length zs → (i : ℕ) → i < length zs
-    → getD (raise a ss zs) i (pos 0) ≡ getD zs i (pos 0) +ℤ pos (2 ^ a * getD ss i 0)
-raise-at a [] zs h i l = absurd (omega arith)
-raise-at a (s ∷ ss) [] h i l = absurd (omega arith)
-raise-at a (s ∷ ss) (z ∷ zs) h zero l = refl
-raise-at a (s ∷ ss) (z ∷ zs) h (suc i) l = raise-at a ss zs (omega arith) i (omega arith)
+shift-at : (off : Bool) (a : ℕ) (ss : List ℕ) (zs : List ℤ) → length ss ≡ length zs → (i : ℕ) → i < length zs
+    → getD (shiftAll off a ss zs) i (pos 0) ≡ shift off a (getD ss i 0) (getD zs i (pos 0))
+shift-at off a [] zs h i l = absurd (omega arith)
+shift-at off a (s ∷ ss) [] h i l = absurd (omega arith)
+shift-at off a (s ∷ ss) (z ∷ zs) h zero l = refl
+shift-at off a (s ∷ ss) (z ∷ zs) h (suc i) l = shift-at off a ss zs (omega arith) i (omega arith)
 
 -- the numbers of a filling are eight, each below 32
 pub filling-eight : (b f φ : ℕ) → length (fillingNumbers b f φ) ≡ 8
@@ -51,25 +51,43 @@ unfolding fillingNumbers
 filling-small b f φ i high h = numbers-below (digit (φ * 2 ^ (8 * b - f))) (digit-small (φ * 2 ^ (8 * b - f))) 0 b i high h
 
 module _ (a b f φ : ℕ) (x : List ℤ) (eight : length x ≡ 8) where
+  -- a filling put in, or taken out
+  pub shifted-size : (off : Bool) → length (shiftedBlock off a b f φ x) ≡ 8
+  unfolding shiftedBlock
+  shifted-size off = shift-length off a (fillingNumbers b f φ) x (filling-eight b f φ ∙ sym eight) ∙ eight
+
+  pub shifted-at : (off : Bool) (i : ℕ) → i < 8
+      → getD (shiftedBlock off a b f φ x) i (pos 0) ≡ shift off a (getD (fillingNumbers b f φ) i 0) (getD x i (pos 0))
+  unfolding shiftedBlock
+  shifted-at off i h = shift-at off a (fillingNumbers b f φ) x (filling-eight b f φ ∙ sym eight) i (omega arith)
+
   pub filled-size : length (filledBlock a b f φ x) ≡ 8
-  unfolding filledBlock
-  filled-size = raise-length a (fillingNumbers b f φ) x (filling-eight b f φ ∙ sym eight) ∙ eight
+  filled-size = shifted-size false
 
   pub filled-at : (i : ℕ) → i < 8 → getD (filledBlock a b f φ x) i (pos 0) ≡ getD x i (pos 0) +ℤ pos (2 ^ a * getD (fillingNumbers b f φ) i 0)
-  unfolding filledBlock
-  filled-at i h = raise-at a (fillingNumbers b f φ) x (filling-eight b f φ ∙ sym eight) i (omega arith)
+  filled-at i h = shifted-at false i h
+
+  -- no coordinate moves by more than 256
+  module _ (few : a ≤ 3) (high : b ≤ 4) where
+    by-256 : (i : ℕ) → i < 8 → 2 ^ a * getD (fillingNumbers b f φ) i 0 ≤ 256
+    by-256 i h =
+        let n : ℕ = getD (fillingNumbers b f φ) i 0 in
+        let p : 2 ^ a ≤ 8 = pow-mono {j = 3} few in
+        let low : n ≤ 32 = omega (arith, filling-small b f φ i high h) in
+        mul-le-mul {n₁ = 2 ^ a} {m₁ = n} {n₂ = 8} {m₂ = 32} p low
+
+    moved-size : (off : Bool) (s B : ℕ) (z : ℤ) → natAbs z ≤ B → 2 ^ a * s ≤ 256 → natAbs (shift off a s z) ≤ B + 256
+    moved-size false s B z h m = sum-abs z (pos (2 ^ a * s)) B 256 h m
+    moved-size true s B z h m = less-abs z (pos (2 ^ a * s)) B 256 h m
+
+    pub shifted-within : (off : Bool) (B : ℕ) → Within B x → Within (B + 256) (shiftedBlock off a b f φ x)
+    shifted-within off B near = within-all (B + 256) (shiftedBlock off a b f φ x) (λ i l.
+        let h : i < 8 = omega (arith, shifted-size off) in
+        rw (shifted-at off i h) (moved-size off (getD (fillingNumbers b f φ) i 0) B (getD x i (pos 0)) (within-at B x i near) (by-256 i h)))
 
   pub filled-within : a ≤ 3 → b ≤ 4 → Within (2 ^ 9) x → Within (2 ^ 10) (filledBlock a b f φ x)
-  filled-within few high near = within-all (2 ^ 10) (filledBlock a b f φ x) (λ i l.
-      let h : i < 8 = omega (arith, filled-size) in rw (filled-at i h) (size i h))
-    where
-      size : (i : ℕ) → i < 8 → natAbs (getD x i (pos 0) +ℤ pos (2 ^ a * getD (fillingNumbers b f φ) i 0)) ≤ 2 ^ 10
-      size i h =
-          let n : ℕ = getD (fillingNumbers b f φ) i 0 in
-          let p : 2 ^ a ≤ 8 = pow-mono {j = 3} few in
-          let low : n ≤ 32 = omega (arith, filling-small b f φ i high h) in
-          let m : 2 ^ a * n ≤ 8 * 32 = mul-le-mul {n₁ = 2 ^ a} {m₁ = n} {n₂ = 8} {m₂ = 32} p low in
-          omega (arith, sum-abs (getD x i (pos 0)) (pos (2 ^ a * n)) (2 ^ 9) 256 (within-at (2 ^ 9) x i near) m)
+  filled-within few high near =
+      within-to (2 ^ 9 + 256) (2 ^ 10) (filledBlock a b f φ x) (omega arith) (shifted-within few high false (2 ^ 9) near)
 
 -- ---- all fillings
 

@@ -2,25 +2,26 @@
 // and the first of least energy is taken.
 ghost use mathlib.Core.Path.{_≡_};
 ghost use Prim.Native.Nat.{_*_, _/_, _%_, _^_, _<_, _≤_};
-ghost use lib.IntN.{pos, natAbs, _+ℤ_};
+ghost use lib.IntN.{natAbs};
 ghost use lib.ListN.{length};
 ghost use Rattle.e8.specs.Energy.{energy as energyOf, Within};
 ghost use Rattle.e8.specs.Lattice.{part};
 ghost use Rattle.frames.specs.Free.{firstLeast};
-ghost use Rattle.filling_search.specs.Filling.{filledBlock, filledBlocks, shapedBlocks, quietOf, quietLast};
+ghost use Rattle.filling_search.specs.Filling.{shift, shiftedBlock, filledBlocks, shapedBlocks, quietOf, isQuietest, quietLast};
 
-// z + 2^a·n.
-fn raised(a: usize, n: u32, z: i32) -> i32
+// 2^a·n added to z, or taken off it.
+fn shifted(off: bool, a: usize, n: u32, z: i32) -> i32
     requires { ⌜ (a ≤ 3) × (n < 32) × (natAbs z ≤ 2 ^ 9) ⌝ }
-    ensures { λ r. ⌜ r ≡ z +ℤ pos (2 ^ a * n) ⌝ }
+    ensures { λ r. ⌜ r ≡ shift off a n z ⌝ }
 {
-    z + ((n << a) as i32)
+    let m = (n << a) as i32;
+    if off { z - m } else { z + m }
 }
 
-// The last block of a leader whose free bits are 0, with a filling: the free bits are the last ones of the block's numbers, over a levels.
-fn filled_block(a: usize, grade: usize, free: usize, phi: u64, x: [i32; 8]) -> [i32; 8]
+// The last block of a leader with a filling put into it, or taken out: the free bits are the last ones of the block's numbers, over a levels.
+fn shifted_block(off: bool, a: usize, grade: usize, free: usize, phi: u64, x: [i32; 8]) -> [i32; 8]
     requires { ⌜ (a ≤ 3) × (1 ≤ grade) × (grade ≤ 4) × (free ≤ 4) × (phi < 2 ^ free) × Within (2 ^ 9) x ⌝ }
-    ensures { λ r. ⌜ r ≡ filledBlock a grade free phi x ⌝ }
+    ensures { λ r. ⌜ r ≡ shiftedBlock off a grade free phi x ⌝ }
 {
     let s = leader::unpacked_by(phi << (8 * grade - free), grade);
     let mut r = x;
@@ -28,7 +29,7 @@ fn filled_block(a: usize, grade: usize, free: usize, phi: u64, x: [i32; 8]) -> [
     while i < 8 {
         let z = x[i];
         let n = s[i];
-        r[i] = raised(a, n, z);
+        r[i] = shifted(off, a, n, z);
         i += 1;
     }
     r
@@ -44,7 +45,7 @@ fn lay(a: usize, grade: usize, free: usize, x: [i32; 8], out: &mut [i32])
     while j < count {
         let s = 8 * j;
         let e = s + 8;
-        let y = filled_block(a, grade, free, j as u64, x);
+        let y = shifted_block(false, a, grade, free, j as u64, x);
         coordinates::store(y, &mut out[s..e]);
         j += 1;
     }
@@ -84,17 +85,29 @@ fn quietest_by(a: usize, grade: usize, free: usize, x: [i32; 8], buffer: &mut [i
     first_least(buffer)
 }
 
-// The last block of a leader whose free bits are 0, with the filling that is taken.
-fn quietest(a: usize, grade: usize, free: usize, x: [i32; 8]) -> [i32; 8]
+// The filling that is taken, from the last block of a leader whose free bits are 0.
+fn quietest(a: usize, grade: usize, free: usize, x: [i32; 8]) -> usize
     requires { ⌜ (1 ≤ a) × (a ≤ 3) × (1 ≤ grade) × (grade ≤ 4) × (free ≤ 4) × Within (2 ^ 9) x ⌝ }
-    ensures { λ r. ⌜ r ≡ filledBlock a grade free (quietOf a grade free x) x ⌝ }
+    ensures { λ r. ⌜ r ≡ quietOf a grade free x ⌝ }
 {
     // Filled with a number that the compiler does not know: of zeros it makes a call of memset, and the archive calls nothing.
     let v = x[0];
-    let mut buffer = [v; 128];
     let n = 8usize << free;
-    let phi = quietest_by(a, grade, free, x, &mut buffer[0..n]);
-    filled_block(a, grade, free, phi as u64, x)
+    if free <= 2 {
+        let mut few = [v; 32];
+        return quietest_by(a, grade, free, x, &mut few[0..n]);
+    }
+    let mut buffer = [v; 128];
+    quietest_by(a, grade, free, x, &mut buffer[0..n])
+}
+
+// Whether a filling is the one that is taken, from any small block of its class.
+pub fn is_quietest(a: usize, grade: usize, free: usize, phi: usize, x: [i32; 8]) -> bool
+    requires { ⌜ (1 ≤ a) × (a ≤ 3) × (1 ≤ grade) × (grade ≤ 4) × (free ≤ 4) × (phi < 2 ^ free) × Within (2 ^ 7) x ⌝ }
+    ensures { λ r. ⌜ r ≡ isQuietest a grade free phi x ⌝ }
+{
+    let y = shifted_block(true, a, grade, free, phi as u64, x);
+    quietest(a, grade, free, y) == phi
 }
 
 // Puts the filling that is taken into a leader whose free bits are 0, with a levels below its numbers. Where no bit is free, nothing is searched.
@@ -108,6 +121,7 @@ pub fn fill_last(a: usize, grade: usize, free: usize, leader: &mut [i32])
     let s = leader.len() - 8;
     let e = s + 8;
     let x = coordinates::load(&leader[s..e]);
-    let y = quietest(a, grade, free, x);
+    let phi = quietest(a, grade, free, x);
+    let y = shifted_block(false, a, grade, free, phi as u64, x);
     coordinates::store(y, &mut leader[s..e]);
 }

@@ -22,7 +22,7 @@ use Rattle.e8.specs.Rows.{reduced}
 use Rattle.frames.specs.Kind.{kinds, isKind, isGrade, degrees, levels, levelBits, messageBits, messageBytes}
 use Rattle.frames.specs.Message.{numbers, blockNumbers, stacked, coordinate, leader}
 use Rattle.frames.specs.Frame.{weightBit, levelWord, half, isOdd, numberedFrame, sentFrame}
-use Rattle.frames.specs.Free.{isFreeCount, freeFrom, filled, filledFrame, firstLeast, quietFilling, quietFrame}
+use Rattle.frames.specs.Free.{isFreeCount, freeFrom, filled, filling, filledFrame, firstLeast, quietFilling, quietFrame}
 use Rattle.frames.specs.Sending.{anySet, freeSet, sendRefusal}
 use Rattle.frames.specs.Reading.{levelMessage, levelMessages, quotients, digits, allDigits, blockMessages, readBits, openMessage}
 use Rattle.frames.specs.Reading.{fixedMessage, sameFrame, inRange, broken, openRefusal, isSent, strictRefusal}
@@ -167,7 +167,7 @@ numbered-tests = record {
 
 -- the fillings of a message with free bits
 pub free-cases : FreeCases
-unfolding openRefusal strictRefusal isSent isFreeCount fixedMessage filled freeFrom withBits quietFrame quietFilling firstLeast filledFrame sameFrame openMessage readBits levelMessages levelMessage blockMessages quotients allDigits digits
+unfolding openRefusal strictRefusal isSent isFreeCount fixedMessage filled filling freeFrom withBits quietFrame quietFilling firstLeast filledFrame sameFrame openMessage readBits levelMessages levelMessage blockMessages quotients allDigits digits
     inRange isWithin broken weightBit isKind isGrade sendRefusal freeSet anySet messageBytes messageBits
     numberedFrame isOdd half leastFrameBy leastFrame leastBlock best better cent before energy sq leader coordinate stacked blockNumbers numbers
     degrees kinds levels levelBits sumTo codeword order dimension masks ofWeight table messageBit bytesOf byteOf backwards belongs clearAbove reduced ones
@@ -186,6 +186,8 @@ free-cases = record {
   nine-3 = refl;
   whole-1 = refl;
   whole-2 = refl;
+  filling-1 = refl;
+  filling-2 = refl;
   fixed-1 = refl;
   fixed-2 = refl;
   three-least = refl;

@@ -14,7 +14,7 @@ use Rattle.e8.specs.Rows.{ints}
 use Rattle.frames.specs.Kind.{degrees, levels, messageBits, messageBytes}
 use Rattle.frames.specs.Message.{widths, numbers, coordinate}
 use Rattle.frames.specs.Frame.{InCodingSet, numberedFrame, sentFrame, leastDistance}
-use Rattle.frames.specs.Free.{filledFrame, quietFilling, quietFrame}
+use Rattle.frames.specs.Free.{filling, filledFrame, quietFilling, quietFrame}
 use Rattle.frames.specs.Sending.{sendRefusal}
 use Rattle.frames.specs.Reading.{openMessage, fixedMessage, openRefusal, strictRefusal}
 
@@ -251,6 +251,8 @@ pub record FreeCases : Type 0 where
   pub nine-3 : strictRefusal 3 1 2 0 (filledFrame 3 1 2 0 freeMessage 3) 2 ≡ 9
   pub whole-1 : openMessage 3 1 frameOf1 ≡ 18 ∷ 4 ∷ []
   pub whole-2 : openMessage 3 1 frameOf2 ≡ 18 ∷ 8 ∷ []
+  pub filling-1 : filling 3 1 2 (openMessage 3 1 frameOf1) ≡ 1
+  pub filling-2 : filling 3 1 2 (openMessage 3 1 frameOf2) ≡ 2
   pub fixed-1 : fixedMessage 3 1 2 frameOf1 ≡ freeMessage
   pub fixed-2 : fixedMessage 3 1 2 frameOf2 ≡ freeMessage
   pub three-least : map (λ (φ : ℕ). energy (filledFrame 3 1 2 0 (1 ∷ 0 ∷ []) φ)) (0 ∷ 1 ∷ 2 ∷ 3 ∷ []) ≡ 8 ∷ 8 ∷ 16 ∷ 8 ∷ []

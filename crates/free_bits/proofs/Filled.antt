@@ -15,14 +15,9 @@ use Rattle.bits.proofs.Message.{message-small, number-lt, number-bit, number-di
 use Rattle.bits.proofs.Message.{bytes-of-bits, bit-past, with-in, with-before, with-past, with-small, with-none}
 use Rattle.frames.specs.Kind.{messageBits, messageBytes}
 use Rattle.frames.specs.Message.{Bytes, Message}
-use Rattle.frames.specs.Free.{freeFrom, filled, FreeMessage}
+use Rattle.frames.specs.Free.{freeFrom, filled, filling, FreeMessage}
 use Rattle.frames.proofs.Limits.{bytes-hold}
 use Rattle.frames.proofs.One.{table-below}
-
--- the free bits of a message, "read as a number, lowest bit first"
-unfoldable pub filling : ℕ → ℕ → ℕ → List ℕ → ℕ
-unfolding freeFrom messageBit
-filling k b f bytes = number f (λ t. messageBit bytes (freeFrom k b f + t))
 
 -- bits put over bits that were put at the same place
 with-over : (from count : ℕ) (new new′ old : ℕ → ℕ) (i : ℕ) → withBits from count new (withBits from count new′ old) i ≡ withBits from count new old i

@@ -14,7 +14,7 @@ use Rattle.e8.specs.Energy.{energy, distance}
 use Rattle.frames.specs.Kind.{isKind, isGrade, messageBits, messageBytes}
 use Rattle.frames.specs.Message.{Bytes, Message}
 use Rattle.frames.specs.Frame.{InCodingSet, SameClass, numberedFrame, leastDistance}
-use Rattle.frames.specs.Free.{isFreeCount, freeFrom, filled, FreeMessage, filledFrame, quietFilling, quietFrame}
+use Rattle.frames.specs.Free.{isFreeCount, freeFrom, filled, filling, FreeMessage, filledFrame, quietFilling, quietFrame}
 use Rattle.frames.specs.Sending.{anySet, unless, sendRefusal, freeSet, Accepts}
 use Rattle.frames.specs.Reading.{openMessage, fixedMessage}
 use Rattle.frames.specs.Demands.{OneFilling, Quieter, FixedApart, NoneFree}
@@ -22,7 +22,7 @@ use Rattle.frames.proofs.Accepted.{accepted-exactly, free-accepted}
 use Rattle.frames.proofs.Demands.{sent-in-set, read-message, read-class, exactly-one, set-apart}
 use Rattle.frames.proofs.Bounds.{sent-energy}
 use Rattle.frames.proofs.Reading.{open-gives-the-one, read-sent}
-use Rattle.free_bits.proofs.Filled.{filling, filled-fixed, filled-twice, filling-below, filled-filling, filled-own, filled-clear}
+use Rattle.free_bits.proofs.Filled.{filled-fixed, filled-twice, filling-below, filled-filling, filled-own, filled-clear}
 use Rattle.free_bits.proofs.Filled.{filling-filled, filled-message, cleared-message, filled-none}
 use Rattle.free_bits.proofs.Fillings.{free-room, first-taken, none-quiet}
 

@@ -4,14 +4,16 @@ use Prim.Native.Nat.{ℕ, _^_, _<_}
 use mathlib.Core.Path.{_≡_, refl, sym, ap, _∙_}
 use mathlib.Core.Bool.{Bool, true, false}
 use mathlib.Core.List.{List}
+use native.Mathlib.Decide.{ℕ-discrete}
+use lib.Dec.{eqb}
 use lib.ListN.{length}
 use lib.IntN.{ℤ}
-use borrow.Author.Tests.{ne-eqb}
+use borrow.Author.Tests.{eq-eqb, ne-eqb}
 use Rattle.e8.specs.Energy.{energy}
 use Rattle.frames.specs.Kind.{isKind, isGrade}
 use Rattle.frames.specs.Message.{Bytes}
 use Rattle.frames.specs.Frame.{InCodingSet, numberedFrame}
-use Rattle.frames.specs.Free.{isFreeCount, filled, FreeMessage, filledFrame, quietFilling, quietFrame}
+use Rattle.frames.specs.Free.{isFreeCount, filled, filling, FreeMessage, filledFrame, quietFilling, quietFrame}
 use Rattle.frames.specs.Sending.{unless, Accepts}
 use Rattle.frames.specs.Reading.{openMessage, fixedMessage, sameFrame, openRefusal, isSent, strictRefusal, messageAfter, energyRead}
 use Rattle.frames.specs.Demands.{SentFor, PassedExactly, ReadBack, OthersNine, NoneFreeRead}
@@ -19,9 +21,9 @@ use Rattle.frames.proofs.Accepted.{accepted-exactly, free-accepted}
 use Rattle.frames.proofs.Range.{strict-open}
 use Rattle.frames.proofs.Refusals.{passed, same-frame, frame-same, Accepted, accepted}
 use Rattle.frames.proofs.Reading.{sent-in-range, inside-taken, taken-in-set}
-use Rattle.free_bits.proofs.Filled.{filling, filling-filled}
-use Rattle.free_bits.proofs.Fillings.{free-room, first-taken, none-quiet}
-use Rattle.free_bits.proofs.ReadBack.{filled-in-set, filled-read, fixed-message, read-fixed, none-fixed}
+use Rattle.free_bits.proofs.Filled.{filling-filled, filling-below}
+use Rattle.free_bits.proofs.Fillings.{free-room, first-taken, same-filling, none-quiet}
+use Rattle.free_bits.proofs.ReadBack.{filled-in-set, filled-read, fixed-message, read-fixed, fixed-filled, none-fixed}
 
 -- ---- the test of 9
 
@@ -182,6 +184,42 @@ module _ (k b number : ℕ) (kind : isKind k ≡ true) (grade : isGrade b ≡ tr
       read : openMessage k b frame ≡ filled k b f (quietFilling k b f number fixed) fixed
       read = ap (openMessage k b) same
           ∙ filled-read k b f kind grade few number fixed (quietFilling k b f number fixed) (fixed-message k b f kind grade few frame set .message)
+
+  -- and of the frames of whole messages it is the one whose filling is taken
+  pub taken-decides : (f : ℕ) → isFreeCount f ≡ true → isSent k b 0 number frame ≡ true
+      → isSent k b f number frame ≡ eqb (quietFilling k b f 0 (fixedMessage k b f frame)) (filling k b f (openMessage k b frame))
+  unfolding isSent quietFrame filledFrame
+  taken-decides f few t = go (ℕ-discrete taken own)
+    where
+      fixed : List ℕ
+      fixed = fixedMessage k b f frame
+
+      own : ℕ
+      own = filling k b f (openMessage k b frame)
+
+      taken : ℕ
+      taken = quietFilling k b f 0 fixed
+
+      message : FreeMessage k b f fixed
+      message = fixed-message k b f kind grade few frame set
+
+      -- the frame is that of its own filling
+      is-own : frame ≡ filledFrame k b f number fixed own
+      is-own = same-frame frame (numberedFrame k b number (openMessage k b frame)) (sym none-sent ∙ t)
+          ∙ ap (numberedFrame k b number) (sym (fixed-filled k b f kind grade few frame set))
+
+      same : taken ≡ quietFilling k b f number fixed
+      same = same-filling k b f kind fixed 0 number
+
+      go : Dec (taken ≡ own) → sameFrame frame (quietFrame k b f number fixed) ≡ eqb taken own
+      go (yes e) = ap (sameFrame frame) (ap (filledFrame k b f number fixed) (sym same ∙ e) ∙ sym is-own) ∙ frame-same frame ∙ sym (eq-eqb taken own e)
+      go (no ne) = differs (sameFrame frame (quietFrame k b f number fixed)) refl ∙ sym (ne-eqb taken own ne)
+        where
+          differs : (s : Bool) → sameFrame frame (quietFrame k b f number fixed) ≡ s → s ≡ false
+          differs false e = refl
+          differs true e = absurd (ne (same ∙ sym (fillings-differ k b f kind grade few fixed message number number own (quietFilling k b f number fixed)
+              (filling-below k b f (openMessage k b frame)) (first-taken k b f number fixed .first .least .below)
+              (sym is-own ∙ same-frame frame (quietFrame k b f number fixed) e))))
 
 pub none-free-read : (k b number : ℕ) (frame : List ℤ) (n : ℕ) → NoneFreeRead k b number frame n
 none-free-read k b number frame n = record {

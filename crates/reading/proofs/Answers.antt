@@ -1,23 +1,25 @@
 -- The answer of a reading by the tests that were passed, and what is left by it. Assumes nothing.
 use Prim.Native.Nat.{ℕ, zero, suc, _^_, _<_}
-use mathlib.Core.Path.{_≡_, refl, sym, _∙_}
+use mathlib.Core.Path.{_≡_, refl, sym, ap, _∙_}
 use mathlib.Core.Bool.{Bool, true, false, true≢false}
 use mathlib.Core.List.{List}
 use native.Mathlib.Decide.{ℕ-discrete}
 use native.Mathlib.Omega.{arith}
+use lib.Dec.{eqb}
 use lib.IntN.{ℤ}
 use lib.ListN.{length}
 use borrow.Author.Tests.{eq-eqb, ne-eqb}
 use Rattle.e8.specs.Energy.{energy}
 use Rattle.frames.specs.Kind.{isKind, isGrade, messageBytes}
-use Rattle.frames.specs.Free.{isFreeCount}
+use Rattle.frames.specs.Free.{isFreeCount, filling, quietFilling}
 use Rattle.frames.specs.Sending.{unless}
-use Rattle.frames.specs.Reading.{inRange, fixedMessage, openRefusal, isSent, strictRefusal, messageAfter, energyRead}
+use Rattle.frames.specs.Reading.{inRange, openMessage, fixedMessage, openRefusal, isSent, strictRefusal, messageAfter, energyRead}
 use Rattle.frames.proofs.Rows.{grade-low, grade-high}
 use Rattle.frames.proofs.Refusals.{passed, accepted}
 use Rattle.frames.proofs.Reading.{taken-in-set}
+use Rattle.free_bits.proofs.Fillings.{free-few}
 use Rattle.free_bits.proofs.LastByte.{last-byte}
-use Rattle.free_bits.proofs.Strict.{strict-decides, strict-as-open, sent-whole}
+use Rattle.free_bits.proofs.Strict.{strict-decides, strict-as-open, strict-passed, sent-whole, taken-decides}
 use Rattle.reading.specs.Numbers.{sentRefusal, refusalOf}
 
 -- ---- the definition, as far as the tests go
@@ -35,7 +37,7 @@ module _ (k b f n : ℕ) (frame : List ℤ) (good : (isKind k ≡ true) × (isGr
   unfolding openRefusal
   by-6 l m r = rw (good .0, good .1, few, eq-eqb (length frame) (2 ^ k) l, eq-eqb n (messageBytes k b) m, r)
 
--- ---- the strict reading, before any filling is compared and after
+-- ---- the strict reading, before any filling is compared
 
 module _ (k b f number : ℕ) (frame : List ℤ) (n : ℕ) where
   abbrev opened : ℕ
@@ -43,9 +45,6 @@ module _ (k b f number : ℕ) (frame : List ℤ) (n : ℕ) where
 
   abbrev sent : ℕ
   sent = sentRefusal k b f number frame n
-
-  abbrev strict : ℕ
-  strict = strictRefusal k b f number frame n
 
   -- past the open reading's tests its own message decides
   pub sent-decides : opened ≡ 0 → sent ≡ unless (isSent k b 0 number frame) 9 0
@@ -64,36 +63,54 @@ module _ (k b f number : ℕ) (frame : List ℤ) (n : ℕ) where
       go (yes z) = (z, passed (isSent k b 0 number frame) 8 0 (sym (sent-decides z) ∙ e) .0)
       go (no h) = absurd (h (sym (sent-as-open h) ∙ e))
 
-  both-open : (opened ≡ 0 → ⊥) → sent ≡ strict
-  both-open h = sent-as-open h ∙ sym (strict-as-open k b f number frame n h)
+-- ---- the strict reading with free bits, and without them
 
-  -- what it refuses, no free bit makes good
-  pub sent-refused : (sent ≡ 0 → ⊥) → sent ≡ strict
-  sent-refused h = go (ℕ-discrete opened 0)
+-- a free count that there may be changes nothing of the open reading's tests
+pub few-open : (k b f : ℕ) (frame : List ℤ) (n : ℕ) → isFreeCount f ≡ true → openRefusal k b f frame n ≡ openRefusal k b 0 frame n
+unfolding openRefusal isFreeCount
+few-open k b f frame n few = rw few
+
+module _ (k b f number : ℕ) (frame : List ℤ) (n : ℕ) (few : isFreeCount f ≡ true) where
+  -- what is refused without free bits is refused with them, by the same number
+  pub whole-refused : (strictRefusal k b 0 number frame n ≡ 0 → ⊥) → strictRefusal k b 0 number frame n ≡ strictRefusal k b f number frame n
+  whole-refused h = go (ℕ-discrete (openRefusal k b 0 frame n) 0)
     where
+      same : openRefusal k b f frame n ≡ openRefusal k b 0 frame n
+      same = few-open k b f frame n few
+
       either : (t s : Bool) → (s ≡ true → t ≡ true) → (unless t 9 0 ≡ 0 → ⊥) → unless t 9 0 ≡ unless s 9 0
       either true s i h = absurd (h refl)
       either false false i h = refl
       either false true i h = absurd (true≢false (sym (i refl)))
 
-      go : Dec (opened ≡ 0) → sent ≡ strict
+      go : Dec (openRefusal k b 0 frame n ≡ 0) → strictRefusal k b 0 number frame n ≡ strictRefusal k b f number frame n
       go (yes z) =
-          let a = accepted k b f frame n z in
-          let whole = sent-whole k b number (a .kind) (a .grade) frame (taken-in-set k b f frame n z) f (a .few) in
-          sent-decides z ∙ either (isSent k b 0 number frame) (isSent k b f number frame) whole (λ e. h (sent-decides z ∙ e))
-          ∙ sym (strict-decides k b f number frame n z)
-      go (no o) = both-open o
+          let a = accepted k b 0 frame n z in
+          let whole = sent-whole k b number (a .kind) (a .grade) frame (taken-in-set k b 0 frame n z) f few in
+          strict-decides k b 0 number frame n z
+          ∙ either (isSent k b 0 number frame) (isSent k b f number frame) whole (λ e. h (strict-decides k b 0 number frame n z ∙ e))
+          ∙ sym (strict-decides k b f number frame n (same ∙ z))
+      go (no o) = strict-as-open k b 0 number frame n o ∙ sym same ∙ sym (strict-as-open k b f number frame n (λ e. o (sym same ∙ e)))
 
-  -- more bytes than any message has are refused
-  pub sent-long : 46 < n → sent ≡ strict
-  sent-long h = both-open (λ e.
-      let a = accepted k b f frame n e in
-      omega (arith, h, last-byte k b n (a .kind) (grade-low b (a .grade)) (grade-high b (a .grade)) (a .bytes) .few))
+  -- of what is taken without them the filling decides
+  pub whole-taken : strictRefusal k b 0 number frame n ≡ 0
+      → strictRefusal k b f number frame n
+      ≡ unless (eqb (quietFilling k b f 0 (fixedMessage k b f frame)) (filling k b f (openMessage k b frame))) 9 0
+  whole-taken e =
+      let o = strict-passed k b 0 number frame n e .0 in
+      let a = accepted k b 0 frame n o in
+      strict-decides k b f number frame n (few-open k b f frame n few ∙ o)
+      ∙ ap (λ (t : Bool). unless t 9 0) (taken-decides k b number (a .kind) (a .grade) frame (taken-in-set k b 0 frame n o) f few
+      (passed (isSent k b 0 number frame) 8 0 (sym (strict-decides k b 0 number frame n o) ∙ e) .0))
 
--- where no bit is free there is no filling to compare
-pub sent-alone : (k b f number : ℕ) (frame : List ℤ) (n : ℕ) → f ≡ 0 → sentRefusal k b f number frame n ≡ strictRefusal k b f number frame n
-unfolding sentRefusal strictRefusal
-sent-alone k b f number frame n e = rw e
+-- a free count above 4, and more bytes than any message has, are refused by both readings alike
+pub many-refused : (k b f number : ℕ) (frame : List ℤ) (n : ℕ) → 4 < f → openRefusal k b f frame n ≡ strictRefusal k b f number frame n
+many-refused k b f number frame n h = sym (strict-as-open k b f number frame n (λ e. omega (arith, h, free-few f (accepted k b f frame n e .few))))
+
+pub long-refused : (k b f number : ℕ) (frame : List ℤ) (n : ℕ) → 46 < n → openRefusal k b f frame n ≡ strictRefusal k b f number frame n
+long-refused k b f number frame n h = sym (strict-as-open k b f number frame n (λ e.
+    let a = accepted k b f frame n e in
+    omega (arith, h, last-byte k b n (a .kind) (grade-low b (a .grade)) (grade-high b (a .grade)) (a .bytes) .few)))
 
 -- ---- the number of either reading
 

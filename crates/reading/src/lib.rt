@@ -6,7 +6,7 @@ use fixed_bits::write_fixed;
 use frame_energy::energy_by_blocks;
 use refusal::tests;
 use strict::read_quiet;
-use strict::read_sent;
+use strict::read_whole;
 ghost use mathlib.Core.Path.{_≡_};
 ghost use lib.ListN.{length};
 ghost use Rattle.frames.specs.Reading.{openRefusal, strictRefusal, messageAfter, energyRead};
@@ -50,8 +50,8 @@ pub fn read_open(kind: u8, grade: u8, free: u8, frame: &[i32], message: &mut [u8
     read(0, kind, grade, free, frame, message)
 }
 
-// The strict reading under a number: the message of a frame that is sent under it, and of no other. Where no bit is free there is one filling; and no message
-// has more than 46 bytes.
+// The strict reading under a number: the message of a frame that is sent under it, and of no other. Where no bit is free there is one filling; where more than
+// 4 are, and where more than 46 bytes are lent, which no message has, the open reading refuses too.
 pub fn read_strict(
     kind: u8,
     grade: u8,
@@ -65,11 +65,14 @@ pub fn read_strict(
     ensures energy { λ r. ⌜ r .energy ≡ energyRead (r .number) (now (frame .entry)) ⌝ }
 {
     if free == 0 {
-        return read_sent(kind, grade, number, free, frame, message);
+        return read_whole(kind, grade, number, frame, message);
+    }
+    if 4 < free {
+        return read(0, kind, grade, free, frame, message);
     }
     let n = message.len();
     if 46 < n {
-        return read_sent(kind, grade, number, free, frame, message);
+        return read(0, kind, grade, free, frame, message);
     }
     let mut own = [0u8; 46];
     read_quiet(kind, grade, number, free, frame, &mut own[0..n], message)

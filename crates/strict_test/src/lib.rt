@@ -52,7 +52,7 @@ fn differs(a: i32, b: i32) -> u32
 }
 
 // Whether two frames of the same length are the same. Every coordinate is compared, so that the compiler takes many at once.
-pub fn same(a: &[i32], b: &[i32]) -> bool
+fn same(a: &[i32], b: &[i32]) -> bool
     requires { ⌜ length (now a) ≡ length (now b) ⌝ }
     ensures { λ r. ⌜ r ≡ sameFrame (now (a .entry)) (now (b .entry)) ⌝ }
 {

@@ -1,5 +1,5 @@
 -- `fill_last` meets its contract. Assumes nothing.
-use Prim.Native.Nat.{ℕ, _-_, _^_}
+use Prim.Native.Nat.{ℕ, _-_, _^_, _<_}
 use mathlib.Core.Path.{_≡_, sym, ap, _∙_, subst}
 use mathlib.Core.List.{List, _++_}
 use native.Mathlib.Omega.{arith}
@@ -9,7 +9,7 @@ use borrow.Author.Needs.{needs}
 use Rattle.e8.specs.Energy.{Within}
 use Rattle.e8.proofs.Within.{within-drop}
 use Rattle.filling_search.specs.Filling.{filledBlock, quietOf, quietLast}
-use Rattle.filling_search.proofs.Tried.{last-block, put-last, none-last}
+use Rattle.filling_search.proofs.Tried.{quiet-below, last-block, put-last, none-last}
 use Rattle.filling_search.proofs.fill_last.Statement.{statement}
 use Rattle.filling_search.proofs.fill_last.Tie as tie
 
@@ -55,6 +55,19 @@ quietest-requires c κs =
     let p = s .pre in
     (p .0, p .1, p .2, p .3, p .4, subst (Within (2 ^ 9)) (sym (x-is c)) (within-drop (2 ^ 9) (length (lent s) - 8) (lent s) (p .6)))
 
+-- the filling that is taken is one of them
+below : (c : tie.After-quietest) → c .quietest .result < 2 ^ c .before .before .before .before .before .args .free
+below c =
+    let g = c .before .before .before .before .before .args in
+    subst (λ (n : ℕ). n < 2 ^ g .free) (sym (c .quietest .ensures)) (quiet-below (g .a) (g .grade) (g .free) (c .before .load .result))
+
+shifted-block-requires : tie.Need-shifted-block-requires
+shifted-block-requires c κs =
+    let l = c .before in
+    let s = l .before .before .before .before in
+    let p = s .pre in
+    (p .1, p .2, p .3, p .4, omega (arith, below c), subst (Within (2 ^ 9)) (sym (x-is l)) (within-drop (2 ^ 9) (length (lent s) - 8) (lent s) (p .6)))
+
 mul-store : tie.Need-mul-store
 mul-store c = search needs
 
@@ -76,12 +89,14 @@ same-length c = search needs
 returns-2 : tie.Need-returns-2
 unfolding quietLast
 returns-2 c =
-    let q = c .before .before .before in
+    let b = c .before .before .before in
+    let q = b .before in
     let s = q .before .before .before .before .before in
     let g = s .args in
     let l = lent s in
     put-last l (s .pre .5) (c .before .store .last .1 .0)
-    ∙ ap (λ (y : List ℤ). take (length l - 8) l ++ y) (c .before .store .ensures ∙ q .quietest .ensures
+    ∙ ap (λ (y : List ℤ). take (length l - 8) l ++ y) (c .before .store .ensures ∙ b .shifted-block .ensures
+    ∙ ap (λ (φ : ℕ). filledBlock (g .a) (g .grade) (g .free) φ (q .before .load .result)) (q .quietest .ensures)
     ∙ ap (λ (x : List ℤ). filledBlock (g .a) (g .grade) (g .free) (quietOf (g .a) (g .grade) (g .free) x) x) (x-is (q .before)))
 
 pub fill-last-spec : {M : Type 1} → statement M
@@ -97,6 +112,7 @@ fill-last-spec =
     part-load-end
     load-requires
     quietest-requires
+    shifted-block-requires
     mul-store
     sub-store
     part-store-start

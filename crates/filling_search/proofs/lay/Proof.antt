@@ -56,8 +56,8 @@ mul-s c = omega (arith, turn c .low)
 add-e : tie.Need-add-e Inv-loop μ-loop
 add-e c = omega (arith, turn c .low)
 
-filled-block-requires : tie.Need-filled-block-requires Inv-loop μ-loop
-filled-block-requires c κs = let s = c .before .before in (s .pre .0, s .pre .1, s .pre .2, s .pre .3, turn c .inside, s .pre .4)
+shifted-block-requires : tie.Need-shifted-block-requires Inv-loop μ-loop
+shifted-block-requires c κs = let s = c .before .before in (s .pre .0, s .pre .1, s .pre .2, s .pre .3, turn c .inside, s .pre .4)
 
 mul-store : tie.Need-mul-store Inv-loop μ-loop
 mul-store c = omega (arith, turn (c .before) .low)
@@ -85,7 +85,7 @@ loop-again c =
     let t = c .before in
     let l = t .before .before .before in
     let a = l .before in
-    over-step (made (a .before)) (whole (a .before)) (a .loop .inv) (turn l .inside) (t .store .ensures ∙ t .before .before .filled-block .ensures)
+    over-step (made (a .before)) (whole (a .before)) (a .loop .inv) (turn l .inside) (t .store .ensures ∙ t .before .before .shifted-block .ensures)
 
 same-length : tie.Need-same-length Inv-loop μ-loop
 same-length c = same (c .before)
@@ -102,7 +102,7 @@ lay-spec =
     loop-holds
     mul-s
     add-e
-    filled-block-requires
+    shifted-block-requires
     mul-store
     sub-store
     part-store-start

@@ -1,4 +1,4 @@
--- `read_sent`: a number and its remainder modulo 2 have one tie rule. Assumes nothing.
+-- `read_whole`: a number and its remainder modulo 2 have one tie rule. Assumes nothing.
 use Prim.Native.Nat.{ℕ, suc, _+_, _%_}
 use mathlib.Core.Path.{_≡_, sym, ap, _∙_}
 use mathlib.Core.Bool.{cond}
@@ -11,30 +11,30 @@ use lib.ListN.{length}
 use borrow.Author.Needs.{needs}
 use Rattle.frames.specs.Frame.{isOdd}
 use Rattle.frames.specs.Sending.{unless}
-use Rattle.frames.specs.Reading.{fixedMessage, sameFrame, openRefusal, isSent}
+use Rattle.frames.specs.Reading.{fixedMessage, sameFrame, openRefusal, isSent, strictRefusal}
 use Rattle.frames.proofs.Numbered.{same-rule}
 use Rattle.free_bits.proofs.Fillings.{none-quiet}
 use Rattle.reading.specs.Numbers.{sentRefusal, refusalOf}
-use Rattle.reading.proofs.strict.read_sent.Statement.{statement}
-use Rattle.reading.proofs.strict.read_sent.Tie as tie
+use Rattle.reading.proofs.strict.read_whole.Statement.{statement}
+use Rattle.reading.proofs.strict.read_whole.Tie as tie
 
 one-rule : (number : ℕ) → isOdd (number % 2) ≡ isOdd number
 unfolding isOdd
 one-rule number = ap (λ (m : ℕ). eqb m 1) (mod-mod number 2)
 
--- the reading under either of them
-module _ (k b f number : ℕ) (frame : List ℤ) (n : ℕ) where
+-- the reading under either of them, which is the strict one where no bit is free
+module _ (k b number : ℕ) (frame : List ℤ) (n : ℕ) where
   abbrev bytes : List ℕ
   bytes = fixedMessage k b 0 frame
 
-  same-reading : sentRefusal k b f (number % 2) frame n ≡ sentRefusal k b f number frame n
-  unfolding sentRefusal isSent
+  same-reading : sentRefusal k b 0 (number % 2) frame n ≡ strictRefusal k b 0 number frame n
+  unfolding sentRefusal strictRefusal isSent
   same-reading =
-      ap (λ (g : List ℤ). cond (eqb (openRefusal k b f frame n) 0) (unless (sameFrame frame g) 9 0) (openRefusal k b f frame n))
+      ap (λ (g : List ℤ). cond (eqb (openRefusal k b 0 frame n) 0) (unless (sameFrame frame g) 9 0) (openRefusal k b 0 frame n))
       (none-quiet k b (number % 2) bytes ∙ same-rule k b (number % 2) number bytes (one-rule number) ∙ sym (none-quiet k b number bytes))
 
-  by-remainder : refusalOf (1 + number % 2) k b f frame n ≡ sentRefusal k b f number frame n
-  by-remainder = let e : 1 + number % 2 ≡ suc (number % 2) = omega arith in ap (λ (which : ℕ). refusalOf which k b f frame n) e ∙ same-reading
+  by-remainder : refusalOf (1 + number % 2) k b 0 frame n ≡ strictRefusal k b 0 number frame n
+  by-remainder = let e : 1 + number % 2 ≡ suc (number % 2) = omega arith in ap (λ (which : ℕ). refusalOf which k b 0 frame n) e ∙ same-reading
 
 cast-read : tie.Need-cast-read
 cast-read c = omega arith
@@ -53,7 +53,7 @@ returns c =
     let r = c .before .before in
     let a = r .before .before .before .args in
     let e = r .read .ensures in
-    (e .0 ∙ by-remainder (a .kind) (a .grade) (a .free) (a .number) (a .frame .now) (length (a .message .now)), e .1)
+    (e .0 ∙ by-remainder (a .kind) (a .grade) (a .number) (a .frame .now) (length (a .message .now)), e .1)
 
-pub read-sent-spec : {M : Type 1} → statement M
-read-sent-spec = tie.close (tie.spec cast-read add-read read-requires same-length returns)
+pub read-whole-spec : {M : Type 1} → statement M
+read-whole-spec = tie.close (tie.spec cast-read add-read read-requires same-length returns)

@@ -1,11 +1,11 @@
--- `filled_block` meets its contract: the coordinates passed so far are raised. Assumes nothing.
+-- `shifted_block` meets its contract: the coordinates passed so far are shifted. Assumes nothing.
 use Prim.Native.Nat.{ℕ, _+_, _-_, _*_, _^_, _<_}
 use mathlib.Core.Path.{_≡_, refl, sym, ap, ap₂, _∙_}
 use mathlib.Core.List.{List}
 use native.Mathlib.Nat.{mul-comm}
 use native.Mathlib.Omega.{arith}
 use lib.ListN.{length, getD}
-use lib.IntN.{ℤ, pos, _+ℤ_}
+use lib.IntN.{ℤ, pos}
 use borrow.Author.Needs.{needs}
 use Rattle.integers.proofs.Zed.{tz}
 use Rattle.bits.proofs.Digits.{digit, moved-up}
@@ -13,18 +13,18 @@ use Rattle.e8.proofs.Within.{within-at}
 use Rattle.coordinates.proofs.Reading.{plain, plain-size}
 use Rattle.coordinates.proofs.Filled.{Filled, filled-none, filled-next, filled-all}
 use Rattle.frames.specs.Message.{widths, numbers}
-use Rattle.filling_search.specs.Filling.{fillingNumbers, filledBlock}
-use Rattle.filling_search.proofs.Tried.{filling-small, filled-size, filled-at}
-use Rattle.filling_search.proofs.filled_block.Statement.{statement}
-use Rattle.filling_search.proofs.filled_block.Tie as tie
+use Rattle.filling_search.specs.Filling.{fillingNumbers, shift, shiftedBlock}
+use Rattle.filling_search.proofs.Tried.{filling-small, shifted-size, shifted-at}
+use Rattle.filling_search.proofs.shifted_block.Statement.{statement}
+use Rattle.filling_search.proofs.shifted_block.Tie as tie
 
 abbrev Inv-loop : tie.InvT-loop
-Inv-loop a grade free phi x s r₀ i₀ r i = Filled (filledBlock a grade free phi x) r i
+Inv-loop off a grade free phi x s r₀ i₀ r i = Filled (shiftedBlock off a grade free phi x) r i
 
 abbrev μ-loop : tie.MeasureT-loop
-μ-loop a grade free phi x s r₀ i₀ r i = 8 - i
+μ-loop off a grade free phi x s r₀ i₀ r i = 8 - i
 
-eight : (s : tie.Start Inv-loop μ-loop) → length (s .args .t5) ≡ 8
+eight : (s : tie.Start Inv-loop μ-loop) → length (s .args .t6) ≡ 8
 eight s = search needs
 
 mul-unpacked-by : tie.Need-mul-unpacked-by Inv-loop μ-loop
@@ -52,7 +52,7 @@ numbers-are c =
 loop-holds : tie.Need-loop-holds Inv-loop μ-loop
 loop-holds c =
     let g = c .before .args in
-    filled-none _ _ (eight (c .before) ∙ sym (filled-size (g .a) (g .grade) (g .free) (g .phi) (g .t5) (eight (c .before))))
+    filled-none _ _ (eight (c .before) ∙ sym (shifted-size (g .a) (g .grade) (g .free) (g .phi) (g .t6) (eight (c .before)) (g .off)))
 
 mul-z : tie.Need-mul-z Inv-loop μ-loop
 mul-z c = search needs
@@ -66,8 +66,8 @@ mul-n c = search needs
 array-read-n : tie.Need-array-read-n Inv-loop μ-loop
 array-read-n c = search needs
 
-raised-requires : tie.Need-raised-requires Inv-loop μ-loop
-raised-requires c κs =
+shifted-requires : tie.Need-shifted-requires Inv-loop μ-loop
+shifted-requires c κs =
     let l = c .before .before in
     let s = l .before .before in
     let g = s .args in
@@ -75,7 +75,7 @@ raised-requires c κs =
     let h : i < 8 = omega arith in (
       s .pre .0,
       omega (arith, ap (λ (ns : List ℕ). getD ns i 0) (numbers-are (l .before)), filling-small (g .grade) (g .free) (g .phi) i (s .pre .2) h),
-      plain-size (getD (g .t5) i (pos 0)) (2 ^ 9) (within-at (2 ^ 9) (g .t5) i (s .pre .5)) (omega arith),
+      plain-size (getD (g .t6) i (pos 0)) (2 ^ 9) (within-at (2 ^ 9) (g .t6) i (s .pre .5)) (omega arith),
     )
 
 mul-r : tie.Need-mul-r Inv-loop μ-loop
@@ -97,20 +97,20 @@ loop-again c =
     let g = s .args in
     let i = l .loop .i in
     let h : i < 8 = omega arith in
-    filled-next (pos 0) _ (l .loop .r) i _ (l .loop .inv) (omega (arith, filled-size (g .a) (g .grade) (g .free) (g .phi) (g .t5) (eight s)))
-    (tz refl (record { sfits = c .raised .ok }) ∙ c .raised .ensures
-    ∙ ap₂ (λ (z : ℤ) (ns : List ℕ). z +ℤ pos (2 ^ g .a * getD ns i 0))
-    (plain (getD (g .t5) i (pos 0)) (omega (arith, within-at (2 ^ 9) (g .t5) i (s .pre .5)))) (numbers-are (l .before))
-    ∙ sym (filled-at (g .a) (g .grade) (g .free) (g .phi) (g .t5) (eight s) i h))
+    filled-next (pos 0) _ (l .loop .r) i _ (l .loop .inv) (omega (arith, shifted-size (g .a) (g .grade) (g .free) (g .phi) (g .t6) (eight s) (g .off)))
+    (tz refl (record { sfits = c .shifted .ok }) ∙ c .shifted .ensures
+    ∙ ap₂ (λ (z : ℤ) (ns : List ℕ). shift (g .off) (g .a) (getD ns i 0) z)
+    (plain (getD (g .t6) i (pos 0)) (omega (arith, within-at (2 ^ 9) (g .t6) i (s .pre .5)))) (numbers-are (l .before))
+    ∙ sym (shifted-at (g .a) (g .grade) (g .free) (g .phi) (g .t6) (eight s) (g .off) i h))
 
 returns : tie.Need-returns Inv-loop μ-loop
 returns c =
     let s = c .before .before .before in
     let g = s .args in
-    filled-all _ _ (c .before .loop .i) (c .before .loop .inv) (omega (arith, filled-size (g .a) (g .grade) (g .free) (g .phi) (g .t5) (eight s)))
+    filled-all _ _ (c .before .loop .i) (c .before .loop .inv) (omega (arith, shifted-size (g .a) (g .grade) (g .free) (g .phi) (g .t6) (eight s) (g .off)))
 
-pub filled-block-spec : {M : Type 1} → statement M
-filled-block-spec =
+pub shifted-block-spec : {M : Type 1} → statement M
+shifted-block-spec =
     tie.close
     (tie.spec
     Inv-loop
@@ -124,7 +124,7 @@ filled-block-spec =
     array-copy-out-z
     mul-n
     array-read-n
-    raised-requires
+    shifted-requires
     mul-r
     array-set-from-r
     add-i
