@@ -7,7 +7,7 @@ use mathlib.Core.List.{List}
 use lib.Dec.{leb, ltb}
 use lib.ListN.{length}
 use lib.IntN.{ℤ}
-use Rattle.bits.specs.Number.{number}
+use Rattle.bits.specs.Number.{number as numberOf}
 use Rattle.bits.specs.Message.{messageBit, bytesOf, withBits}
 use Rattle.e8.specs.Energy.{energy}
 use Rattle.frames.specs.Kind.{messageBits}
@@ -31,7 +31,7 @@ filled k b f φ bytes = bytesOf (length bytes) (withBits (freeFrom k b f) f (λ 
 -- "the free bits read as a number, lowest bit first": the filling that a message is
 unfoldable pub filling : ℕ → ℕ → ℕ → List ℕ → ℕ
 unfolding freeFrom messageBit
-filling k b f bytes = number f (λ t. messageBit bytes (freeFrom k b f + t))
+filling k b f bytes = numberOf f (λ t. messageBit bytes (freeFrom k b f + t))
 
 -- "who must be given them as 0": a message whose free bits are 0
 pub record FreeMessage (k b f : ℕ) (bytes : List ℕ) : Type 0 where
