@@ -98,7 +98,7 @@
  *   - a frame is read strictly under its own number, and an account goes on with its own changeover: nothing in a frame tells its
  *     number, and coder_send_counted and coder_send_queue take any changeover, as they take any count;
  *   - a frame is read with the free count that it was sent with: nothing in a frame tells that either. With a smaller one bits of
- *     the filling are read too, strictly as well, and with a larger one fixed bits are lost, or strictly the frame may be 9;
+ *     the filling are read too, and with a larger one fixed bits are lost, or strictly the frame may be 9;
  *   - what is lent to be written overlaps nothing else that is lent to the call, and nobody else writes to what is lent during the
  *     call. What is only read may overlap: two recordings can share samples, or be the same.
  * What is lent to be written (a sender's frames, `sent`, an account to be opened, a reading's message, `distance`) need not be set

@@ -136,7 +136,7 @@ mod tests {
         all.map(|(kind, grade)| (kind, grade, Format::new(kind, grade).unwrap()))
     }
 
-    /// 12 00 at kind 3, grade 1 with two bits free, the upper two of s8: 0 1 0 3 0 1 0 1 and 2 times the filling at the last place. Of the
+    /// 12 00 at kind 3, grade 1 with two bits free, the upper two of s8: 0 3 0 1 0 1 0 1 and 2 times the filling at the last place. Of the
     /// two least fillings the first is sent.
     #[test]
     fn by_hand() {
