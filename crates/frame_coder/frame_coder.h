@@ -121,14 +121,14 @@
  *     Measured on the archive of this version, A=target/staticlib/libframe_coder.a:
  *
  *       nm -u $A        no undefined symbols: it prints the name of the member and nothing more
- *       size $A         text 24014 (code and constants), data 0, bss 0
- *       size -A $A      a section for each function, so that -Wl,--gc-sections leaves out what is not called: of 23154 bytes of
- *                       code coder_send alone needs 10927, the open and the strict reading 12801, coder_read_near alone 13194,
+ *       size $A         text 23983 (code and constants), data 0, bss 0
+ *       size -A $A      a section for each function, so that -Wl,--gc-sections leaves out what is not called: of 23123 bytes of
+ *                       code coder_send alone needs 10927, the open and the strict reading 12770, coder_read_near alone 13194,
  *                       coder_closer alone 13450
  *       cc -I crates/frame_coder tools/c/stack.c $A -o target/stack && target/stack
  *                       the most stack that a call used, in bytes, with its return address and the arguments on the stack:
  *                       coder_open 8, coder_send 1696, coder_send_counted 1760, coder_send_queue 1008, coder_read_open 624,
- *                       coder_read_strict 1648, coder_read_near 1608, coder_closer 1736
+ *                       coder_read_strict 1632, coder_read_near 1608, coder_closer 1736
  *       objdump -dr $A | grep -E '>:$|push|sub .*,%rsp|-0x[0-9a-f]*\(%rsp\)|PLT32'
  *                       where it goes: the frames on the way down add up to the same (of coder_read_near and coder_closer to 8
  *                       more, which nothing is stored to), nothing recurs, and 128 of the bytes of sending and of the strict

@@ -39,7 +39,10 @@ pub fn read_quiet(
     let r = read_whole(kind, grade, number, frame, own);
     let refusal = r.number;
     if refusal != 0 {
-        return r;
+        return Reading {
+            number: refusal,
+            energy: 0,
+        };
     }
     if !is_taken(kind, grade, free, own, frame) {
         return Reading {

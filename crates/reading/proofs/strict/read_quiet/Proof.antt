@@ -100,10 +100,12 @@ same-length c = search needs
 
 returns : tie.Need-returns
 returns c =
-    let r = c .before .before .before in
-    let e = r .read-whole .ensures in (
+    let r = c .before .before .before in (
       number-is r ∙ whole-refused (k r) (b r) (f r) (number r) (frame r) (n r) (few r) (λ z. c .if1 .taken (number-is r ∙ z)),
-      (bytes-kept (r .read-whole .result .number) (k r) (b r) (f r) (frame r) (s r .args .message .now) (c .if1 .taken), (e .1 .1, own-is r)),
+      (
+        bytes-kept (r .read-whole .result .number) (k r) (b r) (f r) (frame r) (s r .args .message .now) (c .if1 .taken),
+        (no-energy (r .read-whole .result .number) (frame r) (c .if1 .taken), own-is r),
+      ),
     )
 
 is-taken-requires : tie.Need-is-taken-requires
