@@ -1,5 +1,7 @@
 // The bits of a message's bytes, taken and put byte by byte through numbers that hold them: bit k of the number is message bit from + k,
 // and no bit is set past the last one.
+#![tactic(auto)]
+
 pub mod word;
 
 ghost use Rattle.std.specs.Prelude.{◌≡◌, ◌+◌, ◌*◌, ◌/◌, ◌%◌, ◌^◌, ◌<◌, ◌≤◌, length};

@@ -1,4 +1,6 @@
 // A block of eight coordinates, or a whole frame of them, as a part of what is lent: its energy, the larger of two, its range, loading, storing, remainders.
+#![tactic(auto)]
+
 ghost use Rattle.std.specs.Prelude.{◌≡◌, cond, max, ◌^◌, ◌≤◌, leb, pos, nat_abs, ◌-ℤ◌, length};
 ghost use Rattle.integers.specs.Integer.{mod_z};
 ghost use Rattle.e8.specs.Energy.{sq, energy, Within, is_within};

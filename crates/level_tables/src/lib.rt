@@ -1,5 +1,7 @@
 // The order of the masks of RM(r,m) and the dimensions, as tables; the mask test at one position; and the bits at eight entries of a table.
 // `Tabled m`: length 2 ^ m has its tables.
+#![tactic(auto)]
+
 ghost use Rattle.std.specs.Prelude.{◌≡◌, ◌+◌, ◌*◌, ◌/◌, ◌%◌, ◌^◌, ◌<◌, ◌≤◌, length, get_or};
 ghost use Rattle.bits.specs.Number.{number};
 ghost use Rattle.bits.specs.Message.{message_bit};

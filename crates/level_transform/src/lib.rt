@@ -1,5 +1,7 @@
 // Words of at most 64 positions, each held in a number: the word taken backwards, all masks at once, and the test of the masks with more than r bits set.
 // Bit p is the value at p, bit S the bit of mask S; no bit is set past the last one.
+#![tactic(auto)]
+
 ghost use Rattle.std.specs.Prelude.{◌≡◌, ◌/◌, ◌%◌, ◌^◌, ◌<◌, ◌≤◌, ltb};
 ghost use Rattle.bits.specs.Number.{given, number};
 ghost use Rattle.reed_muller.specs.Level.{weight, backwards, clear_above, Tabled};

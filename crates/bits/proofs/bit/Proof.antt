@@ -5,18 +5,18 @@ use Rattle.bits.specs.Message.{message_bit}
 use Rattle.bits.proofs.bit.Statement.{statement}
 use Rattle.bits.proofs.bit.Tie as tie
 
-shared-slice-read-result : tie.Need-shared-slice-read-result
+shared-slice-read-result : tie.Need-bounds-message-k
 shared-slice-read-result c = search rules
 
-cast-result : tie.Need-overflow-cast-result
+cast-result : tie.Need-overflow_cast-result
 cast-result c = search rules
 
-shr-result : tie.Need-overflow-shr-result
+shr-result : tie.Need-overflow_shr-result
 shr-result c = search rules
 
 returns : tie.Need-returns
 unfolding message_bit
 returns c = refl
 
-pub bit-spec : {M : Type 1} → statement M
-bit-spec = tie.close (tie.spec shared-slice-read-result cast-result shr-result returns)
+pub bit_spec : {M : Type 1} → statement M
+bit_spec = tie.close (tie.spec shared-slice-read-result cast-result shr-result returns)

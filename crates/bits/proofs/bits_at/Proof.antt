@@ -10,22 +10,22 @@ use Rattle.bits.proofs.Digits.{digit-from, one_shifted}
 use Rattle.bits.proofs.bits_at.Statement.{statement}
 use Rattle.bits.proofs.bits_at.Tie as tie
 
-add-held-by : tie.Need-overflow-add-held-by
+add-held-by : tie.Need-overflow_add-s
 add-held-by c = search rules
 
-add-held-by-2 : tie.Need-overflow-add-held-by-2
+add-held-by-2 : tie.Need-overflow_add-s-2
 add-held-by-2 c = search rules
 
-held-by-requires : tie.Need-held-by-requires
+held-by-requires : tie.Need-held_by-requires
 held-by-requires c κs = search rules
 
-shr-result : tie.Need-overflow-shr-result
+shr-result : tie.Need-overflow_shr-result
 shr-result c = search rules
 
-shl-result : tie.Need-overflow-shl-result
+shl-result : tie.Need-overflow_shl-result
 shl-result c = search rules
 
-rem-result : tie.Need-nonzero-rem-result
+rem-result : tie.Need-nonzero_rem-result
 rem-result c = let count : ℕ = c.before.before.args.count in omega (arith, one_shifted count 64 (omega arith), pow_pos count)
 
 returns : tie.Need-returns
@@ -40,7 +40,7 @@ returns c =
     let e : first + (s + t) ≡ args.from + t = omega arith in
     digit-from w s t ∙ digit-of c.held_by.ensures (λ i l. message-small message (first + i)) (s + t) (omega arith) ∙ ap (message_bit message) e)
 
-pub bits-at-spec : {M : Type 1} → statement M
-bits-at-spec =
+pub bits_at_spec : {M : Type 1} → statement M
+bits_at_spec =
     tie.close
     (tie.spec add-held-by add-held-by-2 held-by-requires shr-result shl-result rem-result returns)

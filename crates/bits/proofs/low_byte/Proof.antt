@@ -3,11 +3,11 @@ use borrow.Author.Rules.{rules}
 use Rattle.bits.proofs.low_byte.Statement.{statement}
 use Rattle.bits.proofs.low_byte.Tie as tie
 
-cast-result : tie.Need-overflow-cast-result
+cast-result : tie.Need-overflow_cast-result
 cast-result c = search rules
 
 returns : tie.Need-returns
 returns c = search rules
 
-pub low-byte-spec : {M : Type 1} → statement M
-low-byte-spec = tie.close (tie.spec cast-result returns)
+pub low_byte_spec : {M : Type 1} → statement M
+low_byte_spec = tie.close (tie.spec cast-result returns)

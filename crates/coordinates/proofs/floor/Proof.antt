@@ -11,16 +11,16 @@ use Rattle.coordinates.proofs.Rest.{shifted-quotient}
 use Rattle.coordinates.proofs.floor.Statement.{statement}
 use Rattle.coordinates.proofs.floor.Tie as tie
 
-cast-result : tie.Need-overflow-cast-result
+cast-result : tie.Need-overflow_cast-result
 cast-result c = search rules
 
-shr-result : tie.Need-overflow-shr-result
+shr-result : tie.Need-overflow_shr-result
 shr-result c = search rules
 
-cast-result-2 : tie.Need-overflow-cast-result-2
+cast-result-2 : tie.Need-overflow_cast-result-2
 cast-result-2 c = search rules
 
-shl-result : tie.Need-overflow-shl-result
+shl-result : tie.Need-overflow_shl-result
 shl-result c = search rules
 
 returns : tie.Need-returns
@@ -28,5 +28,5 @@ returns c =
     let k = c.args.k in
     ap (λ (y : ℤ). to_z w32 (of_z w32 (shr_z y (2 ^ k)) * 2 ^ k % 4294967296)) (tz refl c.ranges.z) ∙ shifted-quotient k c.args.z c.requires.0 c.requires.1
 
-pub floor-spec : {M : Type 1} → statement M
-floor-spec = tie.close (tie.spec cast-result shr-result cast-result-2 shl-result returns)
+pub floor_spec : {M : Type 1} → statement M
+floor_spec = tie.close (tie.spec cast-result shr-result cast-result-2 shl-result returns)

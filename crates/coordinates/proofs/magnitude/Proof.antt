@@ -36,17 +36,17 @@ module _ (s : tie.Start) where
   turned : lt_z (read s.args.z) (pos 0) ≡ true → pos 0 -ℤ read s.args.z ≡ pos (nat_abs s.args.z)
   turned l = ap (λ (z : ℤ). pos 0 -ℤ z) number ∙ below s.args.z (rw number at l)
 
-sub-result : tie.Need-overflow-sub-result
+sub-result : tie.Need-overflow_sub-result
 sub-result c =
     let off : (x : ℤ) → leb (nat_abs x) 1 ≡ true → SFits w32 (x -ℤ read c.before.args.z) =
     λ x t. less-fits x (read c.before.args.z) t (plain_size c.before.args.z (2 ^ 30) c.before.requires (omega arith)) in
     sfits-to refl (search off)
 
-returns : tie.Need-returns
-returns c = tz (turned c.before c.if1.true) (fits (pos (nat_abs c.before.args.z)) (omega (arith, c.before.requires)))
+returns : tie.Need-returns-then-z-lt0
+returns c = tz (turned c.before c.if-z-lt0.true) (fits (pos (nat_abs c.before.args.z)) (omega (arith, c.before.requires)))
 
-returns-2 : tie.Need-returns-2
-returns-2 c = number c.before ∙ above c.before.args.z (sym (ap (λ (z : ℤ). lt_z z (pos 0)) (number c.before)) ∙ c.if1.false)
+returns-2 : tie.Need-returns-else-z-lt0
+returns-2 c = number c.before ∙ above c.before.args.z (sym (ap (λ (z : ℤ). lt_z z (pos 0)) (number c.before)) ∙ c.if-z-lt0.false)
 
-pub magnitude-spec : {M : Type 1} → statement M
-magnitude-spec = tie.close (tie.spec sub-result returns returns-2)
+pub magnitude_spec : {M : Type 1} → statement M
+magnitude_spec = tie.close (tie.spec sub-result returns returns-2)

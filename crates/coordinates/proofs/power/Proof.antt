@@ -11,10 +11,10 @@ use borrow.Author.Rules.{rules}
 use Rattle.coordinates.proofs.power.Statement.{statement}
 use Rattle.coordinates.proofs.power.Tie as tie
 
-cast-result : tie.Need-overflow-cast-result
+cast-result : tie.Need-overflow_cast-result
 cast-result c = search rules
 
-shl-result : tie.Need-overflow-shl-result
+shl-result : tie.Need-overflow_shl-result
 shl-result c = search rules
 
 returns : tie.Need-returns
@@ -24,5 +24,5 @@ returns c =
     let e : 1 * 2 ^ k % 4294967296 ≡ 2 ^ k = mod-eq_of_lt (omega arith) ∙ omega arith in
     ap (to_z w32) e ∙ to_z_pos w32 (omega arith)
 
-pub power-spec : {M : Type 1} → statement M
-power-spec = tie.close (tie.spec cast-result shl-result returns)
+pub power_spec : {M : Type 1} → statement M
+power_spec = tie.close (tie.spec cast-result shl-result returns)

@@ -15,7 +15,7 @@ use Rattle.coordinates.proofs.remainder.Tie as tie
 floor-requires : tie.Need-floor-requires
 floor-requires c κs = search rules
 
-sub-result : tie.Need-overflow-sub-result
+sub-result : tie.Need-overflow_sub-result
 sub-result c =
     let s = c.before in
     let size : nat_abs (read s.args.z) ≤ 2 ^ 30 = plain_size s.args.z (2 ^ 30) s.requires.1 (omega arith) in
@@ -31,5 +31,5 @@ returns c =
     let below = tz (c.floor.ensures ∙ ap (λ (a : ℤ). a -ℤ pos (mod_z a (2 ^ k))) e) (floor-fits k s.args.z s.requires.0 s.requires.1) in
     tz (ap₂ ◌-ℤ◌ e below ∙ remainder_is k s.args.z s.requires.0 s.requires.1) (fits-remainder k s.args.z s.requires.0 s.requires.1)
 
-pub remainder-spec : {M : Type 1} → statement M
-remainder-spec = tie.close (tie.spec floor-requires sub-result returns)
+pub remainder_spec : {M : Type 1} → statement M
+remainder_spec = tie.close (tie.spec floor-requires sub-result returns)

@@ -34,20 +34,20 @@ module _ (c : tie.Start) where
   square-fits : SFits w32 (pos (sq c.args.z))
   square-fits = fits (pos (sq c.args.z)) (omega (arith, small))
 
-cast-y : tie.Need-overflow-cast-y
+cast-y : tie.Need-overflow_cast-y
 cast-y c = sfits-to (tz refl c.ranges.z) (narrow-fits c)
 
-cast-y-2 : tie.Need-overflow-cast-y-2
+cast-y-2 : tie.Need-overflow_cast-y-2
 cast-y-2 c = sfits-to (narrow c) c.ranges.z
 
-mul-result : tie.Need-overflow-mul-result
+mul-result : tie.Need-overflow_mul-result
 mul-result c = sfits-to (product c) (square-fits c)
 
-cast-result : tie.Need-overflow-cast-result
+cast-result : tie.Need-overflow_cast-result
 cast-result c = subst (λ (y : ℤ). T (non_neg y) × Fits w32 (nat_abs y)) (sym (tz (product c) (square-fits c))) (tt, record { fits = omega (arith, small c) })
 
 returns : tie.Need-returns
 returns c = ap nat_abs (tz (product c) (square-fits c))
 
-pub square-spec : {M : Type 1} → statement M
-square-spec = tie.close (tie.spec cast-y cast-y-2 mul-result cast-result returns)
+pub square_spec : {M : Type 1} → statement M
+square_spec = tie.close (tie.spec cast-y cast-y-2 mul-result cast-result returns)

@@ -10,56 +10,56 @@ use Rattle.coordinates.proofs.Filled.{Filled, filled_none, filled_next, filled-a
 use Rattle.coordinates.proofs.store.Statement.{statement}
 use Rattle.coordinates.proofs.store.Tie as tie
 
-abbrev invariant-loop : tie.invariant-loop
-invariant-loop part₀ x p₀ part p = (length x ≡ 8) × Filled x part p
+abbrev invariant-loop-p : tie.invariant-loop-p
+invariant-loop-p part₀ x p₀ part p = (length x ≡ 8) × Filled x part p
 
-abbrev decreases-loop : tie.decreases-loop
-decreases-loop part₀ x p₀ part p = 8 - p
+abbrev decreases-loop-p : tie.decreases-loop-p
+decreases-loop-p part₀ x p₀ part p = 8 - p
 
-eight : (c : tie.Start invariant-loop decreases-loop) → length c.args.t1 ≡ 8
+eight : (c : tie.Start invariant-loop-p decreases-loop-p) → length c.args.t1 ≡ 8
 eight c = search rules
 
-loop-holds : tie.Need-loop-init invariant-loop decreases-loop
+loop-holds : tie.Need-loop-p-init invariant-loop-p decreases-loop-p
 loop-holds c = (eight c, filled_none c.args.t1 c.args.part.now (omega (arith, eight c, c.requires)))
 
-mul-z : tie.Need-overflow-mul-z invariant-loop decreases-loop
+mul-z : tie.Need-offset_bounds-x-p invariant-loop-p decreases-loop-p
 mul-z c = search rules
 
-array-copy-out-z : tie.Need-array-copy-out-z invariant-loop decreases-loop
+array-copy-out-z : tie.Need-bounds-x-p invariant-loop-p decreases-loop-p
 array-copy-out-z c = search rules
 
-mul-z-2 : tie.Need-overflow-mul-z-2 invariant-loop decreases-loop
+mul-z-2 : tie.Need-offset_bounds-part-p invariant-loop-p decreases-loop-p
 mul-z-2 c = search rules
 
-slice-set-from-z : tie.Need-slice-set-from-z invariant-loop decreases-loop
+slice-set-from-z : tie.Need-bounds-part-p invariant-loop-p decreases-loop-p
 slice-set-from-z c = search rules
 
-add-p : tie.Need-overflow-add-p invariant-loop decreases-loop
+add-p : tie.Need-overflow_add-p invariant-loop-p decreases-loop-p
 add-p c = search rules
 
-loop-less : tie.Need-loop-smaller invariant-loop decreases-loop
+loop-less : tie.Need-loop-p-smaller invariant-loop-p decreases-loop-p
 loop-less c = search rules
 
-loop-again : tie.Need-loop-preserved invariant-loop decreases-loop
+loop-again : tie.Need-loop-p-preserved invariant-loop-p decreases-loop-p
 loop-again c =
     let s = c.before.before.before in
-    let l = c.before.before.loop in
-    (eight s, filled_next (pos 0) s.args.t1 l.part l.p _ l.invariant.1 (omega (arith, eight s)) (tz refl (record { sfits = c.z.given })))
+    let l = c.before.before.loop-p in
+    (eight s, filled_next (pos 0) s.args.t1 l.part l.p _ l.invariant.1 (omega (arith, eight s)) (tz refl (record { sfits = c.z-1.given })))
 
-same_length : tie.Need-same-length invariant-loop decreases-loop
+same_length : tie.Need-shape_of-part invariant-loop-p decreases-loop-p
 same_length c = search rules
 
-returns : tie.Need-returns invariant-loop decreases-loop
+returns : tie.Need-returns invariant-loop-p decreases-loop-p
 returns c =
     let l = c.before in
-    filled-all l.before.args.t1 l.loop.part l.loop.p l.loop.invariant.1 (omega (arith, eight l.before))
+    filled-all l.before.args.t1 l.loop-p.part l.loop-p.p l.loop-p.invariant.1 (omega (arith, eight l.before))
 
 pub store_spec : {M : Type 1} → statement M
 store_spec =
     tie.close
     (tie.spec
-    invariant-loop
-    decreases-loop
+    invariant-loop-p
+    decreases-loop-p
     loop-holds
     mul-z
     array-copy-out-z

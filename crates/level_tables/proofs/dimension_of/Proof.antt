@@ -10,46 +10,46 @@ use Rattle.level_tables.proofs.dimension_of.Lts as lts
 -- the tests leave the last length
 is_last : (c : lts.Else3 reads.Pre reads.Post) → c.before.before.before.args.m ≡ 6
 is_last c =
-    let start = c.before.before.before in last start.requires.0 c.before.before.if1.false c.before.if2.false c.if3.false
+    let start = c.before.before.before in last start.requires.0 c.before.before.if-m-eq3.false c.before.if-m-eq4.false c.if-m-eq5.false
 
-array-read-result : tie.Need-array-read-result
-array-read-result c = omega (arith, c.if1.true)
+array-read-result : tie.Need-bounds-r
+array-read-result c = omega (arith, c.if-m-eq3.true)
 
-mul-result : tie.Need-overflow-mul-result
+mul-result : tie.Need-offset_bounds-r
 mul-result c = omega arith
 
-returns : tie.Need-returns
-returns c = dimension-entry c.if1.true right-8 c.before.args.r (array-read-result c)
+returns : tie.Need-returns-then-m-eq3
+returns c = dimension-entry c.if-m-eq3.true right-8 c.before.args.r (array-read-result c)
 
-array-read-result-2 : tie.Need-array-read-result-2
-array-read-result-2 c = omega (arith, c.if2.true)
+array-read-result-2 : tie.Need-bounds-r-then-m-eq4
+array-read-result-2 c = omega (arith, c.if-m-eq4.true)
 
-mul-result-2 : tie.Need-overflow-mul-result-2
+mul-result-2 : tie.Need-offset_bounds-r-then-m-eq4
 mul-result-2 c = omega arith
 
-returns-2 : tie.Need-returns-2
-returns-2 c = dimension-entry c.if2.true right-16 c.before.before.args.r (array-read-result-2 c)
+returns-2 : tie.Need-returns-then-m-eq4
+returns-2 c = dimension-entry c.if-m-eq4.true right-16 c.before.before.args.r (array-read-result-2 c)
 
-array-read-result-3 : tie.Need-array-read-result-3
-array-read-result-3 c = omega (arith, c.if3.true)
+array-read-result-3 : tie.Need-bounds-r-then-m-eq5
+array-read-result-3 c = omega (arith, c.if-m-eq5.true)
 
-mul-result-3 : tie.Need-overflow-mul-result-3
+mul-result-3 : tie.Need-offset_bounds-r-then-m-eq5
 mul-result-3 c = omega arith
 
-returns-3 : tie.Need-returns-3
-returns-3 c = dimension-entry c.if3.true right-32 c.before.before.before.args.r (array-read-result-3 c)
+returns-3 : tie.Need-returns-then-m-eq5
+returns-3 c = dimension-entry c.if-m-eq5.true right-32 c.before.before.before.args.r (array-read-result-3 c)
 
-array-read-result-4 : tie.Need-array-read-result-4
+array-read-result-4 : tie.Need-bounds-r-2
 array-read-result-4 c = omega (arith, is_last c)
 
-mul-result-4 : tie.Need-overflow-mul-result-4
+mul-result-4 : tie.Need-offset_bounds-r-2
 mul-result-4 c = omega arith
 
-returns-4 : tie.Need-returns-4
+returns-4 : tie.Need-returns
 returns-4 c = dimension-entry (is_last c) right-64 c.before.before.before.args.r (array-read-result-4 c)
 
-pub dimension-of-spec : {M : Type 1} → statement M
-dimension-of-spec =
+pub dimension_of_spec : {M : Type 1} → statement M
+dimension_of_spec =
     tie.close
     (tie.spec
     mul-result

@@ -23,79 +23,79 @@ in_p m p k = lies_in (get_or (order m) k 0) p
 abbrev bit-from : List ℕ → ℕ → ℕ → ℕ
 bit-from message from k = message_bit message (from + k)
 
-abbrev invariant-loop : tie.invariant-loop
-invariant-loop message from m r p count s₀ k₀ s k =
+abbrev invariant-loop-k : tie.invariant-loop-k
+invariant-loop-k message from m r p count s₀ k₀ s k =
     (k ≤ count) × (s ≡ tested (in_p m p) (bit-from message from) k)
 
-abbrev decreases-loop : tie.decreases-loop
-decreases-loop message from m r p count s₀ k₀ s k = count - k
+abbrev decreases-loop-k : tie.decreases-loop-k
+decreases-loop-k message from m r p count s₀ k₀ s k = count - k
 
-dimension-of-requires : tie.Need-dimension-of-requires invariant-loop decreases-loop
+dimension-of-requires : tie.Need-dimension_of-count-requires invariant-loop-k decreases-loop-k
 dimension-of-requires c κs = omega arith
 
-loop-holds : tie.Need-loop-init invariant-loop decreases-loop
+loop-holds : tie.Need-loop-k-init invariant-loop-k decreases-loop-k
 loop-holds c =
     let args = c.before.before.args in
     (omega arith, sym (tested-none (in_p args.m args.p) (bit-from args.message.now args.from)))
 
-mask-at-requires : tie.Need-mask-at-requires invariant-loop decreases-loop
+mask-at-requires : tie.Need-mask_at-mask-requires invariant-loop-k decreases-loop-k
 mask-at-requires c κs =
     let start = c.before.before.before.before in
     omega (arith, dimension-small start.args.r start.args.m start.requires.1)
 
-add-bit : tie.Need-overflow-add-bit invariant-loop decreases-loop
+add-bit : tie.Need-overflow_add-from invariant-loop-k decreases-loop-k
 add-bit c =
     let start = c.before.before.before.before.before.before in
     omega (arith, short start.requires.0, dimension-small start.args.r start.args.m start.requires.1)
 
-bit-requires : tie.Need-bit-requires invariant-loop decreases-loop
+bit-requires : tie.Need-bit-requires invariant-loop-k decreases-loop-k
 bit-requires c κs = omega arith
 
-add-s : tie.Need-overflow-add-s invariant-loop decreases-loop
+add-s : tie.Need-overflow_add-s invariant-loop-k decreases-loop-k
 add-s c =
     let at = c.before.before.before.before in
     let args = at.before.before.before.args in
     omega (
       arith,
       c.bit.ensures,
-      message-small args.message.now (args.from + at.loop.k),
-      at.loop.invariant.1,
-      tested-small (in_p args.m args.p) (bit-from args.message.now args.from) at.loop.k,
+      message-small args.message.now (args.from + at.loop-k.k),
+      at.loop-k.invariant.1,
+      tested-small (in_p args.m args.p) (bit-from args.message.now args.from) at.loop-k.k,
     )
 
-add-k : tie.Need-overflow-add-k invariant-loop decreases-loop
+add-k : tie.Need-overflow_add-k invariant-loop-k decreases-loop-k
 add-k c = omega arith
 
-loop-less : tie.Need-loop-smaller invariant-loop decreases-loop
+loop-less : tie.Need-loop-k-smaller invariant-loop-k decreases-loop-k
 loop-less c = omega arith
 
-loop-again : tie.Need-loop-preserved invariant-loop decreases-loop
+loop-again : tie.Need-loop-k-preserved invariant-loop-k decreases-loop-k
 loop-again c =
     let at = c.before.before.before in
     let args = at.before.before.before.args in
     let t : ℕ → Bool = in_p args.m args.p in
     let f : ℕ → ℕ = bit-from args.message.now args.from in
-    let test = ap (λ (S : ℕ). lies_in S args.p) (sym c.before.mask_at.ensures) in (
+    let test = ap (λ (S : ℕ). lies_in S args.p) (sym c.before.mask_at-mask.ensures) in (
       omega arith,
-      ⊎_elim (λ w. omega (arith, w.2, w.1.ensures, at.loop.invariant.1, tested-in t f at.loop.k (test ∙ eq-eqb _ _ w.0.taken)))
-          (λ w. omega (arith, w.1, at.loop.invariant.1, tested-out t f at.loop.k (test ∙ ne_eqb _ _ w.0.left)))
-          c.if1.branch,
+      ⊎_elim (λ w. omega (arith, w.2, w.1.ensures, at.loop-k.invariant.1, tested-in t f at.loop-k.k (test ∙ eq-eqb _ _ w.0.taken)))
+          (λ w. omega (arith, w.1, at.loop-k.invariant.1, tested-out t f at.loop-k.k (test ∙ ne_eqb _ _ w.0.left)))
+          c.if-mask-p.branch,
     )
 
-returns : tie.Need-returns invariant-loop decreases-loop
+returns : tie.Need-returns invariant-loop-k decreases-loop-k
 unfolding codeword
 returns c =
     let at = c.before in
     let args = at.before.before.before.args in
-    let e : at.loop.k ≡ dimension args.r args.m = omega (arith, at.before.dimension-of.ensures) in
-    at.loop.invariant.1 ∙ ap (tested (in_p args.m args.p) (bit-from args.message.now args.from)) e
+    let e : at.loop-k.k ≡ dimension args.r args.m = omega (arith, at.before.dimension_of-count.ensures) in
+    at.loop-k.invariant.1 ∙ ap (tested (in_p args.m args.p) (bit-from args.message.now args.from)) e
 
-pub value-at-spec : {M : Type 1} → statement M
-value-at-spec =
+pub value_at_spec : {M : Type 1} → statement M
+value_at_spec =
     tie.close
     (tie.spec
-    invariant-loop
-    decreases-loop
+    invariant-loop-k
+    decreases-loop-k
     dimension-of-requires
     loop-holds
     mask-at-requires
