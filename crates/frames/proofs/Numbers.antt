@@ -133,6 +133,7 @@ module _ (c : ℕ) where
   fits_below (suc n) (s ∷ t ∷ ts) f = (subst (λ (m : ℕ). s < m) (pow-succ' 2 c) f.0, fits_below n (t ∷ ts) f.1)
 
   pub fits-ranged : (ss : List ℕ) → Fits (widths (suc c)) ss → Ranged (2 ^ c) ss
+  fits-ranged [] f = elim f [ ]
   fits-ranged (s ∷ ss) f = (subst (λ (m : ℕ). s < m) first_range f.0, fits_below 6 ss f.1)
 
   below-fits : (n : ℕ) (ss : List ℕ) → length ss ≡ suc n → Below (2 ^ c) ss → Fits (last_widths n) ss
@@ -143,4 +144,5 @@ module _ (c : ℕ) where
   below-fits (suc n) (s ∷ t ∷ ts) l r = (subst (λ (m : ℕ). s < m) (sym (pow-succ' 2 c)) r.0, below-fits n (t ∷ ts) (omega arith) r.1)
 
   pub ranged-fits : (ss : List ℕ) → length ss ≡ 8 → Ranged (2 ^ c) ss → Fits (widths (suc c)) ss
+  ranged-fits [] l r = elim r [ ]
   ranged-fits (s ∷ ss) l r = (subst (λ (m : ℕ). s < m) (sym first_range) r.0, below-fits 6 ss (omega arith) r.1)

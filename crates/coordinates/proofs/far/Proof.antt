@@ -29,10 +29,10 @@ module _ (s : tie.Start) where
   lower-fits = fits (pos 0 -ℤ b) (less-abs (pos 0) b 0 (2 ^ 30) (omega arith) s.requires)
 
   below : lt_z (read s.args.z) (read (pos 0 -ℤ read b)) ≡ lt_z s.args.z (pos 0 -ℤ b)
-  below = ap₂ lt_z (tz refl s.fits.z) (tz lower lower-fits)
+  below = ap₂ lt_z (tz refl s.ranges.z) (tz lower lower-fits)
 
   above : lt_z (read b) (read s.args.z) ≡ lt_z b s.args.z
-  above = ap₂ lt_z upper (tz refl s.fits.z)
+  above = ap₂ lt_z upper (tz refl s.ranges.z)
 
 cast-b : tie.Need-overflow_cast-b
 cast-b c = fits (b c) c.requires

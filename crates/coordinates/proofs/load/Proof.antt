@@ -4,6 +4,7 @@ use Prim.Native.Nat.{◌-◌}
 use native.Mathlib.Omega.{arith}
 use lib.IntN.{pos}
 use lib.ListN.{length}
+use mir.Syntax.{w32}
 use borrow.Author.Rules.{rules}
 use Rattle.integers.proofs.Zed.{tz}
 use Rattle.coordinates.proofs.Filled.{Filled, filled_none, filled_next, filled-all}
@@ -41,7 +42,7 @@ loop-again : tie.Need-loop-j-preserved invariant-loop-j decreases-loop-j
 loop-again c =
     let s = c.before.before.before in
     let l = c.before.before.loop-j in
-    (s.requires, filled_next (pos 0) s.args.part.now l.r l.j _ l.invariant.1 (omega (arith, s.requires)) (tz refl (record { sfits = c.z-1.given })))
+    (s.requires, filled_next (pos 0) s.args.part.now l.r l.j _ l.invariant.1 (omega (arith, s.requires)) (tz {w = w32} refl (record { sfits = c.z-1.given })))
 
 returns : tie.Need-returns invariant-loop-j decreases-loop-j
 returns c =

@@ -49,7 +49,7 @@ loop-again c =
     let x = s.args.part.now in
     let bound = s.args.bound in
     let z : ℤ = get_or x l.loop-q.q (pos 0) in
-    let back : to_z w32 (of_z w32 z) ≡ z = tz refl (record { sfits = c.before.z-1.given }) in
+    let back : to_z w32 (of_z w32 z) ≡ z = tz {w = w32} refl (record { sfits = c.before.z-1.given }) in
     ap₂ bit_or l.loop-q.invariant (c.far-out.ensures ∙ ap (λ (y : ℤ). cond (leb (nat_abs y) bound) 0 1) back) ∙ range-more bound x l.loop-q.q (omega arith)
 
 returns : tie.Need-returns invariant-loop-q decreases-loop-q

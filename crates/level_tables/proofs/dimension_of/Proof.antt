@@ -8,9 +8,9 @@ use Rattle.level_tables.proofs.dimension_of.Reads as reads
 use Rattle.level_tables.proofs.dimension_of.Lts as lts
 
 -- the tests leave the last length
-is_last : (c : lts.Else3 reads.Pre reads.Post) → c.before.before.before.args.m ≡ 6
+is_last : (c : lts.Else-m-eq5 reads.Pre reads.Post) → c.args.m ≡ 6
 is_last c =
-    let start = c.before.before.before in last start.requires.0 c.before.before.if-m-eq3.false c.before.if-m-eq4.false c.if-m-eq5.false
+    let start = c.before.before.before in last start.requires.0 c.if-m-eq3.false c.if-m-eq4.false c.if-m-eq5.false
 
 array-read-result : tie.Need-bounds-r
 array-read-result c = omega (arith, c.if-m-eq3.true)
@@ -19,7 +19,7 @@ mul-result : tie.Need-offset_bounds-r
 mul-result c = omega arith
 
 returns : tie.Need-returns-then-m-eq3
-returns c = dimension-entry c.if-m-eq3.true right-8 c.before.args.r (array-read-result c)
+returns c = dimension-entry c.if-m-eq3.true right-8 c.args.r (array-read-result c.before)
 
 array-read-result-2 : tie.Need-bounds-r-then-m-eq4
 array-read-result-2 c = omega (arith, c.if-m-eq4.true)
@@ -28,7 +28,7 @@ mul-result-2 : tie.Need-offset_bounds-r-then-m-eq4
 mul-result-2 c = omega arith
 
 returns-2 : tie.Need-returns-then-m-eq4
-returns-2 c = dimension-entry c.if-m-eq4.true right-16 c.before.before.args.r (array-read-result-2 c)
+returns-2 c = dimension-entry c.if-m-eq4.true right-16 c.args.r (array-read-result-2 c.before)
 
 array-read-result-3 : tie.Need-bounds-r-then-m-eq5
 array-read-result-3 c = omega (arith, c.if-m-eq5.true)
@@ -37,16 +37,16 @@ mul-result-3 : tie.Need-offset_bounds-r-then-m-eq5
 mul-result-3 c = omega arith
 
 returns-3 : tie.Need-returns-then-m-eq5
-returns-3 c = dimension-entry c.if-m-eq5.true right-32 c.before.before.before.args.r (array-read-result-3 c)
+returns-3 c = dimension-entry c.if-m-eq5.true right-32 c.args.r (array-read-result-3 c.before)
 
 array-read-result-4 : tie.Need-bounds-r-2
-array-read-result-4 c = omega (arith, is_last c)
+array-read-result-4 c = omega (arith, is_last c.before)
 
 mul-result-4 : tie.Need-offset_bounds-r-2
 mul-result-4 c = omega arith
 
 returns-4 : tie.Need-returns
-returns-4 c = dimension-entry (is_last c) right-64 c.before.before.before.args.r (array-read-result-4 c)
+returns-4 c = dimension-entry (is_last c.before.before) right-64 c.args.r (array-read-result-4 c.before)
 
 pub dimension_of_spec : {M : Type 1} → statement M
 dimension_of_spec =

@@ -15,6 +15,7 @@ use Rattle.bits.proofs.Message.{message-small}
 use Rattle.reed_muller.proofs.Parity.{tested, tested-none, tested-small, tested-in, tested-out}
 use Rattle.level_tables.proofs.value_at.Statement.{statement}
 use Rattle.level_tables.proofs.value_at.Tie as tie
+use Rattle.level_tables.proofs.value_at.Lts.{then-mask-p, else-mask-p}
 
 -- mask k of the order lies in p; message bit k from `from` on
 abbrev in_p : ℕ → ℕ → ℕ → Bool
@@ -77,9 +78,10 @@ loop-again c =
     let f : ℕ → ℕ = bit-from args.message.now args.from in
     let test = ap (λ (S : ℕ). lies_in S args.p) (sym c.before.mask_at-mask.ensures) in (
       omega arith,
-      ⊎_elim (λ w. omega (arith, w.2, w.1.ensures, at.loop-k.invariant.1, tested-in t f at.loop-k.k (test ∙ eq-eqb _ _ w.0.taken)))
-          (λ w. omega (arith, w.1, at.loop-k.invariant.1, tested-out t f at.loop-k.k (test ∙ ne_eqb _ _ w.0.left)))
-          c.if-mask-p.branch,
+      elim c.if-mask-p.branch [
+        then-mask-p w ↦ omega (arith, w.bit.ensures, at.loop-k.invariant.1, tested-in t f at.loop-k.k (test ∙ eq-eqb _ _ w.if-mask-p.true))
+        | else-mask-p w ↦ omega (arith, at.loop-k.invariant.1, tested-out t f at.loop-k.k (test ∙ ne_eqb _ _ w.if-mask-p.false))
+      ],
     )
 
 returns : tie.Need-returns invariant-loop-k decreases-loop-k
