@@ -17,10 +17,10 @@ heavy-requires c κs = search rules
 positions-requires : tie.Need-positions-requires
 positions-requires c κs = search rules
 
-sub-result : tie.Need-overflow-sub-result
+sub-result : tie.Need-overflow_sub-result
 sub-result c = omega (arith, c.positions.ensures, short c.before.before.requires.0)
 
-shl-result : tie.Need-overflow-shl-result
+shl-result : tie.Need-overflow_shl-result
 shl-result c = omega (arith, c.positions.ensures, pow_mono {i = 3} {j = c.before.before.args.m} (omega arith))
 
 returns : tie.Need-returns
@@ -30,8 +30,8 @@ returns c =
     ap (λ (n : ℕ). eqb (bit_and args.bits c.before.heavy.result * 2 ^ (64 - n) % 2 ^ 64) 0) c.positions.ensures
     ∙ held-clear 64 args.r args.m args.bits c.before.heavy.result (short start.requires.0) c.before.heavy.ensures
 
-pub clear-above-spec : {M : Type 1} → statement M
-clear-above-spec =
+pub clear_above_spec : {M : Type 1} → statement M
+clear_above_spec =
     tie.close
     (tie.spec
     heavy-requires

@@ -4,14 +4,14 @@ use Rattle.level_transform.proofs.Clear.{heavy-word}
 use Rattle.level_transform.proofs.heavy.Statement.{statement}
 use Rattle.level_transform.proofs.heavy.Tie as tie
 
-mul-result : tie.Need-overflow-mul-result
+mul-result : tie.Need-offset_bounds-r
 mul-result c = search rules
 
-array-read-result : tie.Need-array-read-result
+array-read-result : tie.Need-bounds-r
 array-read-result c = search rules
 
 returns : tie.Need-returns
 returns c = heavy-word c.args.r (search rules)
 
-pub heavy-spec : {M : Type 1} → statement M
-heavy-spec = tie.close (tie.spec mul-result array-read-result returns)
+pub heavy_spec : {M : Type 1} → statement M
+heavy_spec = tie.close (tie.spec mul-result array-read-result returns)

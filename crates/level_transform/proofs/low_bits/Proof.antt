@@ -6,13 +6,13 @@ use Rattle.bits.proofs.Digits.{low-shifted}
 use Rattle.level_transform.proofs.low_bits.Statement.{statement}
 use Rattle.level_transform.proofs.low_bits.Tie as tie
 
-sub-s : tie.Need-overflow-sub-s
+sub-s : tie.Need-overflow_sub-s
 sub-s c = omega arith
 
-shl-result : tie.Need-overflow-shl-result
+shl-result : tie.Need-overflow_shl-result
 shl-result c = omega arith
 
-shr-result : tie.Need-overflow-shr-result
+shr-result : tie.Need-overflow_shr-result
 shr-result c = omega arith
 
 returns : tie.Need-returns
@@ -22,5 +22,5 @@ returns c =
     let e : 64 ≡ n + s = omega arith in
     ap (λ (W : ℕ). c.args.w * 2 ^ s % 2 ^ W / 2 ^ s) e ∙ low-shifted c.args.w n s
 
-pub low-bits-spec : {M : Type 1} → statement M
-low-bits-spec = tie.close (tie.spec sub-s shl-result shr-result returns)
+pub low_bits_spec : {M : Type 1} → statement M
+low_bits_spec = tie.close (tie.spec sub-s shl-result shr-result returns)
