@@ -1,5 +1,7 @@
 // The table of kinds, one row for each, and what follows from a row; the numbers of broken levels; the widths of a block's numbers.
 // A further kind is a row more here and in the definition `kinds`, and more elsewhere: docs/CONTRIBUTING.md, "What a further kind needs".
+#![tactic(auto)]
+
 ghost use Rattle.std.specs.Prelude.{◌≡◌, true, ◌<◌, ◌≤◌, ◌^◌, length, get_or};
 ghost use Rattle.frames.specs.Kind.{broken_numbers, broken_number, is_kind, is_grade, degrees, levels as levelsOf, level_bits, message_bits, message_bytes};
 ghost use Rattle.frames.specs.Message.{widths};

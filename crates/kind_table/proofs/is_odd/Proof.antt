@@ -8,5 +8,5 @@ returns : tie.Need-returns
 unfolding is_odd
 returns c = refl
 
-pub is-odd-spec : {M : Type 1} → statement M
-is-odd-spec = tie.close (tie.spec returns)
+pub is_odd_spec : {M : Type 1} → statement M
+is_odd_spec = tie.close (tie.spec returns)

@@ -4,11 +4,11 @@ use Rattle.frames.proofs.Limits.{kind-high, few-positions}
 use Rattle.kind_table.proofs.positions.Statement.{statement}
 use Rattle.kind_table.proofs.positions.Tie as tie
 
-shl-result : tie.Need-overflow-shl-result
+shl-result : tie.Need-overflow_shl-result
 shl-result c = omega (arith, kind-high c.args.kind c.requires)
 
 returns : tie.Need-returns
 returns c = omega (arith, few-positions c.args.kind c.requires)
 
-pub positions-spec : {M : Type 1} → statement M
-positions-spec = tie.close (tie.spec shl-result returns)
+pub positions_spec : {M : Type 1} → statement M
+positions_spec = tie.close (tie.spec shl-result returns)

@@ -2,28 +2,27 @@
 use mathlib.Core.Path.{◌≡◌, sym, ◌∙◌}
 use mathlib.Core.Bool.{true}
 use borrow.Author.Rules.{rules}
-use borrow.Author.Tests.{not-true, not-false}
 use Rattle.frames.specs.Kind.{is_kind}
 use Rattle.kind_table.proofs.refusal.Statement.{statement}
 use Rattle.kind_table.proofs.refusal.Tie as tie
 
-known : (c : tie.Else1) → is_kind c.before.before.args.kind ≡ true
-known c = sym c.before.is-kind.ensures ∙ not-false c.before.is-kind.result c.if1.false
+known : (c : tie.Else-not-is_kind) → is_kind c.before.before.args.kind ≡ true
+known c = sym c.before.is_kind.ensures ∙ c.if-not-is_kind.false
 
-is-kind-requires : tie.Need-is-kind-requires
+is-kind-requires : tie.Need-is_kind-requires
 is-kind-requires c κs = search rules
 
-returns : tie.Need-returns
-returns c = simp (sym c.before.is-kind.ensures ∙ not-true c.before.is-kind.result c.if1.true)
+returns : tie.Need-returns-then-not-is_kind
+returns c = simp (sym c.before.is_kind.ensures ∙ c.if-not-is_kind.true)
 
-is-grade-requires : tie.Need-is-grade-requires
+is-grade-requires : tie.Need-is_grade-requires
 is-grade-requires c κs = search rules
 
-returns-2 : tie.Need-returns-2
-returns-2 c = simp (known c.before.before, sym c.before.is-grade.ensures ∙ not-true c.before.is-grade.result c.if2.true)
+returns-2 : tie.Need-returns-then-not-is_grade
+returns-2 c = simp (known c.before.before, sym c.before.is_grade.ensures ∙ c.if-not-is_grade.true)
 
-returns-3 : tie.Need-returns-3
-returns-3 c = simp (known c.before.before, sym c.before.is-grade.ensures ∙ not-false c.before.is-grade.result c.if2.false)
+returns-3 : tie.Need-returns
+returns-3 c = simp (known c.before.before, sym c.before.is_grade.ensures ∙ c.if-not-is_grade.false)
 
-pub refusal-spec : {M : Type 1} → statement M
-refusal-spec = tie.close (tie.spec is-kind-requires returns is-grade-requires returns-2 returns-3)
+pub refusal_spec : {M : Type 1} → statement M
+refusal_spec = tie.close (tie.spec is-kind-requires returns is-grade-requires returns-2 returns-3)

@@ -20,21 +20,21 @@ middle b (suc (suc (suc (suc (suc (suc zero)))))) h f l = refl
 middle b (suc (suc (suc (suc (suc (suc (suc zero))))))) h f l = absurd (l refl)
 middle b (suc (suc (suc (suc (suc (suc (suc (suc i)))))))) h f l = absurd (omega arith)
 
-sub-result : tie.Need-overflow-sub-result
+sub-result : tie.Need-overflow_sub-result
 sub-result c = search rules
 
-returns : tie.Need-returns
-returns c = ap (λ (i : ℕ). get_or (widths c.before.args.grade) i 0) (sym c.if1.true)
+returns : tie.Need-returns-then-i-eq0
+returns c = ap (λ (i : ℕ). get_or (widths c.before.args.grade) i 0) (sym c.if-i-eq0.true)
 
-add-result : tie.Need-overflow-add-result
+add-result : tie.Need-overflow_add-result
 add-result c = search rules
 
-returns-2 : tie.Need-returns-2
-returns-2 c = ap (λ (i : ℕ). get_or (widths c.before.before.args.grade) i 0) (sym c.if2.true)
+returns-2 : tie.Need-returns-then-i-eq7
+returns-2 c = ap (λ (i : ℕ). get_or (widths c.before.before.args.grade) i 0) (sym c.if-i-eq7.true)
 
-returns-3 : tie.Need-returns-3
+returns-3 : tie.Need-returns
 returns-3 c =
-    middle c.before.before.args.grade c.before.before.args.i c.before.before.requires.2 c.before.if1.false c.if2.false
+    middle c.before.before.args.grade c.before.before.args.i c.before.before.requires.2 c.before.if-i-eq0.false c.if-i-eq7.false
 
 pub width_spec : {M : Type 1} → statement M
 width_spec = tie.close (tie.spec sub-result returns add-result returns-2 returns-3)
