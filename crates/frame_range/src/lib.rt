@@ -1,4 +1,6 @@
 // The range of what is read: the one place of the code that has the largest coordinate.
+#![tactic(auto)]
+
 ghost use Rattle.std.specs.Prelude.{◌≡◌};
 ghost use Rattle.frames.specs.Reading.{in_range};
 

@@ -1,4 +1,6 @@
 // The reduction of a block of eight coordinates to the numbers of a message.
+#![tactic(auto)]
+
 ghost use Rattle.std.specs.Prelude.{◌≡◌, ◌∷◌, ◌^◌, ◌≤◌, pos, nat_abs, drop, get_or};
 ghost use Rattle.e8.specs.Energy.{Within};
 ghost use Rattle.e8.specs.Least.{lowered};

@@ -1,4 +1,6 @@
 // Rounding a block: each coordinate to the nearest to 0 of its class, and the figures by which one of them is chosen to be changed.
+#![tactic(auto)]
+
 ghost use Rattle.std.specs.Prelude.{◌≡◌, ◌^◌, ◌<◌, ◌≤◌, pos, nat_abs};
 ghost use Rattle.e8.specs.Energy.{Within};
 ghost use Rattle.mending.specs.Rounded.{rank_of, ranks_of, larger_of, smaller_of, among, Rounded};

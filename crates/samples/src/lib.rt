@@ -1,4 +1,6 @@
 // Samples as f32: which are fit, and what they are in 256ths.
+#![tactic(auto)]
+
 ghost use Rattle.std.specs.Prelude.{◌≡◌, true, cond, length};
 ghost use Rattle.samples.specs.Sample.{is_fit, sample_in_256ths, all_fit, samples_in_256ths};
 

@@ -18,11 +18,11 @@ use Rattle.frame_energy.proofs.Whole.{whole, back, Apart, apart_none, apart_more
 use Rattle.frame_energy.proofs.block_energy.Statement.{statement}
 use Rattle.frame_energy.proofs.block_energy.Tie as tie
 
-abbrev invariant-loop : tie.invariant-loop
-invariant-loop part even₀ odd₀ i₀ even odd i = (i ≤ 4) × Apart part i even odd
+abbrev invariant-loop-i : tie.invariant-loop-i
+invariant-loop-i part even₀ odd₀ i₀ even odd i = (i ≤ 4) × Apart part i even odd
 
-abbrev decreases-loop : tie.decreases-loop
-decreases-loop part even₀ odd₀ i₀ even odd i = 4 - i
+abbrev decreases-loop-i : tie.decreases-loop-i
+decreases-loop-i part even₀ odd₀ i₀ even odd i = 4 - i
 
 -- 0.0
 none : of_bits binary64 0 ≡ whole 0
@@ -30,16 +30,16 @@ unfolding of_bits of_fields of_int round
 none = refl
 
 -- the block
-module _ (s : tie.Start invariant-loop decreases-loop) where
+module _ (s : tie.Start invariant-loop-i decreases-loop-i) where
   abbrev x : List ℤ
   x = s.args.part.now
 
   -- the energy is far below 2^53
   few : energy x ≤ 2 ^ 53
-  few = omega (arith, energy-within (2 ^ 24) x s.pre.1, ap (λ (m : ℕ). m * (2 ^ 24 * 2 ^ 24)) s.pre.0)
+  few = omega (arith, energy-within (2 ^ 24) x s.requires.1, ap (λ (m : ℕ). m * (2 ^ 24 * 2 ^ 24)) s.requires.0)
 
   small : (i : ℕ) → nat_abs (get_or x i (pos 0)) ≤ 2 ^ 24
-  small i = within-at (2 ^ 24) x i s.pre.1
+  small i = within-at (2 ^ 24) x i s.requires.1
 
   -- a coordinate as the code reads it, and its square
   sized : (i : ℕ) → nat_abs (read (get_or x i (pos 0))) ≤ 2 ^ 24
@@ -48,62 +48,62 @@ module _ (s : tie.Start invariant-loop decreases-loop) where
   square : (i : ℕ) → whole (sq (read (get_or x i (pos 0)))) ≡ whole (sq (get_or x i (pos 0)))
   square i = ap (λ (z : ℤ). whole (sq z)) (plain (get_or x i (pos 0)) (omega (arith, small i)))
 
-loop-holds : tie.Need-loop-init invariant-loop decreases-loop
+loop-holds : tie.Need-loop-i-init invariant-loop-i decreases-loop-i
 loop-holds c = (omega arith, apart_none (x c) none)
 
-mul-p : tie.Need-overflow-mul-p invariant-loop decreases-loop
+mul-p : tie.Need-overflow_mul-p invariant-loop-i decreases-loop-i
 mul-p c = omega arith
 
-add-q : tie.Need-overflow-add-q invariant-loop decreases-loop
+add-q : tie.Need-overflow_add-q invariant-loop-i decreases-loop-i
 add-q c = omega arith
 
-mul-y : tie.Need-overflow-mul-y invariant-loop decreases-loop
+mul-y : tie.Need-offset_bounds-part-p invariant-loop-i decreases-loop-i
 mul-y c = omega arith
 
-shared-slice-copy-out-y : tie.Need-shared-slice-copy-out-y invariant-loop decreases-loop
+shared-slice-copy-out-y : tie.Need-bounds-part-p invariant-loop-i decreases-loop-i
 shared-slice-copy-out-y c = omega arith
 
-mul-z : tie.Need-overflow-mul-z invariant-loop decreases-loop
+mul-z : tie.Need-offset_bounds-part-q invariant-loop-i decreases-loop-i
 mul-z c = omega arith
 
-shared-slice-copy-out-z : tie.Need-shared-slice-copy-out-z invariant-loop decreases-loop
+shared-slice-copy-out-z : tie.Need-bounds-part-q invariant-loop-i decreases-loop-i
 shared-slice-copy-out-z c = omega arith
 
 -- the squares of pair i
-squares : (c : tie.After-square2 invariant-loop decreases-loop) → let at = c.before.before.before.before.before in
-    (c.before.square.result ≡ whole (sq (get_or (x at.before) (2 * at.loop.i) (pos 0))))
-    × (c.square2.result ≡ whole (sq (get_or (x at.before) (2 * at.loop.i + 1) (pos 0))))
+squares : (c : tie.After-square-odd invariant-loop-i decreases-loop-i) → let at = c.before.before.before.before.before in
+    (c.before.square-even.result ≡ whole (sq (get_or (x at.before) (2 * at.loop-i.i) (pos 0))))
+    × (c.square-odd.result ≡ whole (sq (get_or (x at.before) (2 * at.loop-i.i + 1) (pos 0))))
 squares c =
     let at = c.before.before.before.before.before in
-    (c.before.square.ensures ∙ square at.before (2 * at.loop.i), c.square2.ensures ∙ square at.before (2 * at.loop.i + 1))
+    (c.before.square-even.ensures ∙ square at.before (2 * at.loop-i.i), c.square-odd.ensures ∙ square at.before (2 * at.loop-i.i + 1))
 
-square-requires : tie.Need-square-requires invariant-loop decreases-loop
-square-requires c κs = let at = c.before.before.before in sized at.before (2 * at.loop.i)
+square-requires : tie.Need-square-even-requires invariant-loop-i decreases-loop-i
+square-requires c κs = let at = c.before.before.before in sized at.before (2 * at.loop-i.i)
 
-square-requires-2 : tie.Need-square-requires-2 invariant-loop decreases-loop
-square-requires-2 c κs = let at = c.before.before.before.before in sized at.before (2 * at.loop.i + 1)
+square-requires-2 : tie.Need-square-odd-requires invariant-loop-i decreases-loop-i
+square-requires-2 c κs = let at = c.before.before.before.before in sized at.before (2 * at.loop-i.i + 1)
 
-add-i : tie.Need-overflow-add-i invariant-loop decreases-loop
+add-i : tie.Need-overflow_add-i invariant-loop-i decreases-loop-i
 add-i c = omega arith
 
-loop-less : tie.Need-loop-smaller invariant-loop decreases-loop
+loop-less : tie.Need-loop-i-smaller invariant-loop-i decreases-loop-i
 loop-less c = omega arith
 
-loop-again : tie.Need-loop-preserved invariant-loop decreases-loop
+loop-again : tie.Need-loop-i-preserved invariant-loop-i decreases-loop-i
 loop-again c =
     let at = c.before.before.before.before.before in
-    (omega arith, apart_more at.loop.invariant.1 (few at.before) (omega arith) (squares c).0 (squares c).1)
+    (omega arith, apart_more at.loop-i.invariant.1 (few at.before) (omega arith) (squares c).0 (squares c).1)
 
 -- both sums, and their sum as a whole number
-module _ (c : tie.After-loop invariant-loop decreases-loop) where
-  abbrev t : tie.At-loop invariant-loop decreases-loop
+module _ (c : tie.After-loop-i invariant-loop-i decreases-loop-i) where
+  abbrev t : tie.At-loop-i invariant-loop-i decreases-loop-i
   t = c.before
 
   abbrev sum : Float
-  sum = add binary64 t.loop.even t.loop.odd
+  sum = add binary64 t.loop-i.even t.loop-i.odd
 
   sum_is : sum ≡ whole (energy (x t.before))
-  sum_is = apart-all t.loop.inv.1 (few t.before) (omega (arith, c.loop-test.false))
+  sum_is = apart-all t.loop-i.invariant.1 (few t.before) (omega (arith, c.loop-i-test.false))
 
   counted : T (in_signed binary64 63 sum) × (to_signed 63 sum ≡ pos (energy (x t.before)))
   counted = rw sum_is (back (energy (x t.before)) (few t.before))
@@ -111,22 +111,22 @@ module _ (c : tie.After-loop invariant-loop decreases-loop) where
   result : to_z w64 (of_z w64 (to_signed 63 sum)) ≡ pos (energy (x t.before))
   result = tz {w = w64} {z = to_signed 63 sum} refl (record { sfits = to_signed_in 63 sum }) ∙ counted.1
 
-float-to-int-sum : tie.Need-float-to-int-sum invariant-loop decreases-loop
+float-to-int-sum : tie.Need-float_to_int-sum invariant-loop-i decreases-loop-i
 float-to-int-sum c = (counted c.before).0
 
-cast-result : tie.Need-overflow-cast-result invariant-loop decreases-loop
+cast-result : tie.Need-overflow_cast-result invariant-loop-i decreases-loop-i
 cast-result c =
     rw (result c.before) (tt, record { fits = omega (arith, few c.before.before.before) })
 
-returns : tie.Need-returns invariant-loop decreases-loop
+returns : tie.Need-returns invariant-loop-i decreases-loop-i
 returns c = ap nat_abs (result c.before)
 
-pub block-energy-spec : {M : Type 1} → statement M
-block-energy-spec =
+pub block_energy_spec : {M : Type 1} → statement M
+block_energy_spec =
     tie.close
     (tie.spec
-    invariant-loop
-    decreases-loop
+    invariant-loop-i
+    decreases-loop-i
     loop-holds
     mul-p
     add-q

@@ -8,7 +8,7 @@ use Rattle.frame_energy.proofs.Whole.{whole-square}
 use Rattle.frame_energy.proofs.square.Statement.{statement}
 use Rattle.frame_energy.proofs.square.Tie as tie
 
-int-to-float-y : tie.Need-int-to-float-y
+int-to-float-y : tie.Need-int_to_float-y
 int-to-float-y c = search rules
 
 returns : tie.Need-returns
@@ -16,5 +16,5 @@ returns c =
     let s = c.before in
     ap (λ (y : ℤ). mul binary64 (of_int binary64 y) (of_int binary64 y)) (tz refl s.ranges.z) ∙ whole-square s.args.z s.requires
 
-pub square-spec : {M : Type 1} → statement M
-square-spec = tie.close (tie.spec int-to-float-y returns)
+pub square_spec : {M : Type 1} → statement M
+square_spec = tie.close (tie.spec int-to-float-y returns)

@@ -19,5 +19,5 @@ same-bound B f e = ap (λ (A : ℕ). is_within A f) e
 returns : tie.Need-returns
 returns c = c.within.ensures ∙ same-bound _ c.before.args.frame.now (omega arith)
 
-pub in-range-spec : {M : Type 1} → statement M
-in-range-spec = tie.close (tie.spec within-requires returns)
+pub in_range_spec : {M : Type 1} → statement M
+in_range_spec = tie.close (tie.spec within-requires returns)

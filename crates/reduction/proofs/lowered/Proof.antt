@@ -18,87 +18,87 @@ use Rattle.coordinates.proofs.Filled.{Filled, filled_none, filled_next, filled-a
 use Rattle.reduction.proofs.lowered.Statement.{statement}
 use Rattle.reduction.proofs.lowered.Tie as tie
 
-abbrev invariant-loop : tie.invariant-loop
-invariant-loop h x r₀ i₀ r i = (i ≤ 8) × Filled (lowered (to_z w32 h) x) r i
+abbrev invariant-loop-i : tie.invariant-loop-i
+invariant-loop-i h x r₀ i₀ r i = (i ≤ 8) × Filled (lowered (to_z w32 h) x) r i
 
-abbrev decreases-loop : tie.decreases-loop
-decreases-loop h x r₀ i₀ r i = 8 - i
+abbrev decreases-loop-i : tie.decreases-loop-i
+decreases-loop-i h x r₀ i₀ r i = 8 - i
 
-module _ (s : tie.Start invariant-loop decreases-loop) where
+module _ (s : tie.Start invariant-loop-i decreases-loop-i) where
   abbrev target : List ℤ
-  target = lowered (read s.args.h) s.args.t2
+  target = lowered (read s.args.h) s.args.x
 
-  eight : length s.args.t2 ≡ 8
+  eight : length s.args.x ≡ 8
   eight = search rules
 
   long : length target ≡ 8
-  long = lowered-length (read s.args.h) s.args.t2 ∙ eight
+  long = lowered-length (read s.args.h) s.args.x ∙ eight
 
   height : read s.args.h ≡ s.args.h
   height = tz refl s.fits.h
 
   abbrev at : ℕ → ℤ
-  at i = get_or s.args.t2 i (pos 0)
+  at i = get_or s.args.x i (pos 0)
 
   small : (i : ℕ) → nat_abs (at i) ≤ 2 ^ 24
-  small i = within-at (2 ^ 24) s.args.t2 i s.pre.1
+  small i = within-at (2 ^ 24) s.args.x i s.requires.1
 
   -- one coordinate
   one : (i : ℕ) → read (at i) -ℤ read s.args.h ≡ at i -ℤ s.args.h
   one i = ap₂ ◌-ℤ◌ (plain (at i) (omega (arith, small i))) height
 
   one-fits : (i : ℕ) → SFits w32 (at i -ℤ s.args.h)
-  one-fits i = fits (at i -ℤ s.args.h) (omega (arith, less-abs (at i) s.args.h (2 ^ 24) (2 ^ 25) (small i) s.pre.0))
+  one-fits i = fits (at i -ℤ s.args.h) (omega (arith, less-abs (at i) s.args.h (2 ^ 24) (2 ^ 25) (small i) s.requires.0))
 
   target_at : (i : ℕ) → i < 8 → get_or target i (pos 0) ≡ at i -ℤ s.args.h
-  target_at i l = lowered-at (read s.args.h) s.args.t2 i (omega (arith, eight)) ∙ ap (λ (z : ℤ). at i -ℤ z) height
+  target_at i l = lowered-at (read s.args.h) s.args.x i (omega (arith, eight)) ∙ ap (λ (z : ℤ). at i -ℤ z) height
 
-loop-holds : tie.Need-loop-init invariant-loop decreases-loop
-loop-holds c = (omega arith, filled_none (target c) c.args.t2 (sym (lowered-length (read c.args.h) c.args.t2)))
+loop-holds : tie.Need-loop-i-init invariant-loop-i decreases-loop-i
+loop-holds c = (omega arith, filled_none (target c) c.args.x (sym (lowered-length (read c.args.h) c.args.x)))
 
-mul-v : tie.Need-overflow-mul-v invariant-loop decreases-loop
+mul-v : tie.Need-offset_bounds-x-i invariant-loop-i decreases-loop-i
 mul-v c = search rules
 
-array-copy-out-v : tie.Need-array-copy-out-v invariant-loop decreases-loop
+array-copy-out-v : tie.Need-bounds-x-i invariant-loop-i decreases-loop-i
 array-copy-out-v c = search rules
 
-sub-r : tie.Need-overflow-sub-r invariant-loop decreases-loop
-sub-r c = let s = c.before.before.before in sfits-to (one s c.before.before.loop.i) (one-fits s c.before.before.loop.i)
+sub-r : tie.Need-overflow_sub-r invariant-loop-i decreases-loop-i
+sub-r c = let s = c.before.before.before in sfits-to (one s c.before.before.loop-i.i) (one-fits s c.before.before.loop-i.i)
 
-mul-r : tie.Need-overflow-mul-r invariant-loop decreases-loop
+mul-r : tie.Need-offset_bounds-r-i invariant-loop-i decreases-loop-i
 mul-r c = search rules
 
-array-set-from-r : tie.Need-array-set-from-r invariant-loop decreases-loop
+array-set-from-r : tie.Need-bounds-r-i invariant-loop-i decreases-loop-i
 array-set-from-r c = search rules
 
-add-i : tie.Need-overflow-add-i invariant-loop decreases-loop
+add-i : tie.Need-overflow_add-i invariant-loop-i decreases-loop-i
 add-i c = search rules
 
-loop-less : tie.Need-loop-smaller invariant-loop decreases-loop
+loop-less : tie.Need-loop-i-smaller invariant-loop-i decreases-loop-i
 loop-less c = search rules
 
-loop-again : tie.Need-loop-preserved invariant-loop decreases-loop
+loop-again : tie.Need-loop-i-preserved invariant-loop-i decreases-loop-i
 loop-again c =
     let l = c.before.before in
     let s = l.before in
-    let i = l.loop.i in (
+    let i = l.loop-i.i in (
       omega arith,
-      filled_next (pos 0) (target s) l.loop.r i _ l.loop.invariant.1 (omega (arith, long s))
+      filled_next (pos 0) (target s) l.loop-i.r i _ l.loop-i.invariant.1 (omega (arith, long s))
           (tz (one s i) (one-fits s i) ∙ sym (target_at s i (omega arith))),
     )
 
-returns : tie.Need-returns invariant-loop decreases-loop
+returns : tie.Need-returns invariant-loop-i decreases-loop-i
 returns c =
     let l = c.before in
     let s = l.before in
-    filled-all (target s) l.loop.r l.loop.i l.loop.invariant.1 (omega (arith, long s)) ∙ ap (λ (z : ℤ). lowered z s.args.t2) (height s)
+    filled-all (target s) l.loop-i.r l.loop-i.i l.loop-i.invariant.1 (omega (arith, long s)) ∙ ap (λ (z : ℤ). lowered z s.args.x) (height s)
 
-pub lowered-spec : {M : Type 1} → statement M
-lowered-spec =
+pub lowered_spec : {M : Type 1} → statement M
+lowered_spec =
     tie.close
     (tie.spec
-    invariant-loop
-    decreases-loop
+    invariant-loop-i
+    decreases-loop-i
     loop-holds
     mul-v
     array-copy-out-v

@@ -35,14 +35,14 @@ lowered-size d v y e h w =
     subst (Within (2 ^ 26)) (sym e) (within-to (2 ^ 24 + 2 ^ 25) (2 ^ 26) (lowered d v) (omega arith) (lowered-within d v (2 ^ 24) (2 ^ 25) h w))
 
 module _ (s : tie.Start) where
-  eight : length s.args.t2 ≡ 8
+  eight : length s.args.v ≡ 8
   eight = search rules
 
   abbrev x : ℤ
-  x = get_or s.args.t2 0 (pos 0)
+  x = get_or s.args.v 0 (pos 0)
 
   small : nat_abs x ≤ 2 ^ 24
-  small = within-at (2 ^ 24) s.args.t2 0 s.pre.1
+  small = within-at (2 ^ 24) s.args.v 0 s.requires.1
 
   is : read x ≡ x
   is = tz refl (fits x (omega (arith, small)))
@@ -51,52 +51,52 @@ module _ (s : tie.Start) where
   x-size = plain_size x (2 ^ 24) small (omega arith)
 
 -- the first place: its remainder, and what is taken off every place
-module _ (c : tie.After-remainder) where
+module _ (c : tie.After-remainder-s) where
   abbrev start : tie.Start
   start = c.before.before
 
   abbrev n : ℕ
   n = mod_z (x start) (2 ^ start.args.k)
 
-  rest : read c.remainder.result ≡ pos n
-  rest = tz refl (record { sfits = c.remainder.type-inv }) ∙ c.remainder.ensures ∙ ap (λ (z : ℤ). pos (mod_z z (2 ^ start.args.k))) (is start)
+  rest : read c.remainder-s.result ≡ pos n
+  rest = tz refl (record { sfits = c.remainder-s.type_inv }) ∙ c.remainder-s.ensures ∙ ap (λ (z : ℤ). pos (mod_z z (2 ^ start.args.k))) (is start)
 
-  rest-size : nat_abs (read c.remainder.result) ≤ 2 ^ 24
+  rest-size : nat_abs (read c.remainder-s.result) ≤ 2 ^ 24
   rest-size =
-      let h-scale = scale start.args.k start.pre.0 in
+      let h-scale = scale start.args.k start.requires.0 in
       let le : n ≤ 2 ^ 24 = omega (arith, mod_z-lt (x start) (2 ^ start.args.k) h-scale.some, h-scale.small) in
       subst (λ (z : ℤ). nat_abs z ≤ 2 ^ 24) (sym rest) le
 
-array-copy-out-x : tie.Need-array-copy-out-x
+array-copy-out-x : tie.Need-bounds-v-0
 array-copy-out-x c = search rules
 
-remainder-requires : tie.Need-remainder-requires
+remainder-requires : tie.Need-remainder-s-requires
 remainder-requires c κs = let s = c.before in (omega (arith, s.requires.0), subst (λ (z : ℤ). nat_abs z ≤ 2 ^ 30) (sym (is s)) (omega (arith, small s)))
 
-sub-lowered : tie.Need-overflow-sub-lowered
+sub-lowered : tie.Need-overflow_sub-x
 sub-lowered c = sfits-to refl (search (gap-fits, x-size (start c), rest-size c))
 
-lowered-requires : tie.Need-lowered-requires
+lowered-requires : tie.Need-lowered-y-requires
 lowered-requires c κs = (search (gap-size, x-size (start c), rest-size c), c.before.before.requires.1)
 
-later-rows-requires : tie.Need-later-rows-requires
+later-rows-requires : tie.Need-later_rows-requires
 later-rows-requires c κs =
     let s = c.before.before.before in
     -- of the lowered block, and of the one that came
-    let low = lowered-size _ s.args.t2 _ c.lowered.ensures (search (gap-size, x-size s, rest-size c.before)) s.requires.1 in
-    let own = within-to (2 ^ 24) (2 ^ 26) s.args.t2 (omega arith) s.requires.1 in
+    let low = lowered-size _ s.args.v _ c.lowered-y.ensures (search (gap-size, x-size s, rest-size c.before)) s.requires.1 in
+    let own = within-to (2 ^ 24) (2 ^ 26) s.args.v (omega arith) s.requires.1 in
     (s.requires.0, (search))
 
 returns : tie.Need-returns
 returns c =
     let r = c.before.before in
     let s = r.before.before in
-    c.later_rows.ensures ∙ ap (result (2 ^ s.args.k)) c.before.lowered.ensures
-    ∙ first-row (2 ^ s.args.k) s.args.t2 _ (read r.remainder.result) (pow_pos s.args.k) (eight s) (rest r)
-    (tz (ap (λ (z : ℤ). z -ℤ read r.remainder.result) (is s)) (gap-fits (x s) (read r.remainder.result) (small s) (rest-size r)))
+    c.later_rows.ensures ∙ ap (result (2 ^ s.args.k)) c.before.lowered-y.ensures
+    ∙ first-row (2 ^ s.args.k) s.args.v _ (read r.remainder-s.result) (pow_pos s.args.k) (eight s) (rest r)
+    (tz (ap (λ (z : ℤ). z -ℤ read r.remainder-s.result) (is s)) (gap-fits (x s) (read r.remainder-s.result) (small s) (rest-size r)))
 
-pub reduce-spec : {M : Type 1} → statement M
-reduce-spec =
+pub reduce_spec : {M : Type 1} → statement M
+reduce_spec =
     tie.close
     (tie.spec
     array-copy-out-x

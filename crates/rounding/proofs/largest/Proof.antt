@@ -12,62 +12,62 @@ use Rattle.mending.specs.Rounded.{larger_of, among}
 use Rattle.rounding.proofs.largest.Statement.{statement}
 use Rattle.rounding.proofs.largest.Tie as tie
 
-abbrev invariant-loop : tie.invariant-loop
-invariant-loop r m₀ i₀ m i = (i ≤ 7) × (to_z w16 m ≡ among larger_of (drop i r))
+abbrev invariant-loop-i : tie.invariant-loop-i
+invariant-loop-i r m₀ i₀ m i = (i ≤ 7) × (to_z w16 m ≡ among larger_of (drop i r))
 
-abbrev decreases-loop : tie.decreases-loop
-decreases-loop r m₀ i₀ m i = i
+abbrev decreases-loop-i : tie.decreases-loop-i
+decreases-loop-i r m₀ i₀ m i = i
 
-module _ (s : tie.Start invariant-loop decreases-loop) where
-  eight : length s.args.t1 ≡ 8
+module _ (s : tie.Start invariant-loop-i decreases-loop-i) where
+  eight : length s.args.r ≡ 8
   eight = search rules
 
-array-copy-out-m : tie.Need-array-copy-out-m invariant-loop decreases-loop
+array-copy-out-m : tie.Need-bounds-r-7 invariant-loop-i decreases-loop-i
 array-copy-out-m c = search rules
 
-loop-holds : tie.Need-loop-init invariant-loop decreases-loop
+loop-holds : tie.Need-loop-i-init invariant-loop-i decreases-loop-i
 loop-holds c =
     let s = c.before in
-    (omega arith, tz refl (record { sfits = c.m.given }) ∙ among-last larger_of s.args.t1 7 (sym (eight s)))
+    (omega arith, tz refl (record { sfits = c.m-1.given }) ∙ among-last larger_of s.args.r 7 (sym (eight s)))
 
-sub-i : tie.Need-overflow-sub-i invariant-loop decreases-loop
+sub-i : tie.Need-overflow_sub-i invariant-loop-i decreases-loop-i
 sub-i c = omega arith
 
-mul-a : tie.Need-overflow-mul-a invariant-loop decreases-loop
+mul-a : tie.Need-offset_bounds-r-i invariant-loop-i decreases-loop-i
 mul-a c = search rules
 
-array-copy-out-a : tie.Need-array-copy-out-a invariant-loop decreases-loop
+array-copy-out-a : tie.Need-bounds-r-i invariant-loop-i decreases-loop-i
 array-copy-out-a c = search rules
 
-larger-requires : tie.Need-larger-requires invariant-loop decreases-loop
+larger-requires : tie.Need-larger-m-requires invariant-loop-i decreases-loop-i
 larger-requires c κs = search rules
 
-loop-less : tie.Need-loop-smaller invariant-loop decreases-loop
+loop-less : tie.Need-loop-i-smaller invariant-loop-i decreases-loop-i
 loop-less c = omega arith
 
-loop-again : tie.Need-loop-preserved invariant-loop decreases-loop
+loop-again : tie.Need-loop-i-preserved invariant-loop-i decreases-loop-i
 loop-again c =
     let l = c.before.before.before in
-    let r = l.before.before.args.t1 in
-    let j = l.loop.i - 1 in
-    let next : l.loop.i ≡ suc j = omega arith in (
+    let r = l.before.before.args.r in
+    let j = l.loop-i.i - 1 in
+    let next : l.loop-i.i ≡ suc j = omega arith in (
       omega arith,
-      tz refl (record { sfits = c.larger.type-inv }) ∙ c.larger.ensures
-          ∙ ap₂ larger_of (l.loop.invariant.1 ∙ ap (λ (n : ℕ). among larger_of (drop n r)) next) (tz refl (record { sfits = c.before.a.given }))
+      tz refl (record { sfits = c.larger-m.type_inv }) ∙ c.larger-m.ensures
+          ∙ ap₂ larger_of (l.loop-i.invariant.1 ∙ ap (λ (n : ℕ). among larger_of (drop n r)) next) (tz refl (record { sfits = c.before.a-1.given }))
           ∙ among-more larger_of r j (omega (arith, eight l.before.before)),
     )
 
-returns : tie.Need-returns invariant-loop decreases-loop
+returns : tie.Need-returns invariant-loop-i decreases-loop-i
 returns c =
     let l = c.before in
-    l.loop.invariant.1 ∙ ap (λ (n : ℕ). among larger_of (drop n l.before.before.args.t1)) {x = l.loop.i} {y = 0} (omega arith)
+    l.loop-i.invariant.1 ∙ ap (λ (n : ℕ). among larger_of (drop n l.before.before.args.r)) {x = l.loop-i.i} {y = 0} (omega arith)
 
-pub largest-spec : {M : Type 1} → statement M
-largest-spec =
+pub largest_spec : {M : Type 1} → statement M
+largest_spec =
     tie.close
     (tie.spec
-    invariant-loop
-    decreases-loop
+    invariant-loop-i
+    decreases-loop-i
     array-copy-out-m
     loop-holds
     sub-i

@@ -42,13 +42,13 @@ module _ (s : tie.Start) where
   number = tz refl s.fits.c
 
   index : to_z w32 i ≡ pos i
-  index = to_z_pos w32 (omega (arith, s.pre.1))
+  index = to_z_pos w32 (omega (arith, s.requires.1))
 
   index-size : nat_abs (to_z w32 i) ≤ 15
-  index-size = subst (λ (y : ℤ). nat_abs y ≤ 15) (sym index) (omega (arith, s.pre.1))
+  index-size = subst (λ (y : ℤ). nat_abs y ≤ 15) (sym index) (omega (arith, s.requires.1))
 
   behind : read (pos 15 -ℤ to_z w32 i) ≡ pos (15 - i)
-  behind = tz (ap (λ (y : ℤ). pos 15 -ℤ y) index ∙ eq! (# 15 ⊖ # i) (# (15 - i)) (omega (arith, s.pre.1))) (fits (pos (15 - i)) (omega arith))
+  behind = tz (ap (λ (y : ℤ). pos 15 -ℤ y) index ∙ eq! (# 15 ⊖ # i) (# (15 - i)) (omega (arith, s.requires.1))) (fits (pos (15 - i)) (omega arith))
 
 module _ (c : tie.After-magnitude) where
   abbrev n : ℕ
@@ -69,41 +69,41 @@ module _ (c : tie.After-magnitude) where
   sixteen-size : nat_abs (read (pos 16 *ℤ read c.magnitude.result)) ≤ 2 ^ 11
   sixteen-size = subst (λ (y : ℤ). nat_abs y ≤ 2 ^ 11) (sym sixteen) (omega (arith, c.before.requires.0))
 
-module _ (c : tie.Joined1) where
+module _ (c : tie.Joined-c-lt0) where
   abbrev s : tie.Start
   s = c.before.before
 
   -- what is added for the sign and the place
-  last-size : nat_abs (to_z w32 c.if1.result) ≤ 30
+  last-size : nat_abs (to_z w32 c.if-c-lt0.result) ≤ 30
   last-size =
       ⊎_elim (λ w. subst (λ (n : ℕ). nat_abs (to_z w32 n) ≤ 30) (sym w.1) (omega (arith, index-size s)))
-      (λ w. subst (λ (n : ℕ). nat_abs (to_z w32 n) ≤ 30) (sym w.1) (search (less-read, index-size s, rules))) c.if1.branch
+      (λ w. subst (λ (n : ℕ). nat_abs (to_z w32 n) ≤ 30) (sym w.1) (search (less-read, index-size s, rules))) c.if-c-lt0.branch
 
-  last-is : to_z w32 c.if1.result ≡ pos (cond (lt_z (z s) (pos 0)) (i s) (15 - i s))
+  last-is : to_z w32 c.if-c-lt0.result ≡ pos (cond (lt_z (z s) (pos 0)) (i s) (15 - i s))
   last-is =
       let by : (t : Bool) → lt_z (read (z s)) (pos 0) ≡ t → pos (cond t (i s) (15 - i s)) ≡ pos (cond (lt_z (z s) (pos 0)) (i s) (15 - i s)) =
       λ t h. ap (λ b. pos (cond b (i s) (15 - i s))) (sym (rw (number s) at h)) in
-      ⊎_elim (λ w. ap (to_z w32) w.1 ∙ index s ∙ by true w.0.taken) (λ w. ap (to_z w32) w.1 ∙ behind s ∙ by false w.0.left) c.if1.branch
+      ⊎_elim (λ w. ap (to_z w32) w.1 ∙ index s ∙ by true w.0.taken) (λ w. ap (to_z w32) w.1 ∙ behind s ∙ by false w.0.left) c.if-c-lt0.branch
 
-cast-j : tie.Need-overflow-cast-j
+cast-j : tie.Need-overflow_cast-j
 cast-j c = search rules
 
 magnitude-requires : tie.Need-magnitude-requires
 magnitude-requires c κs = omega (arith, plain_size (z c) (2 ^ 7) c.requires.0 (omega arith))
 
-mul-result : tie.Need-overflow-mul-result
+mul-result : tie.Need-overflow_mul-result
 mul-result c = sfits-to (product c) (product-fits c)
 
-sub-result : tie.Need-overflow-sub-result
+sub-result : tie.Need-overflow_sub-result
 sub-result c = sfits-to refl (search (less-fits, index-size c.before.before, rules))
 
-add-result : tie.Need-overflow-add-result
-add-result c = sum_fits (read (pos 16 *ℤ read c.before.magnitude.result)) (to_z w32 c.if1.result) (sixteen-size c.before) (last-size c)
+add-result : tie.Need-overflow_add-result
+add-result c = sum_fits (read (pos 16 *ℤ read c.before.magnitude.result)) (to_z w32 c.if-c-lt0.result) (sixteen-size c.before) (last-size c)
 
 returns : tie.Need-returns
 returns c =
     tz (ap₂ ◌+ℤ◌ (sixteen c.before) (last-is c))
     (fits (pos (rank_of (z (s c)) (i (s c)))) (omega (arith, rank-low (z (s c)) (i (s c)) (s c).requires.0 (s c).requires.1)))
 
-pub rank-spec : {M : Type 1} → statement M
-rank-spec = tie.close (tie.spec cast-j magnitude-requires mul-result sub-result add-result returns)
+pub rank_spec : {M : Type 1} → statement M
+rank_spec = tie.close (tie.spec cast-j magnitude-requires mul-result sub-result add-result returns)

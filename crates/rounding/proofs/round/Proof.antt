@@ -25,16 +25,16 @@ use Rattle.mending.specs.Rounded.{larger_of, smaller_of, among, sizes}
 use Rattle.rounding.proofs.round.Statement.{statement}
 use Rattle.rounding.proofs.round.Tie as tie
 
-abbrev invariant-loop : tie.invariant-loop
-invariant-loop k h x r₀ sum₀ halves₀ sizes₀ i₀ r sum halves sizes i =
+abbrev invariant-loop-i : tie.invariant-loop-i
+invariant-loop-i k h x r₀ sum₀ halves₀ sizes₀ i₀ r sum halves sizes i =
     (i ≤ 8) × ((length r ≡ 8) × Summed (2 ^ k) (drop i x) (drop i r) (to_z w32 sum) (to_z w32 halves) (to_z w32 sizes))
 
-abbrev decreases-loop : tie.decreases-loop
-decreases-loop k h x r₀ sum₀ halves₀ sizes₀ i₀ r sum halves sizes i = i
+abbrev decreases-loop-i : tie.decreases-loop-i
+decreases-loop-i k h x r₀ sum₀ halves₀ sizes₀ i₀ r sum halves sizes i = i
 
 -- ---- the block that came
 
-module _ (s : tie.Start invariant-loop decreases-loop) where
+module _ (s : tie.Start invariant-loop-i decreases-loop-i) where
   abbrev H : ℕ
   H = 2 ^ s.args.k
 
@@ -46,10 +46,10 @@ module _ (s : tie.Start invariant-loop decreases-loop) where
   M-is = double s.args.k
 
   abbrev block : List ℤ
-  block = s.args.t3
+  block = s.args.x
 
   H-scale : Scale H
-  H-scale = scale s.args.k s.pre.0
+  H-scale = scale s.args.k s.requires.0
 
   eight : length block ≡ 8
   eight = search rules
@@ -59,13 +59,13 @@ module _ (s : tie.Start invariant-loop decreases-loop) where
   at i = get_or block i (pos 0)
 
   small : (i : ℕ) → nat_abs (at i) ≤ 2 ^ 24
-  small i = within-at (2 ^ 24) block i s.pre.2
+  small i = within-at (2 ^ 24) block i s.requires.2
 
   at_read : (i : ℕ) → read (at i) ≡ at i
   at_read i = plain (at i) (omega (arith, small i))
 
   raised : (i : ℕ) → read (at i) +ℤ read s.args.h ≡ at i +ℤ pos H
-  raised i = ap₂ ◌+ℤ◌ (at_read i) (power-read s.args.k s.args.h s.pre.0 s.pre.1)
+  raised i = ap₂ ◌+ℤ◌ (at_read i) (power-read s.args.k s.args.h s.requires.0 s.requires.1)
 
   raised-size : (i : ℕ) → nat_abs (at i +ℤ pos H) ≤ 2 ^ 25
   raised-size i = omega (arith, sum-abs (at i) (pos H) (2 ^ 24) (2 ^ 6) (small i) H-scale.small)
@@ -78,27 +78,27 @@ module _ (s : tie.Start invariant-loop decreases-loop) where
 
 -- ---- the figures before a turn
 
-module _ (l : tie.At-loop invariant-loop decreases-loop) where
-  abbrev start : tie.Start invariant-loop decreases-loop
+module _ (l : tie.At-loop-i invariant-loop-i decreases-loop-i) where
+  abbrev start : tie.Start invariant-loop-i decreases-loop-i
   start = l.before
 
   abbrev sum : ℤ
-  sum = to_z w32 l.loop.sum
+  sum = to_z w32 l.loop-i.sum
 
   abbrev halves : ℤ
-  halves = to_z w32 l.loop.halves
+  halves = to_z w32 l.loop-i.halves
 
   abbrev total : ℤ
-  total = to_z w32 l.loop.sizes
+  total = to_z w32 l.loop-i.sizes
 
-  abbrev so_far : Summed (H start) (drop l.loop.i (block start)) (drop l.loop.i l.loop.r) sum halves total
-  so_far = l.loop.inv.1.1
+  abbrev so_far : Summed (H start) (drop l.loop-i.i (block start)) (drop l.loop-i.i l.loop-i.r) sum halves total
+  so_far = l.loop-i.invariant.1.1
 
   abbrev done : List ℤ
-  done = drop l.loop.i (block start)
+  done = drop l.loop-i.i (block start)
 
   done-within : Within (2 ^ 24) done
-  done-within = within-drop (2 ^ 24) l.loop.i (block start) start.pre.2
+  done-within = within-drop (2 ^ 24) l.loop-i.i (block start) start.requires.2
 
   done-length : length done ≤ 8
   done-length = simp length-drop (omega (arith, eight start))
@@ -115,15 +115,15 @@ module _ (l : tie.At-loop invariant-loop decreases-loop) where
 
 -- ---- one coordinate
 
-module _ (c : tie.After-floor invariant-loop decreases-loop) where
-  abbrev at-loop : tie.At-loop invariant-loop decreases-loop
+module _ (c : tie.After-floor-f invariant-loop-i decreases-loop-i) where
+  abbrev at-loop : tie.At-loop-i invariant-loop-i decreases-loop-i
   at-loop = c.before.before.before
 
-  abbrev s : tie.Start invariant-loop decreases-loop
+  abbrev s : tie.Start invariant-loop-i decreases-loop-i
   s = at-loop.before
 
   abbrev i : ℕ
-  i = at-loop.loop.i - 1
+  i = at-loop.loop-i.i - 1
 
   abbrev v : ℤ
   v = at s i
@@ -141,15 +141,15 @@ module _ (c : tie.After-floor invariant-loop decreases-loop) where
   off-low : nat_abs (v -ℤ near) ≤ 2 ^ 25
   off-low = off-one (H-scale s) v (small s i)
 
-  off-read : read c.floor.result ≡ v -ℤ near
-  off-read = tz (c.floor.ensures ∙ ap (λ (y : ℤ). y -ℤ pos (mod_z y (2 ^ (s.args.k + 1)))) (raised-read s i)
+  off-read : read c.floor-f.result ≡ v -ℤ near
+  off-read = tz (c.floor-f.ensures ∙ ap (λ (y : ℤ). y -ℤ pos (mod_z y (2 ^ (s.args.k + 1)))) (raised-read s i)
       ∙ off-floor (H s) (2 ^ (s.args.k + 1)) v (M-is s)) (fits (v -ℤ near) (omega (arith, off-low)))
 
-  near-is : read v -ℤ read c.floor.result ≡ near
+  near-is : read v -ℤ read c.floor-f.result ≡ near
   near-is = ap₂ ◌-ℤ◌ (at_read s i) off-read ∙ back v near
 
   abbrev value : ℤ
-  value = read (read v -ℤ read c.floor.result)
+  value = read (read v -ℤ read c.floor-f.result)
 
   value-is : value ≡ near
   value-is = tz near-is near_fits
@@ -157,14 +157,14 @@ module _ (c : tie.After-floor invariant-loop decreases-loop) where
   value_low : nat_abs value ≤ 2 ^ 7
   value_low = subst (λ (z : ℤ). nat_abs z ≤ 2 ^ 7) (sym value-is) (omega (arith, near-low))
 
-  sum_is : sum at-loop +ℤ read c.floor.result ≡ sum at-loop +ℤ (v -ℤ near)
+  sum_is : sum at-loop +ℤ read c.floor-f.result ≡ sum at-loop +ℤ (v -ℤ near)
   sum_is = ap (λ (z : ℤ). sum at-loop +ℤ z) off-read
 
   sum_fits : SFits w32 (sum at-loop +ℤ (v -ℤ near))
   sum_fits = fits _ (omega (arith, sum-abs (sum at-loop) (v -ℤ near) (2 ^ 28) (2 ^ 25) (sum-size at-loop) off-low))
 
-module _ (c : tie.After-floor2 invariant-loop decreases-loop) where
-  abbrev f : tie.After-floor invariant-loop decreases-loop
+module _ (c : tie.After-floor-halves invariant-loop-i decreases-loop-i) where
+  abbrev f : tie.After-floor-f invariant-loop-i decreases-loop-i
   f = c.before
 
   -- what comes off in the half part
@@ -174,38 +174,38 @@ module _ (c : tie.After-floor2 invariant-loop decreases-loop) where
   below-low : nat_abs below ≤ 2 ^ 25
   below-low = floor-one (H-scale (s f)) (v f) (small (s f) (i f))
 
-  below-read : read c.floor2.result ≡ below
-  below-read = tz (c.floor2.ensures ∙ ap₂ (λ y n. y -ℤ pos (mod_z y n)) (at_read (s f) (i f)) (M-is (s f))) (fits below (omega (arith, below-low)))
+  below-read : read c.floor-halves.result ≡ below
+  below-read = tz (c.floor-halves.ensures ∙ ap₂ (λ y n. y -ℤ pos (mod_z y n)) (at_read (s f) (i f)) (M-is (s f))) (fits below (omega (arith, below-low)))
 
-  halves-is : halves (at-loop f) +ℤ read c.floor2.result ≡ halves (at-loop f) +ℤ below
+  halves-is : halves (at-loop f) +ℤ read c.floor-halves.result ≡ halves (at-loop f) +ℤ below
   halves-is = ap (λ (z : ℤ). halves (at-loop f) +ℤ z) below-read
 
   halves-fits : SFits w32 (halves (at-loop f) +ℤ below)
   halves-fits = fits _ (omega (arith, sum-abs (halves (at-loop f)) below (2 ^ 28) (2 ^ 25) (halves-size (at-loop f)) below-low))
 
-module _ (c : tie.After-magnitude invariant-loop decreases-loop) where
-  abbrev g : tie.After-floor invariant-loop decreases-loop
+module _ (c : tie.After-magnitude-sizes invariant-loop-i decreases-loop-i) where
+  abbrev g : tie.After-floor-f invariant-loop-i decreases-loop-i
   g = c.before.before
 
-  size_is : total (at-loop g) +ℤ read c.magnitude.result ≡ total (at-loop g) +ℤ pos (nat_abs (value g))
-  size_is = ap (λ (z : ℤ). total (at-loop g) +ℤ z) (tz c.magnitude.ensures (fits (pos (nat_abs (value g))) (omega (arith, value_low g))))
+  size_is : total (at-loop g) +ℤ read c.magnitude-sizes.result ≡ total (at-loop g) +ℤ pos (nat_abs (value g))
+  size_is = ap (λ (z : ℤ). total (at-loop g) +ℤ z) (tz c.magnitude-sizes.ensures (fits (pos (nat_abs (value g))) (omega (arith, value_low g))))
 
   size_fits : SFits w32 (total (at-loop g) +ℤ pos (nat_abs (value g)))
   size_fits = fits _ (omega (arith, sum-abs (total (at-loop g)) (pos (nat_abs (value g))) (2 ^ 9) (2 ^ 7) (total_size (at-loop g)) (value_low g)))
 
 -- ---- the block that is left, and its ranks
 
-module _ (c : tie.After-loop invariant-loop decreases-loop) where
-  abbrev l : tie.At-loop invariant-loop decreases-loop
+module _ (c : tie.After-loop-i invariant-loop-i decreases-loop-i) where
+  abbrev l : tie.At-loop-i invariant-loop-i decreases-loop-i
   l = c.before
 
   abbrev rs : List ℤ
-  rs = l.loop.r
+  rs = l.loop-i.r
 
   all : Summed (H (start l)) (block (start l)) rs (sum l) (halves l) (total l)
   all =
       subst (λ (j : ℕ). Summed (H (start l)) (drop j (block (start l))) (drop j rs) (sum l) (halves l) (total l))
-      {x = l.loop.i} {y = 0} (omega (arith, c.loop-test.false)) (so_far l)
+      {x = l.loop-i.i} {y = 0} (omega (arith, c.loop-i-test.false)) (so_far l)
 
   rs-within : Within (2 ^ 7) rs
   rs-within = subst (Within (2 ^ 7)) (sym all.block) (rounded-within (H-scale (start l)) (block (start l)))
@@ -223,7 +223,7 @@ module _ (z : ℤ) (h : mag z < 2 ^ hbits w16) where
 
 -- ---- the needs
 
-loop-holds : tie.Need-loop-init invariant-loop decreases-loop
+loop-holds : tie.Need-loop-i-init invariant-loop-i decreases-loop-i
 loop-holds c = (
   omega arith,
   (
@@ -233,71 +233,71 @@ loop-holds c = (
   ),
 )
 
-sub-i : tie.Need-overflow-sub-i invariant-loop decreases-loop
+sub-i : tie.Need-overflow_sub-i invariant-loop-i decreases-loop-i
 sub-i c = omega arith
 
-mul-v : tie.Need-overflow-mul-v invariant-loop decreases-loop
+mul-v : tie.Need-offset_bounds-x-i invariant-loop-i decreases-loop-i
 mul-v c = search rules
 
-array-copy-out-v : tie.Need-array-copy-out-v invariant-loop decreases-loop
+array-copy-out-v : tie.Need-bounds-x-i invariant-loop-i decreases-loop-i
 array-copy-out-v c = search rules
 
-add-floor : tie.Need-overflow-add-floor invariant-loop decreases-loop
+add-floor : tie.Need-overflow_add-k invariant-loop-i decreases-loop-i
 add-floor c = search rules
 
-add-floor-2 : tie.Need-overflow-add-floor-2 invariant-loop decreases-loop
+add-floor-2 : tie.Need-overflow_add-v invariant-loop-i decreases-loop-i
 add-floor-2 c =
     let l = c.before.before in
-    sfits-to (raised l.before (l.loop.i - 1)) (raised-fits l.before (l.loop.i - 1))
+    sfits-to (raised l.before (l.loop-i.i - 1)) (raised-fits l.before (l.loop-i.i - 1))
 
-floor-requires : tie.Need-floor-requires invariant-loop decreases-loop
+floor-requires : tie.Need-floor-f-requires invariant-loop-i decreases-loop-i
 floor-requires c κs =
     let l = c.before.before in
     let s = l.before in
-    let i = l.loop.i - 1 in
+    let i = l.loop-i.i - 1 in
     (omega (arith, s.requires.0), subst (λ (z : ℤ). nat_abs z ≤ 2 ^ 30) (sym (raised-read s i)) (omega (arith, raised-size s i)))
 
-sub-c : tie.Need-overflow-sub-c invariant-loop decreases-loop
+sub-c : tie.Need-overflow_sub-c invariant-loop-i decreases-loop-i
 sub-c c = sfits-to (near-is c) (near_fits c)
 
-mul-r : tie.Need-overflow-mul-r invariant-loop decreases-loop
+mul-r : tie.Need-offset_bounds-r-i invariant-loop-i decreases-loop-i
 mul-r c = search rules
 
-array-set-from-r : tie.Need-array-set-from-r invariant-loop decreases-loop
+array-set-from-r : tie.Need-bounds-r-i invariant-loop-i decreases-loop-i
 array-set-from-r c = search rules
 
-add-sum : tie.Need-overflow-add-sum invariant-loop decreases-loop
+add-sum : tie.Need-overflow_add-sum invariant-loop-i decreases-loop-i
 add-sum c = sfits-to (sum_is c) (sum_fits c)
 
-add-floor-3 : tie.Need-overflow-add-floor-3 invariant-loop decreases-loop
+add-floor-3 : tie.Need-overflow_add-k-in-loop-i invariant-loop-i decreases-loop-i
 add-floor-3 c = search rules
 
-floor-requires-2 : tie.Need-floor-requires-2 invariant-loop decreases-loop
+floor-requires-2 : tie.Need-floor-halves-requires invariant-loop-i decreases-loop-i
 floor-requires-2 c κs =
     (omega (arith, (s c).requires.0), subst (λ (z : ℤ). nat_abs z ≤ 2 ^ 30) (sym (at_read (s c) (i c))) (omega (arith, small (s c) (i c))))
 
-add-halves : tie.Need-overflow-add-halves invariant-loop decreases-loop
+add-halves : tie.Need-overflow_add-halves invariant-loop-i decreases-loop-i
 add-halves c = sfits-to (halves-is c) (halves-fits c)
 
-magnitude-requires : tie.Need-magnitude-requires invariant-loop decreases-loop
+magnitude-requires : tie.Need-magnitude-sizes-requires invariant-loop-i decreases-loop-i
 magnitude-requires c κs = omega (arith, value_low c.before)
 
-add-sizes : tie.Need-overflow-add-sizes invariant-loop decreases-loop
+add-sizes : tie.Need-overflow_add-sizes invariant-loop-i decreases-loop-i
 add-sizes c = sfits-to (size_is c) (size_fits c)
 
-loop-less : tie.Need-loop-smaller invariant-loop decreases-loop
+loop-less : tie.Need-loop-i-smaller invariant-loop-i decreases-loop-i
 loop-less c = omega arith
 
-loop-again : tie.Need-loop-preserved invariant-loop decreases-loop
+loop-again : tie.Need-loop-i-preserved invariant-loop-i decreases-loop-i
 loop-again c =
     let b = c.before in
     let f = b.before in
     let l = at-loop f in (
-      omega (arith, l.loop.inv.0),
+      omega (arith, l.loop-i.invariant.0),
       (
-        length-set l.loop.r (i f) _ ∙ l.loop.inv.1.0,
-        summed_turn (H (s f)) (block (s f)) l.loop.r (sum l) (halves l) (total l) (v f) (value f) _ _ _ l.loop.i (i f)
-            (omega (arith, f.before.before.loop-test.true)) l.loop.inv.0 (eight (s f)) l.loop.inv.1.0 refl (value-is f)
+        length-set l.loop-i.r (i f) _ ∙ l.loop-i.invariant.1.0,
+        summed_turn (H (s f)) (block (s f)) l.loop-i.r (sum l) (halves l) (total l) (v f) (value f) _ _ _ l.loop-i.i (i f)
+            (omega (arith, f.before.before.loop-i-test.true)) l.loop-i.invariant.0 (eight (s f)) l.loop-i.invariant.1.0 refl (value-is f)
             (tz (sum_is f) (sum_fits f) ∙ ap (λ (z : ℤ). sum l +ℤ (v f -ℤ z)) (sym (value-is f)))
             (tz (halves-is b) (halves-fits b))
             (tz (size_is c) (size_fits c))
@@ -305,44 +305,44 @@ loop-again c =
       ),
     )
 
-ranks-requires : tie.Need-ranks-requires invariant-loop decreases-loop
+ranks-requires : tie.Need-ranks-requires invariant-loop-i decreases-loop-i
 ranks-requires c κs = rs-within c
 
-largest-requires : tie.Need-largest-requires invariant-loop decreases-loop
+largest-requires : tie.Need-largest-requires invariant-loop-i decreases-loop-i
 largest-requires c κs = search rules
 
-cast-t25 : tie.Need-overflow-cast-t25 invariant-loop decreases-loop
-cast-t25 c = sfits-to (narrow c.largest.result c.largest.type-inv) (wide_fits c.largest.result c.largest.type-inv)
+cast-t25 : tie.Need-overflow_cast-result invariant-loop-i decreases-loop-i
+cast-t25 c = sfits-to (narrow c.largest.result c.largest.type_inv) (wide_fits c.largest.result c.largest.type_inv)
 
-ranks-requires-2 : tie.Need-ranks-requires-2 invariant-loop decreases-loop
+ranks-requires-2 : tie.Need-ranks-requires-2 invariant-loop-i decreases-loop-i
 ranks-requires-2 c κs = rs-within c.before.before
 
-smallest-requires : tie.Need-smallest-requires invariant-loop decreases-loop
+smallest-requires : tie.Need-smallest-requires invariant-loop-i decreases-loop-i
 smallest-requires c κs = search rules
 
-cast-t29 : tie.Need-overflow-cast-t29 invariant-loop decreases-loop
-cast-t29 c = sfits-to (narrow c.smallest.result c.smallest.type-inv) (wide_fits c.smallest.result c.smallest.type-inv)
+cast-t29 : tie.Need-overflow_cast-result-2 invariant-loop-i decreases-loop-i
+cast-t29 c = sfits-to (narrow c.smallest.result c.smallest.type_inv) (wide_fits c.smallest.result c.smallest.type_inv)
 
-returns : tie.Need-returns invariant-loop decreases-loop
+returns : tie.Need-returns invariant-loop-i decreases-loop-i
 returns c =
     let t = c.before.before in
     let e = t.before.before in
-    let some : 0 < length (rs e) = omega (arith, (l e).loop.invariant.1.0) in
+    let some : 0 < length (rs e) = omega (arith, (l e).loop-i.invariant.1.0) in
     record {
       block = (all e).block;
       whole = (all e).whole;
       half = (all e).half;
       size = (all e).size;
-      top = wide t.largest.result t.largest.type-inv ∙ t.largest.ensures ∙ ap (among larger_of) t.before.ranks.ensures ∙ top-is (rs e) 0 some;
-      low = wide c.smallest.result c.smallest.type-inv ∙ c.smallest.ensures ∙ ap (among smaller_of) c.before.ranks2.ensures ∙ low-is (rs e) 0 some;
+      top = wide t.largest.result t.largest.type_inv ∙ t.largest.ensures ∙ ap (among larger_of) t.before.ranks.ensures ∙ top-is (rs e) 0 some;
+      low = wide c.smallest.result c.smallest.type_inv ∙ c.smallest.ensures ∙ ap (among smaller_of) c.before.ranks-2.ensures ∙ low-is (rs e) 0 some;
     }
 
-pub round-spec : {M : Type 1} → statement M
-round-spec =
+pub round_spec : {M : Type 1} → statement M
+round_spec =
     tie.close
     (tie.spec
-    invariant-loop
-    decreases-loop
+    invariant-loop-i
+    decreases-loop-i
     loop-holds
     sub-i
     mul-v

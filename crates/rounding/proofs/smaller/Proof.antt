@@ -6,15 +6,15 @@ use Rattle.integers.proofs.Zed.{tz}
 use Rattle.rounding.proofs.smaller.Statement.{statement}
 use Rattle.rounding.proofs.smaller.Tie as tie
 
-returns : tie.Need-returns
+returns : tie.Need-returns-then-a-b
 returns c =
     let s = c.before in
-    tz refl s.ranges.a ∙ sym (ap (λ t. cond t s.args.a s.args.b) (sym (ap₂ lt_z (tz refl s.ranges.a) (tz refl s.ranges.b)) ∙ c.if1.true))
+    tz refl s.ranges.a ∙ sym (ap (λ t. cond t s.args.a s.args.b) (sym (ap₂ lt_z (tz refl s.ranges.a) (tz refl s.ranges.b)) ∙ c.if-a-b.true))
 
-returns-2 : tie.Need-returns-2
+returns-2 : tie.Need-returns-else-a-b
 returns-2 c =
     let s = c.before in
-    tz refl s.ranges.b ∙ sym (ap (λ t. cond t s.args.a s.args.b) (sym (ap₂ lt_z (tz refl s.ranges.a) (tz refl s.ranges.b)) ∙ c.if1.false))
+    tz refl s.ranges.b ∙ sym (ap (λ t. cond t s.args.a s.args.b) (sym (ap₂ lt_z (tz refl s.ranges.a) (tz refl s.ranges.b)) ∙ c.if-a-b.false))
 
-pub smaller-spec : {M : Type 1} → statement M
-smaller-spec = tie.close (tie.spec returns returns-2)
+pub smaller_spec : {M : Type 1} → statement M
+smaller_spec = tie.close (tie.spec returns returns-2)

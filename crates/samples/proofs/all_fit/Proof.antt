@@ -13,50 +13,50 @@ use Rattle.samples.proofs.Samples.{fit-more}
 use Rattle.samples.proofs.all_fit.Statement.{statement}
 use Rattle.samples.proofs.all_fit.Tie as tie
 
-abbrev invariant-loop : tie.invariant-loop
-invariant-loop samples out₀ i₀ out i = out ≡ cond (all_fit (take i samples)) 0 1
+abbrev invariant-loop-i : tie.invariant-loop-i
+invariant-loop-i samples out₀ i₀ out i = out ≡ cond (all_fit (take i samples)) 0 1
 
-abbrev decreases-loop : tie.decreases-loop
-decreases-loop samples out₀ i₀ out i = length samples - i
+abbrev decreases-loop-i : tie.decreases-loop-i
+decreases-loop-i samples out₀ i₀ out i = length samples - i
 
-loop-holds : tie.Need-loop-init invariant-loop decreases-loop
+loop-holds : tie.Need-loop-i-init invariant-loop-i decreases-loop-i
 unfolding all_fit
 loop-holds c = refl
 
-mul-x : tie.Need-overflow-mul-x invariant-loop decreases-loop
+mul-x : tie.Need-offset_bounds-samples-i invariant-loop-i decreases-loop-i
 mul-x c = search rules
 
-shared-slice-read-x : tie.Need-shared-slice-read-x invariant-loop decreases-loop
+shared-slice-read-x : tie.Need-bounds-samples-i invariant-loop-i decreases-loop-i
 shared-slice-read-x c = search rules
 
-unfit-requires : tie.Need-unfit-requires invariant-loop decreases-loop
+unfit-requires : tie.Need-unfit-out-requires invariant-loop-i decreases-loop-i
 unfit-requires c κs = search rules
 
-add-i : tie.Need-overflow-add-i invariant-loop decreases-loop
+add-i : tie.Need-overflow_add-i invariant-loop-i decreases-loop-i
 add-i c = search rules
 
-loop-less : tie.Need-loop-smaller invariant-loop decreases-loop
+loop-less : tie.Need-loop-i-smaller invariant-loop-i decreases-loop-i
 loop-less c = search rules
 
-loop-again : tie.Need-loop-preserved invariant-loop decreases-loop
+loop-again : tie.Need-loop-i-preserved invariant-loop-i decreases-loop-i
 loop-again c =
     let t = c.before.before in
     let l = t.before in
     let xs = l.before.before.args.samples.now in
-    ap₂ bit_or l.loop.invariant c.unfit.ensures ∙ fit-more xs l.loop.i t.loop-test.true
+    ap₂ bit_or l.loop-i.invariant c.unfit-out.ensures ∙ fit-more xs l.loop-i.i t.loop-i-test.true
 
-returns : tie.Need-returns invariant-loop decreases-loop
+returns : tie.Need-returns invariant-loop-i decreases-loop-i
 returns c =
-    let l = c.before.loop in
+    let l = c.before.loop-i in
     let xs = c.before.before.before.args.samples.now in
-    ap (λ (y : ℕ). eqb y 0) l.invariant ∙ all-passed (all_fit (take l.i xs)) ∙ ap all_fit (take_all l.i xs c.loop-test.false)
+    ap (λ (y : ℕ). eqb y 0) l.invariant ∙ all-passed (all_fit (take l.i xs)) ∙ ap all_fit (take_all l.i xs c.loop-i-test.false)
 
-pub all-fit-spec : {M : Type 1} → statement M
-all-fit-spec =
+pub all_fit_spec : {M : Type 1} → statement M
+all_fit_spec =
     tie.close
     (tie.spec
-    invariant-loop
-    decreases-loop
+    invariant-loop-i
+    decreases-loop-i
     loop-holds
     mul-x
     shared-slice-read-x

@@ -24,22 +24,22 @@ module _ (s : tie.Start) where
   y = mul binary32 (add binary32 x (of_bits binary32 1195376640)) (of_bits binary32 1132462080)
 
   count : T (in_signed binary32 31 y) × (to_signed 31 y -ℤ pos 12582912 ≡ sample_in_256ths x)
-  count = rw (const-middle, const-256) (moved-count x s.pre)
+  count = rw (const-middle, const-256) (moved-count x s.requires)
 
   result : to_z w32 (of_z w32 (to_signed 31 y)) -ℤ pos 12582912 ≡ sample_in_256ths x
   result = ap (λ (z : ℤ). z -ℤ pos 12582912) (tz {w = w32} {z = to_signed 31 y} refl (record { sfits = to_signed_in 31 y })) ∙ count.1
 
   result_fits : SFits w32 (sample_in_256ths x)
-  result_fits = fits (sample_in_256ths x) (omega (arith, fit_small x s.pre))
+  result_fits = fits (sample_in_256ths x) (omega (arith, fit_small x s.requires))
 
-float-to-int-result : tie.Need-float-to-int-result
+float-to-int-result : tie.Need-float_to_int-result
 float-to-int-result c = (count c.before).0
 
 returns : tie.Need-returns
 returns c = tz (result c.before) (result_fits c.before)
 
-sub-result : tie.Need-overflow-sub-result
+sub-result : tie.Need-overflow_sub-result
 sub-result c = sfits-to (result c.before) (result_fits c.before)
 
-pub to-256ths-spec : {M : Type 1} → statement M
-to-256ths-spec = tie.close (tie.spec float-to-int-result sub-result returns)
+pub to_256ths_spec : {M : Type 1} → statement M
+to_256ths_spec = tie.close (tie.spec float-to-int-result sub-result returns)

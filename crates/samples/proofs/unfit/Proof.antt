@@ -10,13 +10,13 @@ use Rattle.samples.proofs.Moved.{fit-test}
 use Rattle.samples.proofs.unfit.Statement.{statement}
 use Rattle.samples.proofs.unfit.Tie as tie
 
-cast-low : tie.Need-overflow-cast-low
+cast-low : tie.Need-overflow_cast-low
 cast-low c = search rules
 
-cast-high : tie.Need-overflow-cast-high
+cast-high : tie.Need-overflow_cast-high
 cast-high c = search rules
 
-cast_same : tie.Need-overflow-cast-same
+cast_same : tie.Need-overflow_cast-same
 cast_same c = search rules
 
 at_most_one : (l h e : Bool) → bit_and (bit_and (bool_byte l) (bool_byte h)) (bool_byte e) ≤ 1
@@ -25,11 +25,11 @@ at_most_one true false e = omega arith
 at_most_one true true false = omega arith
 at_most_one true true true = omega arith
 
-sub-result : tie.Need-overflow-sub-result
+sub-result : tie.Need-overflow_sub-result
 sub-result c = search at_most_one
 
 returns : tie.Need-returns
 returns c = rw (const-least, const-middle, const-most) (fit-test c.args.x)
 
-pub unfit-spec : {M : Type 1} → statement M
-unfit-spec = tie.close (tie.spec cast-low cast-high cast_same sub-result returns)
+pub unfit_spec : {M : Type 1} → statement M
+unfit_spec = tie.close (tie.spec cast-low cast-high cast_same sub-result returns)
