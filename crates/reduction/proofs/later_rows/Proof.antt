@@ -70,14 +70,14 @@ module _ (c : tie.After-remainder-s invariant-loop-i decreases-loop-i) where
   z = at start i
 
   abbrev q : ℤ
-  q = to_z w32 at-loop.loop-i.q
+  q = to_z w32 at-loop.loop-i.q-bits
 
   abbrev m : ℕ
   m = mod_z z (2 * h start)
 
   rest : read c.remainder-s.result ≡ pos m
   rest =
-      tz refl (record { sfits = c.remainder-s.type_inv }) ∙ c.remainder-s.ensures
+      tz {w = w32} refl (record { sfits = c.remainder-s.type_inv }) ∙ c.remainder-s.ensures
       ∙ ap₂ (λ a n. pos (mod_z a n)) (is start i) (double start.args.k)
 
   z-size : nat_abs (read z) ≤ 2 ^ 26
@@ -99,7 +99,7 @@ module _ (c : tie.After-z-2-1 invariant-loop-i decreases-loop-i) where
   ended = c.before.before
 
   abbrev off : ℤ
-  off = to_z w32 ended.loop-i.q
+  off = to_z w32 ended.loop-i.q-bits
 
   abbrev y : ℤ
   y = at ended.before 7
@@ -192,7 +192,7 @@ returns c =
     let l = ended p in
     let s = l.before in
     rows_last (h-scale s) (eight s) l.loop-i.invariant.1.1 _ (omega arith)
-    (tz refl (record { sfits = c.remainder-s-2.type_inv }) ∙ c.remainder-s-2.ensures
+    (tz {w = w32} refl (record { sfits = c.remainder-s-2.type_inv }) ∙ c.remainder-s-2.ensures
     ∙ ap₂ (λ a n. pos (mod_z a n)) (tz (last p) (last_fits p)) (quadruple s.args.k))
 
 pub later_rows_spec : {M : Type 1} → statement M

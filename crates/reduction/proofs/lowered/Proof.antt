@@ -35,7 +35,7 @@ module _ (s : tie.Start invariant-loop-i decreases-loop-i) where
   long = lowered-length (read s.args.h) s.args.x ∙ eight
 
   height : read s.args.h ≡ s.args.h
-  height = tz refl s.fits.h
+  height = tz refl s.ranges.h
 
   abbrev at : ℕ → ℤ
   at i = get_or s.args.x i (pos 0)

@@ -59,7 +59,7 @@ module _ (c : tie.After-remainder-s) where
   n = mod_z (x start) (2 ^ start.args.k)
 
   rest : read c.remainder-s.result ≡ pos n
-  rest = tz refl (record { sfits = c.remainder-s.type_inv }) ∙ c.remainder-s.ensures ∙ ap (λ (z : ℤ). pos (mod_z z (2 ^ start.args.k))) (is start)
+  rest = tz {w = w32} refl (record { sfits = c.remainder-s.type_inv }) ∙ c.remainder-s.ensures ∙ ap (λ (z : ℤ). pos (mod_z z (2 ^ start.args.k))) (is start)
 
   rest-size : nat_abs (read c.remainder-s.result) ≤ 2 ^ 24
   rest-size =

@@ -28,7 +28,7 @@ array-copy-out-m c = search rules
 loop-holds : tie.Need-loop-i-init invariant-loop-i decreases-loop-i
 loop-holds c =
     let s = c.before in
-    (omega arith, tz refl (record { sfits = c.m-1.given }) ∙ among-last larger_of s.args.r 7 (sym (eight s)))
+    (omega arith, tz {w = w16} refl (record { sfits = c.m-1.given }) ∙ among-last larger_of s.args.r 7 (sym (eight s)))
 
 sub-i : tie.Need-overflow_sub-i invariant-loop-i decreases-loop-i
 sub-i c = omega arith
@@ -52,8 +52,8 @@ loop-again c =
     let j = l.loop-i.i - 1 in
     let next : l.loop-i.i ≡ suc j = omega arith in (
       omega arith,
-      tz refl (record { sfits = c.larger-m.type_inv }) ∙ c.larger-m.ensures
-          ∙ ap₂ larger_of (l.loop-i.invariant.1 ∙ ap (λ (n : ℕ). among larger_of (drop n r)) next) (tz refl (record { sfits = c.before.a-1.given }))
+      tz {w = w16} refl (record { sfits = c.larger-m.type_inv }) ∙ c.larger-m.ensures
+          ∙ ap₂ larger_of (l.loop-i.invariant.1 ∙ ap (λ (n : ℕ). among larger_of (drop n r)) next) (tz {w = w16} refl (record { sfits = c.before.a-1.given }))
           ∙ among-more larger_of r j (omega (arith, eight l.before.before)),
     )
 

@@ -1,7 +1,6 @@
 -- `rank` meets its contract
 use mathlib.Core.Path.{◌≡◌, refl, sym, ◌∙◌, ap, ap₂, subst}
 use mathlib.Core.Bool.{Bool, true, false, cond}
-use mathlib.Core.Logic.{⊎_elim}
 use Prim.Native.Nat.{ℕ, ◌*◌, ◌-◌, ◌^◌, ◌≤◌}
 use native.Mathlib.Omega.{arith}
 use lib.IntN.{ℤ, pos, ◌+ℤ◌, ◌-ℤ◌, ◌*ℤ◌, nat_abs}
@@ -15,6 +14,7 @@ use Rattle.mending.specs.Rounded.{rank_of}
 use Rattle.coordinates.proofs.Size.{fits, sum-abs, less-abs}
 use Rattle.coordinates.proofs.Reading.{read, plain_size}
 use Rattle.rounding.proofs.Ranking.{rank-low}
+use Rattle.rounding.proofs.rank.Lts.{then-c-lt0, else-c-lt0}
 use Rattle.rounding.proofs.rank.Statement.{statement}
 use Rattle.rounding.proofs.rank.Tie as tie
 
@@ -39,7 +39,7 @@ module _ (s : tie.Start) where
   i = s.args.i
 
   number : read z ≡ z
-  number = tz refl s.fits.c
+  number = tz refl s.ranges.c
 
   index : to_z w32 i ≡ pos i
   index = to_z_pos w32 (omega (arith, s.requires.1))
@@ -74,16 +74,21 @@ module _ (c : tie.Joined-c-lt0) where
   s = c.before.before
 
   -- what is added for the sign and the place
-  last-size : nat_abs (to_z w32 c.if-c-lt0.result) ≤ 30
+  last-size : nat_abs (to_z w32 c.if-c-lt0.result-bits) ≤ 30
   last-size =
-      ⊎_elim (λ w. subst (λ (n : ℕ). nat_abs (to_z w32 n) ≤ 30) (sym w.1) (omega (arith, index-size s)))
-      (λ w. subst (λ (n : ℕ). nat_abs (to_z w32 n) ≤ 30) (sym w.1) (search (less-read, index-size s, rules))) c.if-c-lt0.branch
+      elim c.if-c-lt0.branch [
+        then-c-lt0 w ↦ subst (λ (n : ℤ). nat_abs n ≤ 30) (sym w.result-is) (omega (arith, index-size s))
+        | else-c-lt0 w ↦ subst (λ (n : ℤ). nat_abs n ≤ 30) (sym w.result-is) (search (less-read, index-size s, rules))
+      ]
 
-  last-is : to_z w32 c.if-c-lt0.result ≡ pos (cond (lt_z (z s) (pos 0)) (i s) (15 - i s))
+  last-is : to_z w32 c.if-c-lt0.result-bits ≡ pos (cond (lt_z (z s) (pos 0)) (i s) (15 - i s))
   last-is =
       let by : (t : Bool) → lt_z (read (z s)) (pos 0) ≡ t → pos (cond t (i s) (15 - i s)) ≡ pos (cond (lt_z (z s) (pos 0)) (i s) (15 - i s)) =
       λ t h. ap (λ b. pos (cond b (i s) (15 - i s))) (sym (rw (number s) at h)) in
-      ⊎_elim (λ w. ap (to_z w32) w.1 ∙ index s ∙ by true w.0.taken) (λ w. ap (to_z w32) w.1 ∙ behind s ∙ by false w.0.left) c.if-c-lt0.branch
+      elim c.if-c-lt0.branch [
+        then-c-lt0 w ↦ w.result-is ∙ index s ∙ by true w.if-c-lt0.true
+        | else-c-lt0 w ↦ w.result-is ∙ behind s ∙ by false w.if-c-lt0.false
+      ]
 
 cast-j : tie.Need-overflow_cast-j
 cast-j c = search rules
@@ -98,7 +103,7 @@ sub-result : tie.Need-overflow_sub-result
 sub-result c = sfits-to refl (search (less-fits, index-size c.before.before, rules))
 
 add-result : tie.Need-overflow_add-result
-add-result c = sum_fits (read (pos 16 *ℤ read c.before.magnitude.result)) (to_z w32 c.if-c-lt0.result) (sixteen-size c.before) (last-size c)
+add-result c = sum_fits (read (pos 16 *ℤ read c.before.magnitude.result)) (to_z w32 c.if-c-lt0.result-bits) (sixteen-size c.before) (last-size c)
 
 returns : tie.Need-returns
 returns c =

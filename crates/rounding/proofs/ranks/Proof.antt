@@ -4,7 +4,7 @@ use Prim.Native.Nat.{ℕ, ◌+◌, ◌-◌, ◌^◌, ◌<◌, ◌≤◌}
 use native.Mathlib.Omega.{arith}
 use lib.IntN.{ℤ, pos, nat_abs}
 use lib.ListN.{length, get_or}
-use mir.Syntax.{w16}
+use mir.Syntax.{w32, w16}
 use mir.Val.{SFits}
 use borrow.Author.Rules.{rules}
 use Rattle.integers.proofs.Zed.{#◌, tz, sfits!, sfits-to}
@@ -53,7 +53,7 @@ module _ (c : tie.After-rank invariant-loop-i decreases-loop-i) where
   n = rank_of (z s i) i
 
   rank_is : read c.rank.result ≡ pos n
-  rank_is = tz refl (record { sfits = c.rank.type_inv }) ∙ c.rank.ensures ∙ ap (λ (y : ℤ). pos (rank_of y i)) (plain (z s i) (omega (arith, small s i)))
+  rank_is = tz {w = w32} refl (record { sfits = c.rank.type_inv }) ∙ c.rank.ensures ∙ ap (λ (y : ℤ). pos (rank_of y i)) (plain (z s i) (omega (arith, small s i)))
 
   rank-fits : SFits w16 (pos n)
   rank-fits = sfits! w16 (# n) (omega (arith, rank-low (z s i) i (small s i) (omega arith))) (omega arith)

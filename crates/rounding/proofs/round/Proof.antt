@@ -83,13 +83,13 @@ module _ (l : tie.At-loop-i invariant-loop-i decreases-loop-i) where
   start = l.before
 
   abbrev sum : ℤ
-  sum = to_z w32 l.loop-i.sum
+  sum = to_z w32 l.loop-i.sum-bits
 
   abbrev halves : ℤ
-  halves = to_z w32 l.loop-i.halves
+  halves = to_z w32 l.loop-i.halves-bits
 
   abbrev total : ℤ
-  total = to_z w32 l.loop-i.sizes
+  total = to_z w32 l.loop-i.sizes-bits
 
   abbrev so_far : Summed (H start) (drop l.loop-i.i (block start)) (drop l.loop-i.i l.loop-i.r) sum halves total
   so_far = l.loop-i.invariant.1.1
@@ -213,7 +213,7 @@ module _ (c : tie.After-loop-i invariant-loop-i decreases-loop-i) where
 -- a number of 16 bits, read as one of 32
 module _ (z : ℤ) (h : mag z < 2 ^ hbits w16) where
   narrow : to_z w16 (of_z w16 z) ≡ z
-  narrow = tz refl (record { sfits = h })
+  narrow = tz {w = w16} refl (record { sfits = h })
 
   wide_fits : SFits w32 z
   wide_fits = record { sfits = omega arith }

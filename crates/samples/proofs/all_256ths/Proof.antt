@@ -1,4 +1,5 @@
 -- `all_256ths`: the samples below i are written. Assumes nothing.
+use mir.Syntax.{w32}
 use Prim.Native.Nat.{◌-◌}
 use mathlib.Core.Path.{◌≡◌, refl, sym, ◌∙◌}
 use native.Mathlib.Omega.{arith}
@@ -57,7 +58,7 @@ loop-again c =
     let l = t.before.loop-i in
     let xs = t.before.before.before.args.samples.now in
     filled_next (pos 0) (samples_in_256ths xs) l.out l.i _ l.invariant (omega (arith, t.loop-i-test.true, samples-length xs))
-    (tz refl (record { sfits = c.to_256ths-z.type_inv }) ∙ c.to_256ths-z.ensures ∙ sym (samples-at xs l.i))
+    (tz {w = w32} refl (record { sfits = c.to_256ths-z.type_inv }) ∙ c.to_256ths-z.ensures ∙ sym (samples-at xs l.i))
 
 same_length : tie.Need-shape_of-out invariant-loop-i decreases-loop-i
 same_length c = c.before.loop-i.invariant.long ∙ long c.before.before.before
