@@ -1,4 +1,6 @@
 // The tests that sending makes, in their order.
+#![tactic(auto)]
+
 ghost use Rattle.std.specs.Prelude.{◌≡◌, true, ◌≤◌, length};
 ghost use Rattle.frames.specs.Sending.{free_set, send_refusal};
 ghost use Rattle.frames.specs.Kind.{is_kind, message_bytes};

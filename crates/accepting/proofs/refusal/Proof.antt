@@ -14,80 +14,80 @@ use Rattle.accepting.proofs.refusal.Statement.{statement}
 use Rattle.accepting.proofs.refusal.Tie as tie
 
 -- what the tests passed say, one after the other
-good : (c : tie.Else1) → let s = c.before.before.before.args in (is_kind s.kind ≡ true) × (is_grade s.grade ≡ true)
-good c = let s = c.before.before.before.args in good-row s.kind s.grade (sym c.before.refusal.ensures ∙ c.if1.false)
+good : (c : tie.Else-no-ne0) → let s = c.before.before.before.args in (is_kind s.kind ≡ true) × (is_grade s.grade ≡ true)
+good c = let s = c.before.before.before.args in good-row s.kind s.grade (sym c.before.refusal-no.ensures ∙ c.if-no-ne0.false)
 
-few : (c : tie.Else2) → c.before.before.before.before.args.free ≤ 4
-few c = omega (arith, c.if2.false)
+few : (c : tie.Else-free-gt4) → c.before.before.before.before.args.free ≤ 4
+few c = omega (arith, c.if-free-gt4.false)
 
-long : (c : tie.Else3) → let s = c.before.before.before.before.before.before.args in length s.message.now ≡ message_bytes s.kind s.grade
-long c = c.if3.false ∙ c.before.message-bytes.ensures
+long : (c : tie.Else-message-message_bytes) → let s = c.before.before.before.before.before.before.args in length s.message.now ≡ message_bytes s.kind s.grade
+long c = c.if-message-message_bytes.false ∙ c.before.message-bytes.ensures
 
-refusal-requires : tie.Need-refusal-requires
+refusal-requires : tie.Need-refusal-no-requires
 refusal-requires c κs = search rules
 
-returns : tie.Need-returns
+returns : tie.Need-returns-then-no-ne0
 unfolding send_refusal
-returns c = let s = c.before.before.before.args in wrong_row s.kind s.grade _ c.before.refusal.result c.before.refusal.ensures
-    c.if1.true
+returns c = let s = c.before.before.before.args in wrong_row s.kind s.grade _ c.before.refusal-no.result c.before.refusal-no.ensures
+    c.if-no-ne0.true
 
-returns-2 : tie.Need-returns-2
+returns-2 : tie.Need-returns-then-free-gt4
 returns-2 c =
     let d = c.before in
     let s = d.before.before.before.args in
-    many-free s.kind s.grade s.free s.message.now s.n (good d) (omega (arith, c.if2.true))
+    many-free s.kind s.grade s.free s.message.now s.n (good d) (omega (arith, c.if-free-gt4.true))
 
-message-bytes-requires : tie.Need-message-bytes-requires
+message-bytes-requires : tie.Need-message_bytes-requires
 message-bytes-requires c κs = let g = good c.before in (g.0, grade-high _ g.1)
 
-returns-3 : tie.Need-returns-3
+returns-3 : tie.Need-returns-then-message-message_bytes
 returns-3 c =
     let w = c.before.before in
     let d = w.before in
     let s = d.before.before.before.args in
-    other-bytes s.kind s.grade s.free s.message.now s.n (good d) (few w) (λ e. c.if3.true (e ∙ sym c.before.message-bytes.ensures))
+    other-bytes s.kind s.grade s.free s.message.now s.n (good d) (few w) (λ e. c.if-message-message_bytes.true (e ∙ sym c.before.message-bytes.ensures))
 
 positions-requires : tie.Need-positions-requires
 positions-requires c κs = (good c.before.before.before).0
 
-returns-4 : tie.Need-returns-4
+returns-4 : tie.Need-returns-then-n-positions
 returns-4 c =
     let e = c.before.before in
     let w = e.before.before in
     let d = w.before in
     let s = d.before.before.before.args in
     other_length s.kind s.grade s.free s.message.now s.n (good d) (few w) (long e)
-    (λ q. c.if4.true (q ∙ sym c.before.positions.ensures))
+    (λ q. c.if-n-positions.true (q ∙ sym c.before.positions.ensures))
 
-free-set-requires : tie.Need-free-set-requires
+free-set-requires : tie.Need-free_set-requires
 free-set-requires c κs =
     let e = c.before.before in
     let w = e.before.before in
     let g = good w.before in
     (g.0, grade-low _ g.1, grade-high _ g.1, few w, long e)
 
-returns-5 : tie.Need-returns-5
+returns-5 : tie.Need-returns-then-free_set
 returns-5 c =
     let q = c.before.before in
     let e = q.before.before in
     let w = e.before.before in
     let d = w.before in
     let s = d.before.before.before.args in
-    free-decides s.kind s.grade s.free s.message.now s.n (good d) (few w) (long e) (q.if4.false ∙ q.before.positions.ensures)
-    true (sym c.before.free-set.ensures ∙ c.if5.true)
+    free-decides s.kind s.grade s.free s.message.now s.n (good d) (few w) (long e) (q.if-n-positions.false ∙ q.before.positions.ensures)
+    true (sym c.before.free-set.ensures ∙ c.if-free_set.true)
 
-returns-6 : tie.Need-returns-6
+returns-6 : tie.Need-returns
 returns-6 c =
     let q = c.before.before in
     let e = q.before.before in
     let w = e.before.before in
     let d = w.before in
     let s = d.before.before.before.args in
-    free-decides s.kind s.grade s.free s.message.now s.n (good d) (few w) (long e) (q.if4.false ∙ q.before.positions.ensures)
-    false (sym c.before.free-set.ensures ∙ c.if5.false)
+    free-decides s.kind s.grade s.free s.message.now s.n (good d) (few w) (long e) (q.if-n-positions.false ∙ q.before.positions.ensures)
+    false (sym c.before.free-set.ensures ∙ c.if-free_set.false)
 
-pub refusal-spec : {M : Type 1} → statement M
-refusal-spec =
+pub refusal_spec : {M : Type 1} → statement M
+refusal_spec =
     tie.close
     (tie.spec
     refusal-requires
