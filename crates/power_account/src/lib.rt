@@ -8,7 +8,7 @@ ghost use Rattle.power_account.specs.Counted.{number_for};
 
 // An account, by value: a count of frames, the sum of their powers, the largest block energy among them, and the changeover: the count from which on
 // frames follow the tie rule of their number. One from elsewhere may have any figures.
-#[derive(Drop)]
+#[derive(Clone, Copy)]
 pub struct Account {
     pub count: u32,
     pub sum: f64,
@@ -17,7 +17,7 @@ pub struct Account {
 }
 
 // What opening an account answers: the refusal number, 0 for success, and the account.
-#[derive(Drop)]
+#[derive(Clone, Copy)]
 pub struct Opened {
     pub number: u8,
     pub account: Account,

@@ -16,15 +16,15 @@ last s = last_byte s.args.kind s.args.grade (length s.args.message.now) s.requir
 
 -- bit `at` is the first of them
 abbrev at : tie.After-message_bits → ℕ
-at c = c.message-bits.result - c.before.before.args.free - 8 * (length c.before.before.args.message.now - 1)
+at c = c.message_bits.result - c.before.before.args.free - 8 * (length c.before.before.args.message.now - 1)
 
 place : (c : tie.After-message_bits) → let g = c.before.before.args in
     8 * (length g.message.now - 1) + at c ≡ free_from g.kind g.grade g.free
 unfolding free_from
-place c = let l = last c.before.before in omega (arith, l.begin, c.message-bits.ensures, c.before.before.requires.3)
+place c = let l = last c.before.before in omega (arith, l.begin, c.message_bits.ensures, c.before.before.requires.3)
 
 low : (c : tie.After-message_bits) → at c ≤ 8
-low c = let l = last c.before.before in omega (arith, l.some, l.end, c.message-bits.ensures)
+low c = let l = last c.before.before in omega (arith, l.some, l.end, c.message_bits.ensures)
 
 sub-last : tie.Need-overflow_sub-last
 sub-last c = (last c.before).some
@@ -33,13 +33,13 @@ message-bits-requires : tie.Need-message_bits-requires
 message-bits-requires c κs = search rules
 
 sub_at : tie.Need-overflow_sub-at
-sub_at c = let s = c.before.before in omega (arith, (last s).begin, c.message-bits.ensures, s.requires.3)
+sub_at c = let s = c.before.before in omega (arith, (last s).begin, c.message_bits.ensures, s.requires.3)
 
 mul_at : tie.Need-overflow_mul-at
 mul_at c = omega (arith, (last c.before.before).few)
 
 sub-at-2 : tie.Need-overflow_sub-at-2
-sub-at-2 c = let s = c.before.before in omega (arith, (last s).begin, c.message-bits.ensures, s.requires.3)
+sub-at-2 c = let s = c.before.before in omega (arith, (last s).begin, c.message_bits.ensures, s.requires.3)
 
 returns : tie.Need-returns-then-at-eq8
 returns c =

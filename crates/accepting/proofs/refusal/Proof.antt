@@ -21,7 +21,7 @@ few : (c : tie.Else-free-gt4) → c.before.before.before.before.args.free ≤ 4
 few c = omega (arith, c.if-free-gt4.false)
 
 long : (c : tie.Else-message-message_bytes) → let s = c.before.before.before.before.before.before.args in length s.message.now ≡ message_bytes s.kind s.grade
-long c = c.if-message-message_bytes.false ∙ c.before.message-bytes.ensures
+long c = c.if-message-message_bytes.false ∙ c.before.message_bytes.ensures
 
 refusal-requires : tie.Need-refusal-no-requires
 refusal-requires c κs = search rules
@@ -45,7 +45,7 @@ returns-3 c =
     let w = c.before.before in
     let d = w.before in
     let s = d.before.before.before.args in
-    other-bytes s.kind s.grade s.free s.message.now s.n (good d) (few w) (λ e. c.if-message-message_bytes.true (e ∙ sym c.before.message-bytes.ensures))
+    other-bytes s.kind s.grade s.free s.message.now s.n (good d) (few w) (λ e. c.if-message-message_bytes.true (e ∙ sym c.before.message_bytes.ensures))
 
 positions-requires : tie.Need-positions-requires
 positions-requires c κs = (good c.before.before.before).0
@@ -74,7 +74,7 @@ returns-5 c =
     let d = w.before in
     let s = d.before.before.before.args in
     free-decides s.kind s.grade s.free s.message.now s.n (good d) (few w) (long e) (q.if-n-positions.false ∙ q.before.positions.ensures)
-    true (sym c.before.free-set.ensures ∙ c.if-free_set.true)
+    true (sym c.before.free_set.ensures ∙ c.if-free_set.true)
 
 returns-6 : tie.Need-returns
 returns-6 c =
@@ -84,7 +84,7 @@ returns-6 c =
     let d = w.before in
     let s = d.before.before.before.args in
     free-decides s.kind s.grade s.free s.message.now s.n (good d) (few w) (long e) (q.if-n-positions.false ∙ q.before.positions.ensures)
-    false (sym c.before.free-set.ensures ∙ c.if-free_set.false)
+    false (sym c.before.free_set.ensures ∙ c.if-free_set.false)
 
 pub refusal_spec : {M : Type 1} → statement M
 refusal_spec =
