@@ -1,4 +1,6 @@
 // One tally for all test programs: how many judgements passed each check. A check is a place below 15; place 15 counts the differences.
+#![tactic(auto)]
+
 ghost use Rattle.std.specs.Prelude.{◌≡◌, ◌<◌, replicate};
 ghost use Rattle.test_tally.specs.Tally.{place_of, judged};
 

@@ -1,5 +1,7 @@
 // Text in a lent buffer: bytes, numbers in decimal, and the lines of the listing. Each function puts its text at a place of the
 // buffer and gives the place after it.
+#![tactic(auto)]
+
 ghost use Rattle.std.specs.Prelude.{◌≡◌, ◌∷◌, [], ◌+◌, ◌*◌, ◌≤◌, nat_abs, length};
 ghost use Rattle.text.specs.Text.{Put, decimal_of, signed_of};
 ghost use Rattle.text.specs.Line.{header_text, coordinates_of, line_of, refused_text};

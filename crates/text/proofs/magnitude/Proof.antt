@@ -18,37 +18,37 @@ abs-fits : (z : ℤ) → SFits w32 z → Fits w64 (nat_abs z)
 abs-fits (pos n) f = omega (arith, f.sfits)
 abs-fits (negsuc n) f = omega (arith, f.sfits)
 
-cast-w : tie.Need-overflow-cast-w
+cast-w : tie.Need-overflow_cast-w
 cast-w c = rw (to_z-of_z c.ranges.z) (wide c.ranges.z)
 
-sub-result : tie.Need-overflow-sub-result
+sub-result : tie.Need-overflow_sub-result
 sub-result c = let f = c.before.ranges.z in simp (to_z-of_z f, to_z-of_z (wide f)) (neg-fits c.before.args.z f)
 
-cast-result : tie.Need-overflow-cast-result
+cast-result : tie.Need-overflow_cast-result
 cast-result c =
     let z = c.before.args.z in
     let f = c.before.ranges.z in
-    let n = neg-sign z (simp (to_z-of_z f, to_z-of_z (wide f)) at c.if1.true) in
+    let n = neg-sign z (simp (to_z-of_z f, to_z-of_z (wide f)) at c.if-w-lt0.true) in
     simp (to_z-of_z f, to_z-of_z (wide f), to_z-of_z (neg-fits z f)) (n.0, rw n.1 (abs-fits z f))
 
-cast-result-2 : tie.Need-overflow-cast-result-2
+cast-result-2 : tie.Need-overflow_cast-result-else-w-lt0
 cast-result-2 c =
     let z = c.before.args.z in
     let f = c.before.ranges.z in
-    simp (to_z-of_z f, to_z-of_z (wide f)) (pos-sign z (simp (to_z-of_z f, to_z-of_z (wide f)) at c.if1.false), abs-fits z f)
+    simp (to_z-of_z f, to_z-of_z (wide f)) (pos-sign z (simp (to_z-of_z f, to_z-of_z (wide f)) at c.if-w-lt0.false), abs-fits z f)
 
-returns : tie.Need-returns
+returns : tie.Need-returns-then-w-lt0
 returns c =
     let z = c.before.args.z in
     let f = c.before.ranges.z in
-    let n = neg-sign z (simp (to_z-of_z f, to_z-of_z (wide f)) at c.if1.true) in
+    let n = neg-sign z (simp (to_z-of_z f, to_z-of_z (wide f)) at c.if-w-lt0.true) in
     simp (to_z-of_z f, to_z-of_z (wide f), to_z-of_z (neg-fits z f)) n.1
 
-returns-2 : tie.Need-returns-2
+returns-2 : tie.Need-returns-else-w-lt0
 returns-2 c =
     let z = c.before.args.z in
     let f = c.before.ranges.z in
     simp (to_z-of_z f, to_z-of_z (wide f))
 
-pub magnitude-spec : {M : Type 1} → statement M
-magnitude-spec = tie.close (tie.spec cast-w sub-result cast-result cast-result-2 returns returns-2)
+pub magnitude_spec : {M : Type 1} → statement M
+magnitude_spec = tie.close (tie.spec cast-w sub-result cast-result cast-result-2 returns returns-2)

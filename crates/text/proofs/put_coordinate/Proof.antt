@@ -19,16 +19,16 @@ z-back c = to_z-of_z c.ranges.z
 short : (c : tie.Start) → length (signed_of c.args.z) ≤ 11
 short c = coordinate-short c.args.z c.ranges.z
 
-put-byte-requires : tie.Need-put-byte-requires
+put-byte-requires : tie.Need-put_byte-a-requires
 put-byte-requires c κs = search rules
 
-put-signed-requires : tie.Need-put-signed-requires
+put-signed-requires : tie.Need-put_signed-requires
 put-signed-requires c κs =
     let b = c.before.before.before in
     let s = b.before.before.before in
-    rw (z-back s) (omega (arith, s.requires, short s, b.put_byte.ensures.after, b.put_byte.auto.0))
+    rw (z-back s) (omega (arith, s.requires, short s, b.put_byte-a.ensures.after, b.put_byte-a.auto.out))
 
-same_length : tie.Need-same-length
+same_length : tie.Need-shape_of-out
 same_length c = search rules
 
 returns : tie.Need-returns
@@ -36,9 +36,9 @@ returns c =
     let d = c.before.before in
     let b = d.before.before.before.before in
     let s = b.before.before.before in
-    let p = put-more b.put_byte.ensures (rw (z-back s) at d.put-signed.ensures) (omega (arith, s.requires, b.put_byte.ensures.after)) in
+    let p = put-more b.put_byte-a.ensures (rw (z-back s) at d.put_signed.ensures) (omega (arith, s.requires, b.put_byte-a.ensures.after)) in
     (p, omega (arith, p.after, short s))
 
-pub put-coordinate-spec : {M : Type 1} → statement M
-put-coordinate-spec =
+pub put_coordinate_spec : {M : Type 1} → statement M
+put_coordinate_spec =
     tie.close (tie.spec put-byte-requires put-signed-requires same_length returns)

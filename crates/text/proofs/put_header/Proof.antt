@@ -4,19 +4,16 @@ use Rattle.text.specs.Line.{header_text}
 use Rattle.text.proofs.put_header.Statement.{statement}
 use Rattle.text.proofs.put_header.Tie as tie
 
-slice-aggregate-put-text : tie.Need-slice-aggregate-put-text
-slice-aggregate-put-text c = search rules
-
-put-text-requires : tie.Need-put-text-requires
+put-text-requires : tie.Need-put_text-requires
 put-text-requires c κs = search rules
 
-same_length : tie.Need-same-length
+same_length : tie.Need-shape_of-out
 same_length c = search rules
 
 returns : tie.Need-returns
 unfolding header_text
-returns c = c.before.before.put-text.ensures
+returns c = c.before.before.put_text.ensures
 
-pub put-header-spec : {M : Type 1} → statement M
-put-header-spec =
-    tie.close (tie.spec slice-aggregate-put-text put-text-requires same_length returns)
+pub put_header_spec : {M : Type 1} → statement M
+put_header_spec =
+    tie.close (tie.spec put-text-requires same_length returns)

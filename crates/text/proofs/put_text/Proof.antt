@@ -10,35 +10,35 @@ use Rattle.text.specs.Text.{written}
 use Rattle.text.proofs.put_text.Statement.{statement}
 use Rattle.text.proofs.put_text.Tie as tie
 
-abbrev invariant-loop : tie.invariant-loop
-invariant-loop out₀ at s i₀ out i = (i ≤ length s) × ((length out ≡ length out₀) × (out ≡ paste out₀ at s i))
+abbrev invariant-loop-i : tie.invariant-loop-i
+invariant-loop-i out₀ at s i₀ out i = (i ≤ length s) × ((length out ≡ length out₀) × (out ≡ paste out₀ at s i))
 
-abbrev decreases-loop : tie.decreases-loop
-decreases-loop out₀ at s i₀ out i = length s - i
+abbrev decreases-loop-i : tie.decreases-loop-i
+decreases-loop-i out₀ at s i₀ out i = length s - i
 
-loop-holds : tie.Need-loop-init invariant-loop decreases-loop
+loop-holds : tie.Need-loop-i-init invariant-loop-i decreases-loop-i
 loop-holds c = (search rules, (refl, paste-zero c.args.out.now c.args.at c.args.s.now))
 
-shared-slice-read-out : tie.Need-shared-slice-read-out invariant-loop decreases-loop
+shared-slice-read-out : tie.Need-bounds-s-i invariant-loop-i decreases-loop-i
 shared-slice-read-out c = search rules
 
-add-out : tie.Need-overflow-add-out invariant-loop decreases-loop
+add-out : tie.Need-overflow_add-out invariant-loop-i decreases-loop-i
 add-out c = search rules
 
-slice-write-out : tie.Need-slice-write-out invariant-loop decreases-loop
+slice-write-out : tie.Need-bounds-out-at invariant-loop-i decreases-loop-i
 slice-write-out c = search rules
 
-add-i : tie.Need-overflow-add-i invariant-loop decreases-loop
+add-i : tie.Need-overflow_add-i invariant-loop-i decreases-loop-i
 add-i c = search rules
 
-loop-less : tie.Need-loop-smaller invariant-loop decreases-loop
+loop-less : tie.Need-loop-i-smaller invariant-loop-i decreases-loop-i
 loop-less c = search rules
 
-loop-again : tie.Need-loop-preserved invariant-loop decreases-loop
+loop-again : tie.Need-loop-i-preserved invariant-loop-i decreases-loop-i
 loop-again c =
     let b = c.before.before in
     let a = b.before.args in
-    let l = b.loop in (
+    let l = b.loop-i in (
       search rules,
       (
         simp length-set (search rules),
@@ -46,24 +46,24 @@ loop-again c =
       ),
     )
 
-add-result : tie.Need-overflow-add-result invariant-loop decreases-loop
+add-result : tie.Need-overflow_add-result invariant-loop-i decreases-loop-i
 add-result c = search rules
 
-same_length : tie.Need-same-length invariant-loop decreases-loop
+same_length : tie.Need-shape_of-out invariant-loop-i decreases-loop-i
 same_length c = search rules
 
-returns : tie.Need-returns invariant-loop decreases-loop
+returns : tie.Need-returns invariant-loop-i decreases-loop-i
 unfolding written
 returns c =
-    let q : c.before.loop.i ≡ length c.before.before.args.s.now = omega arith in
-    record { after = rw q; text = c.before.loop.invariant.1.1 ∙ rw (q, take-length) }
+    let q : c.before.loop-i.i ≡ length c.before.before.args.s.now = omega arith in
+    record { after = rw q; text = c.before.loop-i.invariant.1.1 ∙ rw (q, take-length) }
 
-pub put-text-spec : {M : Type 1} → statement M
-put-text-spec =
+pub put_text_spec : {M : Type 1} → statement M
+put_text_spec =
     tie.close
     (tie.spec
-    invariant-loop
-    decreases-loop
+    invariant-loop-i
+    decreases-loop-i
     loop-holds
     shared-slice-read-out
     add-out
