@@ -1,6 +1,8 @@
 // The codeword of a message: the message bits, each at its mask, and the transform of these.
 // Message, masks and codeword are each held in a number: bit k is message bit k, bit S the bit of mask S, bit p the value at p;
 // no bit is set past the last one.
+#![tactic(auto)]
+
 ghost use Rattle.std.specs.Prelude.{◌≡◌, ◌+◌, ◌/◌, ◌%◌, ◌^◌, ◌≤◌, ◌<◌, length, get_or};
 ghost use Rattle.bits.specs.Number.{number};
 ghost use Rattle.reed_muller.specs.Level.{order, place, dimension, codeword, Tabled};

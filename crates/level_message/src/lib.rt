@@ -1,5 +1,7 @@
 // The message of a codeword taken backwards: message bit k is the bit of mask k of the order.
 // The bits of all masks are held in a number, bit S that of mask S, and so is the message, bit k message bit k.
+#![tactic(auto)]
+
 ghost use Rattle.std.specs.Prelude.{◌≡◌, ◌/◌, ◌%◌, ◌^◌, ◌≤◌, get_or};
 ghost use Rattle.bits.specs.Number.{number};
 ghost use Rattle.reed_muller.specs.Level.{order, Tabled};

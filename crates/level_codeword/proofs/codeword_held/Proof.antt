@@ -18,5 +18,5 @@ returns c =
     c.transformed.ensures
     ∙ held-codeword start.args.r start.args.m start.requires.1 start.args.bits start.requires.2 made.result made.ensures
 
-pub codeword-held-spec : {M : Type 1} → statement M
-codeword-held-spec = tie.close (tie.spec coefficients-requires transformed-requires returns)
+pub codeword_held_spec : {M : Type 1} → statement M
+codeword_held_spec = tie.close (tie.spec coefficients-requires transformed-requires returns)

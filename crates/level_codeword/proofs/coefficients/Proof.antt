@@ -16,39 +16,39 @@ fits e {r} {bits} h few = subst (λ (x : ℕ). (r ≤ x) × (bits < 2 ^ dimensio
 slice-aggregate-gather-eight : tie.Need-slice-aggregate-gather-eight
 slice-aggregate-gather-eight c = search rules
 
-gather-eight-requires : tie.Need-gather-eight-requires
+gather-eight-requires : tie.Need-gather_eight-requires
 gather-eight-requires c κs = (omega arith, below_64 refl)
 
-returns : tie.Need-returns
+returns : tie.Need-returns-then-m-eq3
 returns c =
     let at = c.before.before in
-    rw at.if1.true (gathered-all right-8 (gathered-first (places_of right-8) at.before.args.bits c.gather-eight.ensures))
+    rw at.if-m-eq3.true (gathered-all right-8 (gathered-first (places_of right-8) at.before.args.bits c.gather_eight.ensures))
 
-spread-16-requires : tie.Need-spread-16-requires
-spread-16-requires c κs = let start = c.before.before in fits c.if2.true start.requires.1 start.requires.2
+spread-16-requires : tie.Need-spread_16-requires
+spread-16-requires c κs = let start = c.before.before in fits c.if-m-eq4.true start.requires.1 start.requires.2
 
-returns-2 : tie.Need-returns-2
-returns-2 c = rw c.before.if2.true c.spread-16.ensures
+returns-2 : tie.Need-returns-then-m-eq4
+returns-2 c = rw c.before.if-m-eq4.true c.spread_16.ensures
 
-spread-32-requires : tie.Need-spread-32-requires
-spread-32-requires c κs = let start = c.before.before.before in fits c.if3.true start.requires.1 start.requires.2
+spread-32-requires : tie.Need-spread_32-requires
+spread-32-requires c κs = let start = c.before.before.before in fits c.if-m-eq5.true start.requires.1 start.requires.2
 
-returns-3 : tie.Need-returns-3
-returns-3 c = rw c.before.if3.true c.spread-32.ensures
+returns-3 : tie.Need-returns-then-m-eq5
+returns-3 c = rw c.before.if-m-eq5.true c.spread_32.ensures
 
 -- the tests leave the last length
-is_last : (c : tie.Else3) → c.before.before.before.args.m ≡ 6
+is_last : (c : tie.Else-m-eq5) → c.before.before.before.args.m ≡ 6
 is_last c =
-    let start = c.before.before.before in last start.requires.0 c.before.before.if1.false c.before.if2.false c.if3.false
+    let start = c.before.before.before in last start.requires.0 c.before.before.if-m-eq3.false c.before.if-m-eq4.false c.if-m-eq5.false
 
-spread-64-requires : tie.Need-spread-64-requires
+spread-64-requires : tie.Need-spread_64-requires
 spread-64-requires c κs = let start = c.before.before.before in fits (is_last c) start.requires.1 start.requires.2
 
-returns-4 : tie.Need-returns-4
-returns-4 c = rw (is_last c.before) c.spread-64.ensures
+returns-4 : tie.Need-returns
+returns-4 c = rw (is_last c.before) c.spread_64.ensures
 
-pub coefficients-spec : {M : Type 1} → statement M
-coefficients-spec =
+pub coefficients_spec : {M : Type 1} → statement M
+coefficients_spec =
     tie.close
     (tie.spec
     slice-aggregate-gather-eight

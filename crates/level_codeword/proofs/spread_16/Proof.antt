@@ -10,23 +10,23 @@ use Rattle.level_codeword.proofs.spread_16.Tie as tie
 slice-aggregate-spread-eight : tie.Need-slice-aggregate-spread-eight
 slice-aggregate-spread-eight c = search rules
 
-spread-eight-requires : tie.Need-spread-eight-requires
+spread-eight-requires : tie.Need-spread_eight-requires
 spread-eight-requires c κs = (omega arith, omega arith, below_64 refl)
 
-returns : tie.Need-returns
+returns : tie.Need-returns-then-r-le1
 returns c =
     let start = c.before.before.before in
-    let eight = spread-first right-16 start.args.bits start.args.r start.requires.1 c.spread-eight.ensures in
+    let eight = spread-first right-16 start.args.bits start.args.r start.requires.1 c.spread_eight.ensures in
     spread-all eight 1 (omega arith) (omega arith) (omega arith) (omega arith)
 
-placed-16-requires : tie.Need-placed-16-requires
+placed-16-requires : tie.Need-placed_16-requires
 placed-16-requires c κs = search rules
 
-returns-2 : tie.Need-returns-2
-returns-2 c = c.placed-16.ensures
+returns-2 : tie.Need-returns
+returns-2 c = c.placed_16.ensures
 
-pub spread-16-spec : {M : Type 1} → statement M
-spread-16-spec =
+pub spread_16_spec : {M : Type 1} → statement M
+spread_16_spec =
     tie.close
     (tie.spec
     slice-aggregate-spread-eight
