@@ -1,4 +1,6 @@
 // A block read: its coordinates without their level bits, reduced to the numbers s1 to s8, and these as the bits of a message.
+#![tactic(auto)]
+
 ghost use Rattle.std.specs.Prelude.{◌≡◌, map, ℕ, ◌-◌, ◌*◌, ◌^◌, ◌<◌, ◌≤◌, T, pos, nat_abs, length, get_or};
 ghost use Rattle.std.specs.Int.Signed.{non_neg};
 ghost use Rattle.bits.specs.Number.{number};

@@ -1,4 +1,6 @@
 // The two candidates for the least member of a block's class, the whole part and the half part, made from the rounded block; and the choice between them.
+#![tactic(auto)]
+
 ghost use Rattle.std.specs.Prelude.{◌≡◌, cond, ◌^◌, ◌<◌, ◌≤◌, pos, nat_abs, ◌+ℤ◌, ◌-ℤ◌, ◌*ℤ◌};
 ghost use Rattle.std.specs.Int.Signed.{lt_z, shr_z};
 ghost use Rattle.e8.specs.Energy.{Within};

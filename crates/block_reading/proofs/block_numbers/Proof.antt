@@ -13,19 +13,19 @@ use Rattle.block_reading.proofs.block_numbers.Statement.{statement}
 use Rattle.block_reading.proofs.block_numbers.Tie as tie
 
 -- the coordinates divided
-divided : (c : tie.After-floor-quotients) → let a = c.before.before.args in c.floor-quotients.result ≡ quotients a.a a.part.now
-divided c = c.floor-quotients.ensures ∙ ap (quotients c.before.before.args.a) c.before.load.ensures
+divided : (c : tie.After-floor_quotients-v) → let a = c.before.before.args in c.floor_quotients-v.result ≡ quotients a.a a.part.now
+divided c = c.floor_quotients-v.ensures ∙ ap (quotients c.before.before.args.a) c.before.load.ensures
 
 load-requires : tie.Need-load-requires
 load-requires c κs = search rules
 
-floor-quotients-requires : tie.Need-floor-quotients-requires
+floor-quotients-requires : tie.Need-floor_quotients-v-requires
 floor-quotients-requires c κs = search rules
 
-sub-reduce : tie.Need-overflow-sub-reduce
+sub-reduce : tie.Need-overflow_sub-grade
 sub-reduce c = search rules
 
-cast-reduce : tie.Need-overflow-cast-reduce
+cast-reduce : tie.Need-overflow_cast-grade
 cast-reduce c = search rules
 
 reduce-requires : tie.Need-reduce-requires
@@ -39,8 +39,8 @@ returns c =
     let a = c.before.before.before.args in
     c.reduce.ensures ∙ ap (λ (v : List ℤ). ints (reduced (2 ^ (a.grade - 1)) v)) (divided c.before)
 
-pub block-numbers-spec : {M : Type 1} → statement M
-block-numbers-spec =
+pub block_numbers_spec : {M : Type 1} → statement M
+block_numbers_spec =
     tie.close
     (tie.spec
     load-requires

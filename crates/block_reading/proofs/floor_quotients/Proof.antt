@@ -16,66 +16,66 @@ use Rattle.frames.proofs.Frame.{quotient-at, quotients-length}
 use Rattle.block_reading.proofs.floor_quotients.Statement.{statement}
 use Rattle.block_reading.proofs.floor_quotients.Tie as tie
 
-abbrev invariant-loop : tie.invariant-loop
-invariant-loop a x r₀ i₀ r i = Filled (quotients a x) r i
+abbrev invariant-loop-i : tie.invariant-loop-i
+invariant-loop-i a x r₀ i₀ r i = Filled (quotients a x) r i
 
-abbrev decreases-loop : tie.decreases-loop
-decreases-loop a x r₀ i₀ r i = 8 - i
+abbrev decreases-loop-i : tie.decreases-loop-i
+decreases-loop-i a x r₀ i₀ r i = 8 - i
 
-eight : (c : tie.Start invariant-loop decreases-loop) → length c.args.t2 ≡ 8
+eight : (c : tie.Start invariant-loop-i decreases-loop-i) → length c.args.x ≡ 8
 eight c = search rules
 
-long : (c : tie.Start invariant-loop decreases-loop) → length (quotients c.args.a c.args.t2) ≡ 8
-long c = quotients-length c.args.a c.args.t2 ∙ eight c
+long : (c : tie.Start invariant-loop-i decreases-loop-i) → length (quotients c.args.a c.args.x) ≡ 8
+long c = quotients-length c.args.a c.args.x ∙ eight c
 
-loop-holds : tie.Need-loop-init invariant-loop decreases-loop
-loop-holds c = filled_none (quotients c.args.a c.args.t2) c.args.t2 (sym (quotients-length c.args.a c.args.t2))
+loop-holds : tie.Need-loop-i-init invariant-loop-i decreases-loop-i
+loop-holds c = filled_none (quotients c.args.a c.args.x) c.args.x (sym (quotients-length c.args.a c.args.x))
 
-mul-z : tie.Need-overflow-mul-z invariant-loop decreases-loop
+mul-z : tie.Need-offset_bounds-x-i invariant-loop-i decreases-loop-i
 mul-z c = search rules
 
-array-copy-out-z : tie.Need-array-copy-out-z invariant-loop decreases-loop
+array-copy-out-z : tie.Need-bounds-x-i invariant-loop-i decreases-loop-i
 array-copy-out-z c = search rules
 
-cast-r : tie.Need-overflow-cast-r invariant-loop decreases-loop
+cast-r : tie.Need-overflow_cast-r invariant-loop-i decreases-loop-i
 cast-r c = search rules
 
-shr-r : tie.Need-overflow-shr-r invariant-loop decreases-loop
+shr-r : tie.Need-overflow_shr-r invariant-loop-i decreases-loop-i
 shr-r c = search rules
 
-mul-r : tie.Need-overflow-mul-r invariant-loop decreases-loop
+mul-r : tie.Need-offset_bounds-r-i invariant-loop-i decreases-loop-i
 mul-r c = search rules
 
-array-set-from-r : tie.Need-array-set-from-r invariant-loop decreases-loop
+array-set-from-r : tie.Need-bounds-r-i invariant-loop-i decreases-loop-i
 array-set-from-r c = search rules
 
-add-i : tie.Need-overflow-add-i invariant-loop decreases-loop
+add-i : tie.Need-overflow_add-i invariant-loop-i decreases-loop-i
 add-i c = search rules
 
-loop-less : tie.Need-loop-smaller invariant-loop decreases-loop
+loop-less : tie.Need-loop-i-smaller invariant-loop-i decreases-loop-i
 loop-less c = search rules
 
-loop-again : tie.Need-loop-preserved invariant-loop decreases-loop
+loop-again : tie.Need-loop-i-preserved invariant-loop-i decreases-loop-i
 loop-again c =
-    let l = c.before.before.loop in
+    let l = c.before.before.loop-i in
     let s = c.before.before.before in
-    let z : ℤ = get_or s.args.t2 l.i (pos 0) in
-    let f : SFits w32 z = record { sfits = c.z.given } in
-    filled_next (pos 0) (quotients s.args.a s.args.t2) l.r l.i _ l.invariant (omega (arith, long s))
+    let z : ℤ = get_or s.args.x l.i (pos 0) in
+    let f : SFits w32 z = record { sfits = c.z-1.given } in
+    filled_next (pos 0) (quotients s.args.a s.args.x) l.r l.i _ l.invariant (omega (arith, long s))
     (tz (ap (λ (y : ℤ). shr_z y (2 ^ s.args.a)) (tz refl f)) (sfits_le (mag_shr z (2 ^ s.args.a)) f)
-    ∙ sym (quotient-at s.args.a s.args.t2 l.i (omega (arith, eight s))))
+    ∙ sym (quotient-at s.args.a s.args.x l.i (omega (arith, eight s))))
 
-returns : tie.Need-returns invariant-loop decreases-loop
+returns : tie.Need-returns invariant-loop-i decreases-loop-i
 returns c =
     let s = c.before.before in
-    filled-all (quotients s.args.a s.args.t2) c.before.loop.r c.before.loop.i c.before.loop.invariant (omega (arith, long s))
+    filled-all (quotients s.args.a s.args.x) c.before.loop-i.r c.before.loop-i.i c.before.loop-i.invariant (omega (arith, long s))
 
-pub floor-quotients-spec : {M : Type 1} → statement M
-floor-quotients-spec =
+pub floor_quotients_spec : {M : Type 1} → statement M
+floor_quotients_spec =
     tie.close
     (tie.spec
-    invariant-loop
-    decreases-loop
+    invariant-loop-i
+    decreases-loop-i
     loop-holds
     mul-z
     array-copy-out-z

@@ -31,13 +31,13 @@ row_from b s i = all_digits (drop i (widths b)) (drop i (map nat_abs s))
 abbrev packed_from : ℕ → List ℤ → ℕ → ℕ
 packed_from b s i = number (total (drop i (widths b))) (λ t. get_or (row_from b s i) t 0)
 
-abbrev invariant-loop : tie.invariant-loop
-invariant-loop grade s bits₀ i₀ bits i = (i ≤ 8) × (bits ≡ packed_from grade s i)
+abbrev invariant-loop-i : tie.invariant-loop-i
+invariant-loop-i grade s bits₀ i₀ bits i = (i ≤ 8) × (bits ≡ packed_from grade s i)
 
-abbrev decreases-loop : tie.decreases-loop
-decreases-loop grade s bits₀ i₀ bits i = i
+abbrev decreases-loop-i : tie.decreases-loop-i
+decreases-loop-i grade s bits₀ i₀ bits i = i
 
-eight : (c : tie.Start invariant-loop decreases-loop) → length c.args.t1 ≡ 8
+eight : (c : tie.Start invariant-loop-i decreases-loop-i) → length c.args.s ≡ 8
 eight c = search rules
 
 packed_lt : (b : ℕ) (s : List ℤ) (i : ℕ) → packed_from b s i < 2 ^ total (drop i (widths b))
@@ -48,120 +48,120 @@ abbrev back : ℤ → ℤ
 back z = to_z w32 (of_z w32 z)
 
 -- a turn of the loop
-module _ (c : tie.After-z invariant-loop decreases-loop) where
-  abbrev turn : tie.After-width invariant-loop decreases-loop
+module _ (c : tie.After-z-1 invariant-loop-i decreases-loop-i) where
+  abbrev turn : tie.After-width-w invariant-loop-i decreases-loop-i
   turn = c.before
 
-  abbrev l : tie.At-loop invariant-loop decreases-loop
+  abbrev l : tie.At-loop-i invariant-loop-i decreases-loop-i
   l = c.before.before.before
 
-  abbrev start : tie.Start invariant-loop decreases-loop
+  abbrev start : tie.Start invariant-loop-i decreases-loop-i
   start = l.before
 
   abbrev b : ℕ
   b = start.args.grade
 
   abbrev s : List ℤ
-  s = start.args.t1
+  s = start.args.s
 
   abbrev i : ℕ
-  i = l.loop.i - 1
+  i = l.loop-i.i - 1
 
   abbrev z : ℤ
   z = get_or s i (pos 0)
 
   abbrev w : ℕ
-  w = turn.width.result
+  w = turn.width-w.result
 
   -- the bits of the numbers after number i
   abbrev n : ℕ
-  n = total (drop l.loop.i (widths b))
+  n = total (drop l.loop-i.i (widths b))
 
-  up : suc i ≡ l.loop.i
+  up : suc i ≡ l.loop-i.i
   up = omega arith
 
   read : back z ≡ z
-  read = tz refl (record { sfits = c.z.given })
+  read = tz {w = w32} refl (record { sfits = c.z-1.given })
 
   -- the numbers from i on have their place
   from-i : w + n ≡ total (drop i (widths b))
-  from-i = sym (total-from (widths b) i (omega arith) ∙ ap₂ ◌+◌ (sym turn.width.ensures) (ap (λ (m : ℕ). total (drop m (widths b))) up))
+  from-i = sym (total-from (widths b) i (omega arith) ∙ ap₂ ◌+◌ (sym turn.width-w.ensures) (ap (λ (m : ℕ). total (drop m (widths b))) up))
 
   below : w + n ≤ 32
-  below = omega (arith, from-i, total-drop (widths b) i, total-widths b start.pre.0, start.pre.1)
+  below = omega (arith, from-i, total-drop (widths b) i, total-widths b start.requires.0, start.requires.1)
 
   power : 1 * 2 ^ w % 2 ^ 64 ≡ 2 ^ w
   power = one_shifted w 64 (omega (arith, below))
 
-  row-i : digits w (get_or (map nat_abs s) i 0) ++ row_from b s l.loop.i ≡ row_from b s i
+  row-i : digits w (get_or (map nat_abs s) i 0) ++ row_from b s l.loop-i.i ≡ row_from b s i
   row-i = sym (all_from (widths b) (map nat_abs s) i (omega arith) (omega (arith, sizes-length s, eight start))
-      ∙ ap₂ (λ (v : ℕ) (x : List ℕ). digits v (get_or (map nat_abs s) i 0) ++ x) (sym turn.width.ensures) (ap (row_from b s) up))
+      ∙ ap₂ (λ (v : ℕ) (x : List ℕ). digits v (get_or (map nat_abs s) i 0) ++ x) (sym turn.width-w.ensures) (ap (row_from b s) up))
 
   -- number i below those after it
-  more : l.loop.bits * 2 ^ w % 2 ^ 64 + nat_abs (back z) % (1 * 2 ^ w % 2 ^ 64) ≡ packed_from b s i
+  more : l.loop-i.bits * 2 ^ w % 2 ^ 64 + nat_abs (back z) % (1 * 2 ^ w % 2 ^ 64) ≡ packed_from b s i
   more =
-      ap₂ ◌+◌ (moved_up l.loop.bits w n 64 (omega (arith, l.loop.inv.1, packed_lt b s l.loop.i)) (omega (arith, below)))
+      ap₂ ◌+◌ (moved_up l.loop-i.bits w n 64 (omega (arith, l.loop-i.invariant.1, packed_lt b s l.loop-i.i)) (omega (arith, below)))
       (ap₂ (λ (x m : ℕ). x % m) (ap nat_abs read ∙ sizes-at s i) power)
-      ∙ ap (λ (x : ℕ). 2 ^ w * x + get_or (map nat_abs s) i 0 % 2 ^ w) l.loop.inv.1
-      ∙ pack-more w n (get_or (map nat_abs s) i 0) (row_from b s l.loop.i)
+      ∙ ap (λ (x : ℕ). 2 ^ w * x + get_or (map nat_abs s) i 0 % 2 ^ w) l.loop-i.invariant.1
+      ∙ pack-more w n (get_or (map nat_abs s) i 0) (row_from b s l.loop-i.i)
       ∙ ap₂ (λ (m : ℕ) (row : List ℕ). number m (λ t. get_or row t 0)) from-i row-i
 
-loop-holds : tie.Need-loop-init invariant-loop decreases-loop
+loop-holds : tie.Need-loop-i-init invariant-loop-i decreases-loop-i
 unfolding sum_to
 loop-holds c = (omega arith, refl)
 
-sub-i : tie.Need-overflow-sub-i invariant-loop decreases-loop
+sub-i : tie.Need-overflow_sub-i invariant-loop-i decreases-loop-i
 sub-i c = search rules
 
-width-requires : tie.Need-width-requires invariant-loop decreases-loop
+width-requires : tie.Need-width-w-requires invariant-loop-i decreases-loop-i
 width-requires c κs = (c.before.before.requires.0, c.before.before.requires.1, omega arith)
 
-mul-z : tie.Need-overflow-mul-z invariant-loop decreases-loop
+mul-z : tie.Need-offset_bounds-s-i invariant-loop-i decreases-loop-i
 mul-z c = search rules
 
-array-copy-out-z : tie.Need-array-copy-out-z invariant-loop decreases-loop
+array-copy-out-z : tie.Need-bounds-s-i invariant-loop-i decreases-loop-i
 array-copy-out-z c = search rules
 
-shl-bits : tie.Need-overflow-shl-bits invariant-loop decreases-loop
+shl-bits : tie.Need-overflow_shl-bits invariant-loop-i decreases-loop-i
 shl-bits c = omega (arith, below c)
 
-cast-bits : tie.Need-overflow-cast-bits invariant-loop decreases-loop
+cast-bits : tie.Need-overflow_cast-bits invariant-loop-i decreases-loop-i
 cast-bits c =
     subst (λ (y : ℤ). T (non_neg y) × Fits w64 (nat_abs y)) (sym (read c))
-    ((start c).requires.2 (i c), Fits-nat_abs {w = w32} {z = z c} tt (record { sfits = c.z.given }))
+    ((start c).requires.2 (i c), Fits-nat_abs {w = w32} {z = z c} tt (record { sfits = c.z-1.given }))
 
-shl-bits-2 : tie.Need-overflow-shl-bits-2 invariant-loop decreases-loop
+shl-bits-2 : tie.Need-overflow_shl-bits-in-loop-i invariant-loop-i decreases-loop-i
 shl-bits-2 c = omega (arith, below c)
 
-rem-bits : tie.Need-nonzero-rem-bits invariant-loop decreases-loop
+rem-bits : tie.Need-nonzero_rem-bits invariant-loop-i decreases-loop-i
 rem-bits c = omega (arith, power c, pow_pos (w c))
 
-add-bits : tie.Need-overflow-add-bits invariant-loop decreases-loop
+add-bits : tie.Need-overflow_add-bits invariant-loop-i decreases-loop-i
 add-bits c =
     let few = pow_mono {j = 32} (subst (λ (m : ℕ). m ≤ 32) (from-i c) (below c)) in
     let small : packed_from (b c) (s c) (i c) < 2 ^ 32 = omega (arith, packed_lt (b c) (s c) (i c), few) in
     record { fits = omega (arith, more c, small) }
 
-loop-less : tie.Need-loop-smaller invariant-loop decreases-loop
+loop-less : tie.Need-loop-i-smaller invariant-loop-i decreases-loop-i
 loop-less c = search rules
 
-loop-again : tie.Need-loop-preserved invariant-loop decreases-loop
+loop-again : tie.Need-loop-i-preserved invariant-loop-i decreases-loop-i
 loop-again c = (omega arith, more c)
 
-returns : tie.Need-returns invariant-loop decreases-loop
+returns : tie.Need-returns invariant-loop-i decreases-loop-i
 returns c =
-    let l = c.before.loop in
+    let l = c.before.loop-i in
     let a = c.before.before.args in
     let e : l.i ≡ 0 = omega arith in
-    l.invariant.1 ∙ ap (packed_from a.grade a.t1) e
-    ∙ ap (λ (m : ℕ). number m (λ t. get_or (all_digits (widths a.grade) (map nat_abs a.t1)) t 0)) (total-widths a.grade c.before.before.requires.0)
+    l.invariant.1 ∙ ap (packed_from a.grade a.s) e
+    ∙ ap (λ (m : ℕ). number m (λ t. get_or (all_digits (widths a.grade) (map nat_abs a.s)) t 0)) (total-widths a.grade c.before.before.requires.0)
 
-pub packed-by-spec : {M : Type 1} → statement M
-packed-by-spec =
+pub packed_by_spec : {M : Type 1} → statement M
+packed_by_spec =
     tie.close
     (tie.spec
-    invariant-loop
-    decreases-loop
+    invariant-loop-i
+    decreases-loop-i
     loop-holds
     sub-i
     width-requires

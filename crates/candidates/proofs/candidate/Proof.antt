@@ -17,13 +17,13 @@ use Rattle.mending.specs.Rounded.{member_of, members}
 use Rattle.candidates.proofs.candidate.Statement.{statement}
 use Rattle.candidates.proofs.candidate.Tie as tie
 
-abbrev invariant-loop : tie.invariant-loop
-invariant-loop at elsewhere t c r₀ i₀ r i = (i ≤ 8) × Filled (members (to_z w32 at) (to_z w32 elsewhere) (nat_abs (to_z w32 t)) 0 c) r i
+abbrev invariant-loop-i : tie.invariant-loop-i
+invariant-loop-i at elsewhere t c r₀ i₀ r i = (i ≤ 8) × Filled (members (to_z w32 at) (to_z w32 elsewhere) (nat_abs (to_z w32 t)) 0 c) r i
 
-abbrev decreases-loop : tie.decreases-loop
-decreases-loop at elsewhere t c r₀ i₀ r i = 8 - i
+abbrev decreases-loop-i : tie.decreases-loop-i
+decreases-loop-i at elsewhere t c r₀ i₀ r i = 8 - i
 
-module _ (s : tie.Start invariant-loop decreases-loop) where
+module _ (s : tie.Start invariant-loop-i decreases-loop-i) where
   abbrev at : ℤ
   at = read s.args.at
 
@@ -34,88 +34,88 @@ module _ (s : tie.Start invariant-loop decreases-loop) where
   n = nat_abs (read s.args.t)
 
   abbrev target : List ℤ
-  target = members at elsewhere n 0 s.args.t4
+  target = members at elsewhere n 0 s.args.c
 
-  eight : length s.args.t4 ≡ 8
+  eight : length s.args.c ≡ 8
   eight = search rules
 
   long : length target ≡ 8
-  long = members-length at elsewhere n 0 s.args.t4 ∙ eight
+  long = members-length at elsewhere n 0 s.args.c ∙ eight
 
   abbrev z : ℕ → ℤ
-  z i = get_or s.args.t4 i (pos 0)
+  z i = get_or s.args.c i (pos 0)
 
   small : (i : ℕ) → nat_abs (z i) ≤ 2 ^ 7
-  small i = within-at (2 ^ 7) s.args.t4 i s.pre.3
+  small i = within-at (2 ^ 7) s.args.c i s.requires.3
 
   target_at : (i : ℕ) → i < 8 → get_or target i (pos 0) ≡ member_of at elsewhere n (z i) i
-  target_at i h = members-at at elsewhere n 0 s.args.t4 i (omega (arith, eight)) ∙ ap (member_of at elsewhere n (z i)) {x = i + 0} {y = i} (omega arith)
+  target_at i h = members-at at elsewhere n 0 s.args.c i (omega (arith, eight)) ∙ ap (member_of at elsewhere n (z i)) {x = i + 0} {y = i} (omega arith)
 
   -- the size of either number
   sizes : (nat_abs at ≤ 2 ^ 7) × (nat_abs elsewhere ≤ 2 ^ 7)
-  sizes = (plain_size s.args.at (2 ^ 7) s.pre.0 (omega arith), plain_size s.args.elsewhere (2 ^ 7) s.pre.1 (omega arith))
+  sizes = (plain_size s.args.at (2 ^ 7) s.requires.0 (omega arith), plain_size s.args.elsewhere (2 ^ 7) s.requires.1 (omega arith))
 
   -- the rank is not negative
   rank_is : read s.args.t ≡ pos n
-  rank_is = let e = tz refl s.fits.t in e ∙ s.pre.2 ∙ ap (λ (y : ℤ). pos (nat_abs y)) (sym e)
+  rank_is = let e = tz refl s.ranges.t in e ∙ s.requires.2 ∙ ap (λ (y : ℤ). pos (nat_abs y)) (sym e)
 
-loop-holds : tie.Need-loop-init invariant-loop decreases-loop
-loop-holds c = (omega arith, filled_none (target c) c.args.t4 (eight c ∙ sym (long c)))
+loop-holds : tie.Need-loop-i-init invariant-loop-i decreases-loop-i
+loop-holds c = (omega arith, filled_none (target c) c.args.c (eight c ∙ sym (long c)))
 
-mul-z : tie.Need-overflow-mul-z invariant-loop decreases-loop
+mul-z : tie.Need-offset_bounds-c-i invariant-loop-i decreases-loop-i
 mul-z c = search rules
 
-array-copy-out-z : tie.Need-array-copy-out-z invariant-loop decreases-loop
+array-copy-out-z : tie.Need-bounds-c-i invariant-loop-i decreases-loop-i
 array-copy-out-z c = search rules
 
-member-requires : tie.Need-member-requires invariant-loop decreases-loop
+member-requires : tie.Need-member-requires invariant-loop-i decreases-loop-i
 member-requires c κs =
     let l = c.before.before in
     let s = l.before in (
       search (sizes s),
       search (sizes s),
       rank_is s,
-      plain_size (z s l.loop.i) (2 ^ 7) (small s l.loop.i) (omega arith),
+      plain_size (z s l.loop-i.i) (2 ^ 7) (small s l.loop-i.i) (omega arith),
       omega arith,
     )
 
-mul-r : tie.Need-overflow-mul-r invariant-loop decreases-loop
+mul-r : tie.Need-offset_bounds-r-i invariant-loop-i decreases-loop-i
 mul-r c = search rules
 
-array-set-from-r : tie.Need-array-set-from-r invariant-loop decreases-loop
+array-set-from-r : tie.Need-bounds-r-i invariant-loop-i decreases-loop-i
 array-set-from-r c = search rules
 
-add-i : tie.Need-overflow-add-i invariant-loop decreases-loop
+add-i : tie.Need-overflow_add-i invariant-loop-i decreases-loop-i
 add-i c = search rules
 
-loop-less : tie.Need-loop-smaller invariant-loop decreases-loop
+loop-less : tie.Need-loop-i-smaller invariant-loop-i decreases-loop-i
 loop-less c = search rules
 
-loop-again : tie.Need-loop-preserved invariant-loop decreases-loop
+loop-again : tie.Need-loop-i-preserved invariant-loop-i decreases-loop-i
 loop-again c =
     let l = c.before.before.before in
     let s = l.before in
-    let i = l.loop.i in
+    let i = l.loop-i.i in
     let e = plain (z s i) (omega (arith, small s i)) in (
       omega arith,
-      filled_next (pos 0) (target s) l.loop.r i _ l.loop.invariant.1 (omega (arith, long s))
-          (tz refl (record { sfits = c.member.type-inv }) ∙ c.member.ensures ∙ ap (λ (y : ℤ). member_of (at s) (elsewhere s) (n s) y i) e
+      filled_next (pos 0) (target s) l.loop-i.r i _ l.loop-i.invariant.1 (omega (arith, long s))
+          (tz {w = w32} refl (record { sfits = c.member.type_inv }) ∙ c.member.ensures ∙ ap (λ (y : ℤ). member_of (at s) (elsewhere s) (n s) y i) e
           ∙ sym (target_at s i (omega arith))),
     )
 
-returns : tie.Need-returns invariant-loop decreases-loop
+returns : tie.Need-returns invariant-loop-i decreases-loop-i
 returns c =
     let l = c.before in
     let s = l.before in
-    filled-all (target s) l.loop.r l.loop.i l.loop.invariant.1 (omega (arith, long s))
-    ∙ (λ j. members (tz refl s.ranges.at j) (tz refl s.ranges.elsewhere j) (nat_abs (tz refl s.ranges.t j)) 0 s.args.t4)
+    filled-all (target s) l.loop-i.r l.loop-i.i l.loop-i.invariant.1 (omega (arith, long s))
+    ∙ (λ j. members (tz refl s.ranges.at j) (tz refl s.ranges.elsewhere j) (nat_abs (tz refl s.ranges.t j)) 0 s.args.c)
 
-pub candidate-spec : {M : Type 1} → statement M
-candidate-spec =
+pub candidate_spec : {M : Type 1} → statement M
+candidate_spec =
     tie.close
     (tie.spec
-    invariant-loop
-    decreases-loop
+    invariant-loop-i
+    decreases-loop-i
     loop-holds
     mul-z
     array-copy-out-z

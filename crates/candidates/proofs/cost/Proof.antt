@@ -7,13 +7,13 @@ use Rattle.integers.proofs.Zed.{tz}
 use Rattle.candidates.proofs.cost.Statement.{statement}
 use Rattle.candidates.proofs.cost.Tie as tie
 
-returns : tie.Need-returns
+returns : tie.Need-returns-then-odd-gt0
 returns c =
     let s = c.before in
-    tz refl s.ranges.by ∙ sym (ap (λ t. cond t s.args.by (pos 0)) (sym (ap (lt_z (pos 0)) (tz refl s.ranges.odd)) ∙ c.if1.true))
+    tz refl s.ranges.by ∙ sym (ap (λ t. cond t s.args.by (pos 0)) (sym (ap (lt_z (pos 0)) (tz refl s.ranges.odd)) ∙ c.if-odd-gt0.true))
 
-returns-2 : tie.Need-returns-2
-returns-2 c = sym (ap (λ t. cond t c.before.args.by (pos 0)) (sym (ap (lt_z (pos 0)) (tz refl c.before.ranges.odd)) ∙ c.if1.false))
+returns-2 : tie.Need-returns-else-odd-gt0
+returns-2 c = sym (ap (λ t. cond t c.before.args.by (pos 0)) (sym (ap (lt_z (pos 0)) (tz refl c.before.ranges.odd)) ∙ c.if-odd-gt0.false))
 
-pub cost-spec : {M : Type 1} → statement M
-cost-spec = tie.close (tie.spec returns returns-2)
+pub cost_spec : {M : Type 1} → statement M
+cost_spec = tie.close (tie.spec returns returns-2)

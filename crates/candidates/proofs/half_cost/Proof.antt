@@ -31,22 +31,22 @@ module _ (s : tie.Start) where
   low = s.args.low
 
   quotient : read (shr_z (read low) 16) ≡ shr_z low 16
-  quotient = tz (ap (λ (z : ℤ). shr_z z 16) (tz refl s.fits.low)) (fits (shr_z low 16) (omega (arith, shr-abs low 16 (2 ^ 12) s.pre.1)))
+  quotient = tz (ap (λ (z : ℤ). shr_z z 16) (tz refl s.ranges.low)) (fits (shr_z low 16) (omega (arith, shr-abs low 16 (2 ^ 12) s.requires.1)))
 
   twice : pos 2 *ℤ read (shr_z (read low) 16) ≡ pos 2 *ℤ shr_z low 16
   twice = ap (λ (z : ℤ). pos 2 *ℤ z) quotient
 
   twice-size : nat_abs (pos 2 *ℤ shr_z low 16) ≤ 2 ^ 13
-  twice-size = omega (arith, double-abs (shr_z low 16) (2 ^ 12) (shr-abs low 16 (2 ^ 12) s.pre.1))
+  twice-size = omega (arith, double-abs (shr_z low 16) (2 ^ 12) (shr-abs low 16 (2 ^ 12) s.requires.1))
 
   twice-fits : SFits w32 (pos 2 *ℤ shr_z low 16)
   twice-fits = fits (pos 2 *ℤ shr_z low 16) (omega (arith, twice-size))
 
   four : pos 4 *ℤ read h ≡ pos 4 *ℤ h
-  four = ap (λ (z : ℤ). pos 4 *ℤ z) (tz refl s.fits.h)
+  four = ap (λ (z : ℤ). pos 4 *ℤ z) (tz refl s.ranges.h)
 
   four-size : nat_abs (pos 4 *ℤ h) ≤ 2 ^ 9
-  four-size = abs! (# 4 ⊗ ` h) (2 ^ 9) (omega (arith, abs-ud h, s.pre.0)) (omega (arith, abs-ud h, s.pre.0))
+  four-size = abs! (# 4 ⊗ ` h) (2 ^ 9) (omega (arith, abs-ud h, s.requires.0)) (omega (arith, abs-ud h, s.requires.0))
 
   four-fits : SFits w32 (pos 4 *ℤ h)
   four-fits = fits (pos 4 *ℤ h) (omega (arith, four-size))
@@ -63,7 +63,7 @@ module _ (c : tie.After-cost) where
 
   cost-is : read c.cost.result ≡ cost
   cost-is =
-      tz (c.cost.ensures ∙ ap₂ (λ a b. cond (lt_z (pos 0) a) b (pos 0)) (tz refl s.fits.odd) (tz (twice s) (twice-fits s)))
+      tz (c.cost.ensures ∙ ap₂ (λ a b. cond (lt_z (pos 0) a) b (pos 0)) (tz refl s.ranges.odd) (tz (twice s) (twice-fits s)))
       (fits cost (omega (arith, cost-size)))
 
   total : read (pos 4 *ℤ read (h s)) +ℤ read c.cost.result ≡ pos 4 *ℤ h s +ℤ cost
@@ -72,16 +72,16 @@ module _ (c : tie.After-cost) where
   total-fits : SFits w32 (pos 4 *ℤ h s +ℤ cost)
   total-fits = fits (pos 4 *ℤ h s +ℤ cost) (omega (arith, sum-abs (pos 4 *ℤ h s) cost (2 ^ 9) (2 ^ 13) (four-size s) cost-size))
 
-mul-result : tie.Need-overflow-mul-result
+mul-result : tie.Need-overflow_mul-result
 mul-result c = sfits-to refl (search (times-fits, plain_size (h c) (2 ^ 7) c.requires.0 (omega arith), rules))
 
-mul-cost : tie.Need-overflow-mul-cost
+mul-cost : tie.Need-overflow_mul-low
 mul-cost c = sfits-to (twice c) (twice-fits c)
 
 cost-requires : tie.Need-cost-requires
 cost-requires c κs = search rules
 
-add-result : tie.Need-overflow-add-result
+add-result : tie.Need-overflow_add-result
 add-result c =
     let low : nat_abs (read c.cost.result) ≤ 2 ^ 13 = subst (λ (z : ℤ). nat_abs z ≤ 2 ^ 13) (sym (cost-is c)) (cost-size c) in
     sfits-to refl (search (with-fits, plain_size (h (s c)) (2 ^ 7) (s c).requires.0 (omega arith), low, rules))
@@ -89,5 +89,5 @@ add-result c =
 returns : tie.Need-returns
 returns c = tz (total c) (total-fits c)
 
-pub half-cost-spec : {M : Type 1} → statement M
-half-cost-spec = tie.close (tie.spec mul-result mul-cost cost-requires add-result returns)
+pub half_cost_spec : {M : Type 1} → statement M
+half_cost_spec = tie.close (tie.spec mul-result mul-cost cost-requires add-result returns)

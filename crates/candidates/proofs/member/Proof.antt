@@ -32,11 +32,11 @@ module _ (q : tie.After-choose) where
 
   amount : q.choose.result ≡ cond same s.args.at s.args.elsewhere
   amount =
-      read-amount ∙ ap₂ (λ m n. cond (eqb m n) (read s.args.at) (read s.args.elsewhere)) (rank_is q.before) (ap (of_z w32) s.pre.2)
-      ∙ ap₂ (λ (x y : ℤ). cond same x y) (tz refl s.fits.at) (tz refl s.fits.elsewhere)
+      read-amount ∙ ap₂ (λ m n. cond (eqb m n) (read s.args.at) (read s.args.elsewhere)) (rank_is q.before) (ap (of_z w32) s.requires.2)
+      ∙ ap₂ (λ (x y : ℤ). cond same x y) (tz refl s.ranges.at) (tz refl s.ranges.elsewhere)
 
   amount-size : nat_abs q.choose.result ≤ 2 ^ 7
-  amount-size = subst (λ (z : ℤ). nat_abs z ≤ 2 ^ 7) (sym amount) (either same s.args.at s.args.elsewhere (2 ^ 7) s.pre.0 s.pre.1)
+  amount-size = subst (λ (z : ℤ). nat_abs z ≤ 2 ^ 7) (sym amount) (either same s.args.at s.args.elsewhere (2 ^ 7) s.requires.0 s.requires.1)
 
 rank-requires : tie.Need-rank-requires
 rank-requires c κs = search rules
@@ -53,8 +53,8 @@ across-requires c κs = (
 returns : tie.Need-returns
 returns c =
     let q = c.before in
-    tz refl (record { sfits = c.across.type-inv }) ∙ c.across.ensures
+    tz {w = w32} refl (record { sfits = c.across.type_inv }) ∙ c.across.ensures
     ∙ ap₂ across (plain q.choose.result (omega (arith, amount-size q)) ∙ amount q) (tz refl (s q).ranges.c)
 
-pub member-spec : {M : Type 1} → statement M
-member-spec = tie.close (tie.spec rank-requires choose-requires across-requires returns)
+pub member_spec : {M : Type 1} → statement M
+member_spec = tie.close (tie.spec rank-requires choose-requires across-requires returns)

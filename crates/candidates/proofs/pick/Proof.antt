@@ -52,19 +52,19 @@ module _ (s : tie.Start) where
   b = s.args.b
 
   t-low : nat_abs t ≤ 1
-  t-low = subst (λ (z : ℤ). nat_abs z ≤ 1) (sym s.pre.0) (bit-low (lt_z (pos 0) t))
+  t-low = subst (λ (z : ℤ). nat_abs z ≤ 1) (sym s.requires.0) (bit-low (lt_z (pos 0) t))
 
   -- the size of each number as it is read
   sizes : (nat_abs (read a) ≤ 2 ^ 8) × (nat_abs (read b) ≤ 2 ^ 8) × (nat_abs (read t) ≤ 1)
-  sizes = (plain_size a (2 ^ 8) s.pre.1 (omega arith), plain_size b (2 ^ 8) s.pre.2 (omega arith), plain_size t 1 t-low (omega arith))
+  sizes = (plain_size a (2 ^ 8) s.requires.1 (omega arith), plain_size b (2 ^ 8) s.requires.2 (omega arith), plain_size t 1 t-low (omega arith))
 
-sub-result : tie.Need-overflow-sub-result
+sub-result : tie.Need-overflow_sub-result
 sub-result c = sfits-to refl (search (gap-fits, sizes c))
 
-mul-result : tie.Need-overflow-mul-result
+mul-result : tie.Need-overflow_mul-result
 mul-result c = sfits-to refl (search (product-fits, sizes c))
 
-add-result : tie.Need-overflow-add-result
+add-result : tie.Need-overflow_add-result
 add-result c = sfits-to refl (search (sum_fits, sizes c))
 
 returns : tie.Need-returns

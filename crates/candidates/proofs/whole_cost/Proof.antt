@@ -45,21 +45,21 @@ module _ (s : tie.Start) where
   sizes = s.args.sizes
 
   h-size : nat_abs (read h) ≤ 2 ^ 7
-  h-size = plain_size h (2 ^ 7) s.pre.0 (omega arith)
+  h-size = plain_size h (2 ^ 7) s.requires.0 (omega arith)
 
   top-size : nat_abs (read top) ≤ 2 ^ 12
-  top-size = plain_size top (2 ^ 12) s.pre.2 (omega arith)
+  top-size = plain_size top (2 ^ 12) s.requires.2 (omega arith)
 
-sub-cost : tie.Need-overflow-sub-cost
+sub-cost : tie.Need-overflow_sub-h
 sub-cost c = sfits-to refl (search (gap-fits, h-size c, top-size c))
 
-mul-cost : tie.Need-overflow-mul-cost
+mul-cost : tie.Need-overflow_mul-h
 mul-cost c = sfits-to refl (search (twice-fits, h-size c, top-size c))
 
 cost-requires : tie.Need-cost-requires
 cost-requires c κs = search rules
 
-add-result : tie.Need-overflow-add-result
+add-result : tie.Need-overflow_add-result
 add-result c =
     let s = c.before in
     let low = paid-size (read (h s)) (read (top s)) _ (h-size s) (top-size s) (lt_z (pos 0) (read s.args.odd)) c.cost.result c.cost.ensures in
@@ -82,5 +82,5 @@ returns c =
     tz (c.cost.ensures ∙ ap₂ (λ a b. cond (lt_z (pos 0) a) b (pos 0)) (tz refl s.ranges.odd) paid) (fits cost (omega (arith, cost-low))) in
     tz (ap₂ ◌+ℤ◌ (tz refl s.ranges.sizes) is) (fits (sizes s +ℤ cost) (omega (arith, sum-abs (sizes s) cost (2 ^ 10) (2 ^ 14) s.requires.1 cost-low)))
 
-pub whole-cost-spec : {M : Type 1} → statement M
-whole-cost-spec = tie.close (tie.spec sub-cost mul-cost cost-requires add-result returns)
+pub whole_cost_spec : {M : Type 1} → statement M
+whole_cost_spec = tie.close (tie.spec sub-cost mul-cost cost-requires add-result returns)

@@ -15,11 +15,11 @@ module _ (s : tie.Start) where
   test t h =
       ap (λ b. cond b (le_z s.args.e s.args.f) (lt_z s.args.e s.args.f)) (sym h ∙ ap₂ lt_z (tz refl s.ranges.c) (tz refl s.ranges.d))
 
-returns : tie.Need-returns
-returns c = let s = c.before in ap₂ le_z (tz refl s.ranges.e) (tz refl s.ranges.f) ∙ test s true c.if1.true
+returns : tie.Need-returns-then-c-d
+returns c = let s = c.before in ap₂ le_z (tz refl s.ranges.e) (tz refl s.ranges.f) ∙ test s true c.if-c-d.true
 
-returns-2 : tie.Need-returns-2
-returns-2 c = let s = c.before in ap₂ lt_z (tz refl s.ranges.e) (tz refl s.ranges.f) ∙ test s false c.if1.false
+returns-2 : tie.Need-returns-else-c-d
+returns-2 c = let s = c.before in ap₂ lt_z (tz refl s.ranges.e) (tz refl s.ranges.f) ∙ test s false c.if-c-d.false
 
-pub whole-first-spec : {M : Type 1} → statement M
-whole-first-spec = tie.close (tie.spec returns returns-2)
+pub whole_first_spec : {M : Type 1} → statement M
+whole_first_spec = tie.close (tie.spec returns returns-2)
