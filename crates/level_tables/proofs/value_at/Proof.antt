@@ -79,7 +79,7 @@ loop-again c =
     let test = ap (λ (S : ℕ). lies_in S args.p) (sym c.before.mask_at-mask.ensures) in (
       omega arith,
       elim c.if-mask-p.branch [
-        then-mask-p w ↦ omega (arith, w.bit.ensures, at.loop-k.invariant.1, tested-in t f at.loop-k.k (test ∙ eq-eqb _ _ w.if-mask-p.true))
+        | then-mask-p w ↦ omega (arith, w.bit.ensures, at.loop-k.invariant.1, tested-in t f at.loop-k.k (test ∙ eq-eqb _ _ w.if-mask-p.true))
         | else-mask-p w ↦ omega (arith, at.loop-k.invariant.1, tested-out t f at.loop-k.k (test ∙ ne_eqb _ _ w.if-mask-p.false))
       ],
     )
