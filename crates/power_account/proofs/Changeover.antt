@@ -82,13 +82,14 @@ module _ {a b : Account} (s : SameFigures a b) (c : Call) where
 pub same-figures : {a b : Account} → SameFigures a b → (cs : List Call) → SameFigures (account_after a cs) (account_after b cs)
 unfolding account_after
 same-figures s [] = s
-same-figures s (c ∷ cs) = same-figures (same_after s c) cs
+same-figures {a = a} {b = b} s (c ∷ cs) = same-figures {a = after a c} {b = after b c} (same_after s c) cs
 
 -- and accept the same of them
 pub same-accepted : {a b : Account} → SameFigures a b → (cs : List Call) → accepted a cs ≡ accepted b cs
 unfolding accepted
 same-accepted s [] = refl
-same-accepted s (c ∷ cs) = ap₂ (λ (x : ℕ) (ds : List Call). cond (eqb x 0) (c ∷ ds) ds) (same_answer s c) (same-accepted (same_after s c) cs)
+same-accepted {a = a} {b = b} s (c ∷ cs) =
+    ap₂ (λ (x : ℕ) (ds : List Call). cond (eqb x 0) (c ∷ ds) ds) (same_answer s c) (same-accepted {a = after a c} {b = after b c} (same_after s c) cs)
 
 -- ---- the strict reading
 

@@ -1,5 +1,7 @@
 // The account of a transmitter by itself: opened with a changeover, grown by the power and the largest block of each frame, full at 1,000,000 of them.
 // Its history, as calls of sending one after the other make it, is said in specs/History and proved in proofs/.
+#![tactic(auto)]
+
 ghost use Rattle.std.specs.Prelude.{◌≡◌, false, cond};
 ghost use Rattle.std.specs.Float.Ieee.Exact.{HasValue};
 ghost use Rattle.power_account.specs.Power.{Measured, power_of, begun, full, grown_with};
@@ -15,7 +17,7 @@ pub struct Account {
     pub largest: u64,
     pub changeover: u32,
 }
-
+#[derive(Drop)]
 // What opening an account answers: the refusal number, 0 for success, and the account.
 #[derive(Clone, Copy)]
 pub struct Opened {

@@ -6,5 +6,5 @@ use Rattle.power_account.proofs.is_full.Tie as tie
 returns : tie.Need-returns
 returns c = refl
 
-pub is-full-spec : {M : Type 1} → statement M
-is-full-spec = tie.close (tie.spec returns)
+pub is_full_spec : {M : Type 1} → statement M
+is_full_spec = tie.close (tie.spec returns)

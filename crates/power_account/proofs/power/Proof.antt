@@ -11,11 +11,11 @@ use Rattle.power_account.proofs.Exact.{power-exact}
 use Rattle.power_account.proofs.power.Statement.{statement}
 use Rattle.power_account.proofs.power.Tie as tie
 
-int-to-float-e : tie.Need-int-to-float-e
+int-to-float-e : tie.Need-int_to_float-e
 unfolding in_float
 int-to-float-e c = le→leb c.before.args.energy (2 ^ 53) (le_of_lt c.before.requires.small)
 
-int-to-float-d : tie.Need-int-to-float-d
+int-to-float-d : tie.Need-int_to_float-d
 unfolding in_float
 int-to-float-d c =
     let f = c.before.before.requires in
@@ -25,5 +25,5 @@ returns : tie.Need-returns
 unfolding power_of
 returns c = (refl, power-exact c.before.before.args.energy c.before.before.args.n c.before.before.requires)
 
-pub power-spec : {M : Type 1} → statement M
-power-spec = tie.close (tie.spec int-to-float-e int-to-float-d returns)
+pub power_spec : {M : Type 1} → statement M
+power_spec = tie.close (tie.spec int-to-float-e int-to-float-d returns)
