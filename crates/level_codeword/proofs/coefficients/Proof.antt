@@ -13,9 +13,6 @@ use Rattle.level_codeword.proofs.coefficients.Tie as tie
 fits : {m n : ℕ} → m ≡ n → {r bits : ℕ} → r ≤ m → bits < 2 ^ dimension r m → (r ≤ n) × (bits < 2 ^ dimension r n)
 fits e {r} {bits} h few = subst (λ (x : ℕ). (r ≤ x) × (bits < 2 ^ dimension r x)) e (h, few)
 
-slice-aggregate-gather-eight : tie.Need-slice-aggregate-gather-eight
-slice-aggregate-gather-eight c = search rules
-
 gather-eight-requires : tie.Need-gather_eight-requires
 gather-eight-requires c κs = (omega arith, below_64 refl)
 
@@ -51,7 +48,6 @@ pub coefficients_spec : {M : Type 1} → statement M
 coefficients_spec =
     tie.close
     (tie.spec
-    slice-aggregate-gather-eight
     gather-eight-requires
     returns
     spread-16-requires

@@ -7,9 +7,6 @@ use Rattle.level_tables.proofs.Gathered.{Gathered, gathered-first, gathered_next
 use Rattle.level_codeword.proofs.placed_16.Statement.{statement}
 use Rattle.level_codeword.proofs.placed_16.Tie as tie
 
-slice-aggregate-gather-eight : tie.Need-slice-aggregate-gather-eight
-slice-aggregate-gather-eight c = search rules
-
 gather-eight-requires : tie.Need-gather_eight-requires
 gather-eight-requires c κs = (omega arith, below_64 refl)
 
@@ -17,17 +14,14 @@ gather-eight-requires c κs = (omega arith, below_64 refl)
 abbrev to-8 : tie.After-gather_eight → Gathered (places_of right-16) 8
 to-8 c = gathered-first (places_of right-16) c.before.before.args.bits c.gather_eight.ensures
 
-slice-aggregate-gather-eight-2 : tie.Need-slice-aggregate-gather-eight-2
-slice-aggregate-gather-eight-2 c = search rules
-
 gather-eight-requires-2 : tie.Need-gather_eight-requires-2
 gather-eight-requires-2 c κs = (omega arith, below_64 refl)
 
 abbrev to-16 : tie.After-gather_eight-2 → Gathered (places_of right-16) 16
-to-16 c = gathered_next (to-8 c.before.before) (omega arith) c.gather_eight-2.ensures
+to-16 c = gathered_next (to-8 c.before.before.before) (omega arith) c.gather_eight-2.ensures
 
 add-result : tie.Need-overflow_add-result
-add-result c = omega (arith, gathered-sizes (to-8 c.before.before) c.gather_eight-2.ensures)
+add-result c = omega (arith, gathered-sizes (to-8 c.before.before.before) c.gather_eight-2.ensures)
 
 returns : tie.Need-returns
 returns c = gathered-all right-16 (to-16 c)
@@ -36,9 +30,7 @@ pub placed_16_spec : {M : Type 1} → statement M
 placed_16_spec =
     tie.close
     (tie.spec
-    slice-aggregate-gather-eight
     gather-eight-requires
-    slice-aggregate-gather-eight-2
     gather-eight-requires-2
     add-result
     returns)

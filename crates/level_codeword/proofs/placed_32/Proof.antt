@@ -7,9 +7,6 @@ use Rattle.level_tables.proofs.Gathered.{Gathered, gathered-first, gathered_next
 use Rattle.level_codeword.proofs.placed_32.Statement.{statement}
 use Rattle.level_codeword.proofs.placed_32.Tie as tie
 
-slice-aggregate-gather-eight : tie.Need-slice-aggregate-gather-eight
-slice-aggregate-gather-eight c = search rules
-
 gather-eight-requires : tie.Need-gather_eight-requires
 gather-eight-requires c κs = (omega arith, below_64 refl)
 
@@ -17,41 +14,32 @@ gather-eight-requires c κs = (omega arith, below_64 refl)
 abbrev to-8 : tie.After-gather_eight → Gathered (places_of right-32) 8
 to-8 c = gathered-first (places_of right-32) c.before.before.args.bits c.gather_eight.ensures
 
-slice-aggregate-gather-eight-2 : tie.Need-slice-aggregate-gather-eight-2
-slice-aggregate-gather-eight-2 c = search rules
-
 gather-eight-requires-2 : tie.Need-gather_eight-requires-2
 gather-eight-requires-2 c κs = (omega arith, below_64 refl)
 
 abbrev to-16 : tie.After-gather_eight-2 → Gathered (places_of right-32) 16
-to-16 c = gathered_next (to-8 c.before.before) (omega arith) c.gather_eight-2.ensures
+to-16 c = gathered_next (to-8 c.before.before.before) (omega arith) c.gather_eight-2.ensures
 
 add-result : tie.Need-overflow_add-result
-add-result c = omega (arith, gathered-sizes (to-8 c.before.before) c.gather_eight-2.ensures)
-
-slice-aggregate-gather-eight-3 : tie.Need-slice-aggregate-gather-eight-3
-slice-aggregate-gather-eight-3 c = search rules
+add-result c = omega (arith, gathered-sizes (to-8 c.before.before.before) c.gather_eight-2.ensures)
 
 gather-eight-requires-3 : tie.Need-gather_eight-requires-3
 gather-eight-requires-3 c κs = (omega arith, below_64 refl)
 
 abbrev to-24 : tie.After-gather_eight-3 → Gathered (places_of right-32) 24
-to-24 c = gathered_next (to-16 c.before.before) (omega arith) c.gather_eight-3.ensures
+to-24 c = gathered_next (to-16 c.before.before.before) (omega arith) c.gather_eight-3.ensures
 
 add-result-2 : tie.Need-overflow_add-result-2
-add-result-2 c = omega (arith, gathered-sizes (to-16 c.before.before) c.gather_eight-3.ensures)
-
-slice-aggregate-gather-eight-4 : tie.Need-slice-aggregate-gather-eight-4
-slice-aggregate-gather-eight-4 c = search rules
+add-result-2 c = omega (arith, gathered-sizes (to-16 c.before.before.before) c.gather_eight-3.ensures)
 
 gather-eight-requires-4 : tie.Need-gather_eight-requires-4
 gather-eight-requires-4 c κs = (omega arith, below_64 refl)
 
 abbrev to-32 : tie.After-gather_eight-4 → Gathered (places_of right-32) 32
-to-32 c = gathered_next (to-24 c.before.before) (omega arith) c.gather_eight-4.ensures
+to-32 c = gathered_next (to-24 c.before.before.before) (omega arith) c.gather_eight-4.ensures
 
 add-result-3 : tie.Need-overflow_add-result-3
-add-result-3 c = omega (arith, gathered-sizes (to-24 c.before.before) c.gather_eight-4.ensures)
+add-result-3 c = omega (arith, gathered-sizes (to-24 c.before.before.before) c.gather_eight-4.ensures)
 
 returns : tie.Need-returns
 returns c = gathered-all right-32 (to-32 c)
@@ -60,15 +48,11 @@ pub placed_32_spec : {M : Type 1} → statement M
 placed_32_spec =
     tie.close
     (tie.spec
-    slice-aggregate-gather-eight
     gather-eight-requires
-    slice-aggregate-gather-eight-2
     gather-eight-requires-2
     add-result
-    slice-aggregate-gather-eight-3
     gather-eight-requires-3
     add-result-2
-    slice-aggregate-gather-eight-4
     gather-eight-requires-4
     add-result-3
     returns)

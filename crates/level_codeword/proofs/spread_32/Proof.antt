@@ -7,9 +7,6 @@ use Rattle.level_codeword.proofs.Laid.{spread-first, spread-all}
 use Rattle.level_codeword.proofs.spread_32.Statement.{statement}
 use Rattle.level_codeword.proofs.spread_32.Tie as tie
 
-slice-aggregate-spread-eight : tie.Need-slice-aggregate-spread-eight
-slice-aggregate-spread-eight c = search rules
-
 spread-eight-requires : tie.Need-spread_eight-requires
 spread-eight-requires c κs = (omega arith, omega arith, below_64 refl)
 
@@ -29,7 +26,6 @@ pub spread_32_spec : {M : Type 1} → statement M
 spread_32_spec =
     tie.close
     (tie.spec
-    slice-aggregate-spread-eight
     spread-eight-requires
     returns
     placed-32-requires

@@ -7,9 +7,6 @@ use Rattle.level_codeword.proofs.Laid.{Spread, spread-first, spread-next, spread
 use Rattle.level_codeword.proofs.spread_64.Statement.{statement}
 use Rattle.level_codeword.proofs.spread_64.Tie as tie
 
-slice-aggregate-spread-eight : tie.Need-slice-aggregate-spread-eight
-slice-aggregate-spread-eight c = search rules
-
 spread-eight-requires : tie.Need-spread_eight-a-requires
 spread-eight-requires c κs = (omega arith, omega arith, below_64 refl)
 
@@ -20,50 +17,35 @@ to-8 c = let start = c.before.before in spread-first right-64 start.args.bits st
 returns : tie.Need-returns-then-r-le1
 returns c = spread-all (to-8 c.before) 1 (omega arith) (omega arith) (omega arith) c.if-r-le1.true
 
-slice-aggregate-spread-eight-2 : tie.Need-slice-aggregate-spread-eight-2
-slice-aggregate-spread-eight-2 c = search rules
-
 spread-eight-requires-2 : tie.Need-spread_eight-requires
 spread-eight-requires-2 c κs = (omega arith, omega arith, below_64 refl)
 
 abbrev to-16 : tie.After-spread_eight → Spread right-64 16
-to-16 c = spread-next (to-8 c.before.before.before.before) c.spread_eight.ensures
-
-slice-aggregate-spread-eight-3 : tie.Need-slice-aggregate-spread-eight-3
-slice-aggregate-spread-eight-3 c = search rules
+to-16 c = spread-next (to-8 c.before.before.before.before.before) c.spread_eight.ensures
 
 spread-eight-requires-3 : tie.Need-spread_eight-requires-then-r-le3
 spread-eight-requires-3 c κs = (omega arith, omega arith, below_64 refl)
 
 abbrev to-24 : tie.After-spread_eight-then-r-le3 → Spread right-64 24
-to-24 c = spread-next (to-16 c.before.before) c.spread_eight-then-r-le3.ensures
-
-slice-aggregate-spread-eight-4 : tie.Need-slice-aggregate-spread-eight-4
-slice-aggregate-spread-eight-4 c = search rules
+to-24 c = spread-next (to-16 c.before.before.before) c.spread_eight-then-r-le3.ensures
 
 spread-eight-requires-4 : tie.Need-spread_eight-requires-then-r-le3-2
 spread-eight-requires-4 c κs = (omega arith, omega arith, below_64 refl)
 
 abbrev to-32 : tie.After-spread_eight-then-r-le3-2 → Spread right-64 32
-to-32 c = spread-next (to-24 c.before.before) c.spread_eight-then-r-le3-2.ensures
-
-slice-aggregate-spread-eight-5 : tie.Need-slice-aggregate-spread-eight-5
-slice-aggregate-spread-eight-5 c = search rules
+to-32 c = spread-next (to-24 c.before.before.before) c.spread_eight-then-r-le3-2.ensures
 
 spread-eight-requires-5 : tie.Need-spread_eight-requires-then-r-le3-3
 spread-eight-requires-5 c κs = (omega arith, omega arith, below_64 refl)
 
 abbrev to-40 : tie.After-spread_eight-then-r-le3-3 → Spread right-64 40
-to-40 c = spread-next (to-32 c.before.before) c.spread_eight-then-r-le3-3.ensures
-
-slice-aggregate-spread-eight-6 : tie.Need-slice-aggregate-spread-eight-6
-slice-aggregate-spread-eight-6 c = search rules
+to-40 c = spread-next (to-32 c.before.before.before) c.spread_eight-then-r-le3-3.ensures
 
 spread-eight-requires-6 : tie.Need-spread_eight-requires-then-r-le3-4
 spread-eight-requires-6 c κs = (omega arith, omega arith, below_64 refl)
 
 abbrev to-48 : tie.After-spread_eight-then-r-le3-4 → Spread right-64 48
-to-48 c = spread-next (to-40 c.before.before) c.spread_eight-then-r-le3-4.ensures
+to-48 c = spread-next (to-40 c.before.before.before) c.spread_eight-then-r-le3-4.ensures
 
 returns-2 : tie.Need-returns-then-r-le3
 returns-2 c = spread-all (to-48 c) 3 (omega arith) (omega arith) (omega arith) (omega arith)
@@ -78,18 +60,12 @@ pub spread_64_spec : {M : Type 1} → statement M
 spread_64_spec =
     tie.close
     (tie.spec
-    slice-aggregate-spread-eight
     spread-eight-requires
     returns
-    slice-aggregate-spread-eight-2
     spread-eight-requires-2
-    slice-aggregate-spread-eight-3
     spread-eight-requires-3
-    slice-aggregate-spread-eight-4
     spread-eight-requires-4
-    slice-aggregate-spread-eight-5
     spread-eight-requires-5
-    slice-aggregate-spread-eight-6
     spread-eight-requires-6
     returns-2
     placed-64-requires
