@@ -1,5 +1,7 @@
 // Shaping a block of eight coordinates, and a frame block by block: the least member of its class. Each coordinate of a block is rounded, and where the
 // sum is odd one is changed; the half part is the same block, H across 0. Why that is least is said in `mending`, proofs/Mending and proofs/Halving.
+#![tactic(auto)]
+
 ghost use Rattle.std.specs.Prelude.{◌≡◌, cond, ◌/◌, ◌%◌, ◌^◌, ◌≤◌, length, neg_ℤ, nat_abs};
 ghost use Rattle.e8.specs.Energy.{Within};
 ghost use Rattle.e8.specs.Least.{least_block};

@@ -125,27 +125,27 @@ module _ (k : ℕ) (x : List ℤ) (q : RoundedBlock) (low : k ≤ 6) (w : Within
 
 -- ---- the facts after `round`
 
-module _ (c : tie.After-round) where
+module _ (c : tie.After-round-q) where
   abbrev start : tie.Start
   start = c.before.before
 
   abbrev q : RoundedBlock
-  q = c.round.result
+  q = c.round-q.result
 
   long : length start.args.x ≡ 8
   long = search rules
 
   f : Known start.args.k start.args.x q
-  f = known start.args.k start.args.x q start.pre.0 start.pre.1 long c.round.ensures
+  f = known start.args.k start.args.x q start.requires.0 start.requires.1 long c.round-q.ensures
 
   abbrev height : ℤ
-  height = read c.before.power.result
+  height = read c.before.power-h.result
 
   height-is : height ≡ pos (2 ^ start.args.k)
-  height-is = power-read start.args.k c.before.power.result start.pre.0 c.before.power.ensures
+  height-is = power-read start.args.k c.before.power-h.result start.requires.0 c.before.power-h.ensures
 
   height-size : nat_abs height ≤ 2 ^ 7
-  height-size = power_size start.args.k c.before.power.result start.pre.0 c.before.power.ensures
+  height-size = power_size start.args.k c.before.power-h.result start.requires.0 c.before.power-h.ensures
 
   sum-read : read q.sum ≡ q.sum
   sum-read = plain q.sum (omega (arith, f.sum-size))
@@ -177,11 +177,11 @@ module _ (c : tie.After-round) where
 
 -- ---- the facts after `remainder2`, where all figures are there
 
-module _ (c : tie.After-remainder2) where
-  abbrev at-remainder : tie.After-remainder
+module _ (c : tie.After-remainder-half_odd) where
+  abbrev at-remainder : tie.After-remainder-odd
   at-remainder = c.before.before
 
-  abbrev z : tie.After-round
+  abbrev z : tie.After-round-q
   z = at-remainder.before.before
 
   abbrev known-here : Known (start z).args.k (start z).args.x (q z)
@@ -200,22 +200,22 @@ module _ (c : tie.After-remainder2) where
   half-is-odd = known-here.two.half-odd
 
   abbrev odd : ℤ
-  odd = read at-remainder.remainder.result
+  odd = read at-remainder.remainder-odd.result
 
   abbrev half-odd : ℤ
-  half-odd = read c.remainder2.result
+  half-odd = read c.remainder-half_odd.result
 
   abbrev back : ℤ
   back = height z -ℤ half-odd
 
   odd-read : odd ≡ left H-here is_odd
   odd-read =
-      tz refl (record { sfits = at-remainder.remainder.ok }) ∙ at-remainder.remainder.ensures
+      tz {w = w32} refl (record { sfits = at-remainder.remainder-odd.type_inv }) ∙ at-remainder.remainder-odd.ensures
       ∙ ap (λ (y : ℤ). pos (mod_z y (2 ^ ((start z).args.k + 2)))) (sum-read z) ∙ known-here.odd_is
 
   half-odd-read : half-odd ≡ left H-here half-is-odd
   half-odd-read =
-      tz refl (record { sfits = c.remainder2.type-inv }) ∙ c.remainder2.ensures
+      tz {w = w32} refl (record { sfits = c.remainder-half_odd.type_inv }) ∙ c.remainder-half_odd.ensures
       ∙ ap (λ (y : ℤ). pos (mod_z y (2 ^ ((start z).args.k + 2)))) (halves-read z) ∙ known-here.half-odd-is
 
   back_is : back ≡ pos H-here -ℤ left H-here half-is-odd
@@ -232,63 +232,63 @@ module _ (c : tie.After-remainder2) where
 
 -- ---- the later places, each by the one before it: the candidates after `remainder2`, the rest after the second candidate
 
-abbrev at-candidate : tie.After-candidate → tie.After-remainder2
+abbrev at-candidate : tie.After-candidate-whole → tie.After-remainder-half_odd
 at-candidate c = c.before.before.before
 
-abbrev at-candidate2 : tie.After-candidate2 → tie.After-remainder2
+abbrev at-candidate2 : tie.After-candidate-half → tie.After-remainder-half_odd
 at-candidate2 c = at-candidate c.before.before
 
-abbrev at-whole-cost : tie.After-whole-cost → tie.After-candidate2
+abbrev at-whole-cost : tie.After-whole_cost-e → tie.After-candidate-half
 at-whole-cost c = c.before.before.before
 
-abbrev at-half-cost : tie.After-half-cost → tie.After-candidate2
+abbrev at-half-cost : tie.After-half_cost-f → tie.After-candidate-half
 at-half-cost c = at-whole-cost c.before.before
 
 -- what each call gives
 
-whole_part_lem : (c : tie.After-candidate) → let d = at-candidate c in c.candidate.result ≡ whole_part (H-here d) (is_odd d) (block d)
-whole_part_lem c = let d = at-candidate c in c.candidate.ensures ∙ (λ j. members (odd-read d j) (pos 0) (top-rank (z d) j) 0 (block d))
+whole_part_lem : (c : tie.After-candidate-whole) → let d = at-candidate c in c.candidate-whole.result ≡ whole_part (H-here d) (is_odd d) (block d)
+whole_part_lem c = let d = at-candidate c in c.candidate-whole.ensures ∙ (λ j. members (odd-read d j) (pos 0) (top-rank (z d) j) 0 (block d))
 
-half-part : (c : tie.After-candidate2) → let d = at-candidate2 c in c.candidate2.result ≡ half_part (H-here d) (half-is-odd d) (block d)
-half-part c = let d = at-candidate2 c in c.candidate2.ensures ∙ (λ j. members (back_read d j) (height-is (z d) j) (low-rank (z d) j) 0 (block d))
+half-part : (c : tie.After-candidate-half) → let d = at-candidate2 c in c.candidate-half.result ≡ half_part (H-here d) (half-is-odd d) (block d)
+half-part c = let d = at-candidate2 c in c.candidate-half.ensures ∙ (λ j. members (back_read d j) (height-is (z d) j) (low-rank (z d) j) 0 (block d))
 
-whole-cost-is : (c : tie.After-whole-cost) → let d = at-candidate2 (at-whole-cost c) in read c.whole-cost.result ≡ pos (whole_cost (H-here d) (is_odd d) (block d))
+whole-cost-is : (c : tie.After-whole_cost-e) → let d = at-candidate2 (at-whole-cost c) in read c.whole_cost-e.result ≡ pos (whole_cost (H-here d) (is_odd d) (block d))
 whole-cost-is c =
     let d = at-candidate2 (at-whole-cost c) in
     let y = z d in
-    tz refl (record { sfits = c.whole-cost.type-inv }) ∙ c.whole-cost.ensures
+    tz {w = w32} refl (record { sfits = c.whole_cost-e.type_inv }) ∙ c.whole_cost-e.ensures
     ∙ (λ j. sizes-read y j +ℤ cond (lt_z (pos 0) (odd-read d j)) (pos 2 *ℤ (height-is y j -ℤ shr_z (top_read y j) 16)) (pos 0)) ∙ (known-here d).whole-cost
 
-half-cost-is : (c : tie.After-half-cost) → let d = at-candidate2 (at-half-cost c) in read c.half-cost.result ≡ pos (half_cost (H-here d) (half-is-odd d) (block d))
+half-cost-is : (c : tie.After-half_cost-f) → let d = at-candidate2 (at-half-cost c) in read c.half_cost-f.result ≡ pos (half_cost (H-here d) (half-is-odd d) (block d))
 half-cost-is c =
     let d = at-candidate2 (at-half-cost c) in
     let y = z d in
-    tz refl (record { sfits = c.half-cost.type-inv }) ∙ c.half-cost.ensures
+    tz {w = w32} refl (record { sfits = c.half_cost-f.type_inv }) ∙ c.half_cost-f.ensures
     ∙ (λ j. pos 4 *ℤ height-is y j +ℤ cond (lt_z (pos 0) (half-odd-read d j)) (pos 2 *ℤ shr_z (low_read y j) 16) (pos 0)) ∙ (known-here d).half-cost
 
 -- ---- the candidates' coordinates are small, and the first of them
 
-whole-within : (c : tie.After-candidate) → Within (2 ^ 8) c.candidate.result
+whole-within : (c : tie.After-candidate-whole) → Within (2 ^ 8) c.candidate-whole.result
 whole-within c =
     let d = at-candidate c in
-    subst (Within (2 ^ 8)) (sym c.candidate.ensures) (members-within (odd d) (pos 0) _ 0 (block d) (odd_low d) (omega arith) (known-here d).block_size)
+    subst (Within (2 ^ 8)) (sym c.candidate-whole.ensures) (members-within (odd d) (pos 0) _ 0 (block d) (odd_low d) (omega arith) (known-here d).block_size)
 
-half-within : (c : tie.After-candidate2) → Within (2 ^ 8) c.candidate2.result
+half-within : (c : tie.After-candidate-half) → Within (2 ^ 8) c.candidate-half.result
 half-within c =
     let d = at-candidate2 c in
-    subst (Within (2 ^ 8)) (sym c.candidate2.ensures)
+    subst (Within (2 ^ 8)) (sym c.candidate-half.ensures)
     (members-within (read (back d)) (height (z d)) _ 0 (block d) (back-low-here d) (height-size (z d)) (known-here d).block_size)
 
 head_read : (v : List ℤ) → Within (2 ^ 8) v → read (get_or v 0 (pos 0)) ≡ get_or v 0 (pos 0)
 head_read v w = plain (get_or v 0 (pos 0)) (omega (arith, within-at (2 ^ 8) v 0 w))
 
-whole-head : (c : tie.After-candidate) → let d = at-candidate c in
-    read (get_or c.candidate.result 0 (pos 0)) ≡ get_or (whole_part (H-here d) (is_odd d) (block d)) 0 (pos 0)
-whole-head c = head_read c.candidate.result (whole-within c) ∙ ap (λ v. get_or v 0 (pos 0)) (whole_part_lem c)
+whole-head : (c : tie.After-candidate-whole) → let d = at-candidate c in
+    read (get_or c.candidate-whole.result 0 (pos 0)) ≡ get_or (whole_part (H-here d) (is_odd d) (block d)) 0 (pos 0)
+whole-head c = head_read c.candidate-whole.result (whole-within c) ∙ ap (λ v. get_or v 0 (pos 0)) (whole_part_lem c)
 
-half-head : (c : tie.After-candidate2) → let d = at-candidate2 c in
-    read (get_or c.candidate2.result 0 (pos 0)) ≡ get_or (half_part (H-here d) (half-is-odd d) (block d)) 0 (pos 0)
-half-head c = head_read c.candidate2.result (half-within c) ∙ ap (λ v. get_or v 0 (pos 0)) (half-part c)
+half-head : (c : tie.After-candidate-half) → let d = at-candidate2 c in
+    read (get_or c.candidate-half.result 0 (pos 0)) ≡ get_or (half_part (H-here d) (half-is-odd d) (block d)) 0 (pos 0)
+half-head c = head_read c.candidate-half.result (half-within c) ∙ ap (λ v. get_or v 0 (pos 0)) (half-part c)
 
 -- a truth value as a number
 truth : (t : Bool) → to_z w32 (bool_byte t) ≡ pos (bit t)
@@ -301,61 +301,61 @@ truth-test false = refl
 
 -- ---- the needs
 
-power-requires : tie.Need-power-requires
+power-requires : tie.Need-power-h-requires
 power-requires c κs = search rules
 
-round-requires : tie.Need-round-requires
-round-requires c κs = let s = c.before in (s.requires.0, power-read s.args.k c.power.result s.requires.0 c.power.ensures, s.requires.1)
+round-requires : tie.Need-round-q-requires
+round-requires c κs = let s = c.before in (s.requires.0, power-read s.args.k c.power-h.result s.requires.0 c.power-h.ensures, s.requires.1)
 
-add-remainder : tie.Need-overflow-add-remainder
+add-remainder : tie.Need-overflow_add-k
 add-remainder c = search rules
 
-remainder-requires : tie.Need-remainder-requires
+remainder-requires : tie.Need-remainder-odd-requires
 remainder-requires c κs =
     let y = c.before in
     (omega (arith, (start y).requires.0), plain_size (q y).sum (2 ^ 30) (omega (arith, (f y).sum-size)) (omega arith))
 
-add-remainder-2 : tie.Need-overflow-add-remainder-2
+add-remainder-2 : tie.Need-overflow_add-k-2
 add-remainder-2 c = search rules
 
-remainder-requires-2 : tie.Need-remainder-requires-2
+remainder-requires-2 : tie.Need-remainder-half_odd-requires
 remainder-requires-2 c κs =
     let y = c.before.before.before in
     (omega (arith, (start y).requires.0), plain_size (q y).halves (2 ^ 30) (omega (arith, (f y).halves-size)) (omega arith))
 
-candidate-requires : tie.Need-candidate-requires
+candidate-requires : tie.Need-candidate-whole-requires
 candidate-requires c κs = let d = c.before.before in (odd_low d, omega arith, top_pos (z d), (known-here d).block_size)
 
-sub-candidate : tie.Need-overflow-sub-candidate
+sub-candidate : tie.Need-overflow_sub-h
 sub-candidate c = let d = at-candidate c in sfits-to (back_is d) (fits _ (omega (arith, (known-here d).back-size)))
 
-candidate-requires-2 : tie.Need-candidate-requires-2
+candidate-requires-2 : tie.Need-candidate-half-requires
 candidate-requires-2 c κs = let d = at-candidate c.before in (back-low-here d, height-size (z d), low-pos (z d), (known-here d).block_size)
 
-whole-cost-requires : tie.Need-whole-cost-requires
+whole-cost-requires : tie.Need-whole_cost-e-requires
 whole-cost-requires c κs =
     let d = at-candidate2 c.before.before in
     let u = plain_size (q (z d)).sizes (2 ^ 10) (known-here d).sizes-size (omega arith) in
     (height-size (z d), u, plain_size (q (z d)).top (2 ^ 12) (known-here d).top-size (omega arith))
 
-half-cost-requires : tie.Need-half-cost-requires
+half-cost-requires : tie.Need-half_cost-f-requires
 half-cost-requires c κs = let d = at-candidate2 (at-whole-cost c.before) in (height-size (z d), plain_size (q (z d)).low (2 ^ 12) (known-here d).low-size (omega arith))
 
-array-copy-out-whole-first : tie.Need-array-copy-out-whole-first
+array-copy-out-whole-first : tie.Need-bounds-whole-0
 array-copy-out-whole-first c = search rules
 
-array-copy-out-whole-first-2 : tie.Need-array-copy-out-whole-first-2
+array-copy-out-whole-first-2 : tie.Need-bounds-half-0
 array-copy-out-whole-first-2 c = search rules
 
-whole-first-requires : tie.Need-whole-first-requires
+whole-first-requires : tie.Need-whole_first-t-requires
 whole-first-requires c κs = search rules
 
-cast-chosen : tie.Need-overflow-cast-chosen
+cast-chosen : tie.Need-overflow_cast-t
 cast-chosen c = tt
 
 chosen-requires : tie.Need-chosen-requires
 chosen-requires c κs =
-    let t = c.whole-first.result in
+    let t = c.whole_first-t.result in
     let half = at-half-cost c.before.before.before in
     (truth t ∙ ap (λ u. pos (bit u)) (sym (truth-test t)), whole-within half.before.before, half-within half)
 
@@ -366,14 +366,14 @@ returns c =
     let cost = cost2.before.before in
     let half = at-whole-cost cost in
     let whole = half.before.before in
-    let t = first.whole-first.result in
-    c.chosen.ensures ∙ ap (λ u. cond u whole.candidate.result half.candidate2.result) (truth-test t)
+    let t = first.whole_first-t.result in
+    c.chosen.ensures ∙ ap (λ u. cond u whole.candidate-whole.result half.candidate-half.result) (truth-test t)
     ∙ ap₂ (cond t) (whole_part_lem whole) (half-part half)
     ∙ (known-here (at-candidate whole)).two.least t
-    (first.whole-first.ensures ∙ (λ j. whole_first (whole-cost-is cost j) (whole-head whole j) (half-cost-is cost2 j) (half-head half j)))
+    (first.whole_first-t.ensures ∙ (λ j. whole_first (whole-cost-is cost j) (whole-head whole j) (half-cost-is cost2 j) (half-head half j)))
 
-pub least-spec : {M : Type 1} → statement M
-least-spec =
+pub least_spec : {M : Type 1} → statement M
+least_spec =
     tie.close
     (tie.spec
     power-requires

@@ -40,28 +40,28 @@ turned-eight : (t : Bool) (x : List ℤ) → length x ≡ 8 → length (cond t (
 turned-eight true x l = negated-length x ∙ l
 turned-eight false x l = l
 
-turned-requires : tie.Need-turned-requires
+turned-requires : tie.Need-turned-y-requires
 turned-requires c κs = search rules
 
-least-requires : tie.Need-least-requires
+least-requires : tie.Need-least-z-requires
 least-requires c κs =
     let s = c.before in
-    (s.requires.0, subst (Within (2 ^ 24)) (sym c.turned.ensures) (turned-within s.args.last (2 ^ 24) s.args.x s.requires.1))
+    (s.requires.0, subst (Within (2 ^ 24)) (sym c.turned-y.ensures) (turned-within s.args.last (2 ^ 24) s.args.x s.requires.1))
 
-turned-requires-2 : tie.Need-turned-requires-2
+turned-requires-2 : tie.Need-turned-requires
 turned-requires-2 c κs =
     let s = c.before.before in
-    subst (Within (2 ^ 24)) (sym c.least.ensures)
-    (small s.args.k c.before.turned.result s.requires.0
-    (ap length c.before.turned.ensures ∙ turned-eight s.args.last s.args.x (eight s)))
+    subst (Within (2 ^ 24)) (sym c.least-z.ensures)
+    (small s.args.k c.before.turned-y.result s.requires.0
+    (ap length c.before.turned-y.ensures ∙ turned-eight s.args.last s.args.x (eight s)))
 
 returns : tie.Need-returns
 returns c =
     let s = c.before.before.before in
     let H = 2 ^ s.args.k in
-    c.turned2.ensures
-    ∙ ap (λ (z : List ℤ). cond s.args.last (negated z) z) (c.before.least.ensures ∙ ap (least_block H) c.before.before.turned.ensures)
+    c.turned.ensures
+    ∙ ap (λ (z : List ℤ). cond s.args.last (negated z) z) (c.before.least-z.ensures ∙ ap (least_block H) c.before.before.turned-y.ensures)
     ∙ both s.args.last H s.args.x
 
-pub least-by-spec : {M : Type 1} → statement M
-least-by-spec = tie.close (tie.spec turned-requires least-requires turned-requires-2 returns)
+pub least_by_spec : {M : Type 1} → statement M
+least_by_spec = tie.close (tie.spec turned-requires least-requires turned-requires-2 returns)

@@ -17,20 +17,20 @@ module _ (s : tie.Start) where
   negative-is = ap (λ (z : ℤ). pos 0 -ℤ z) (tz refl s.ranges.z) ∙ eq! (# 0 ⊖ ` s.args.z) (⊝ ` s.args.z) (omega arith)
 
   negative_fits : SFits w32 (neg_ℤ s.args.z)
-  negative_fits = fits (neg_ℤ s.args.z) (omega (arith, abs_neg s.args.z, s.pre))
+  negative_fits = fits (neg_ℤ s.args.z) (omega (arith, abs_neg s.args.z, s.requires))
 
-sub-result : tie.Need-overflow-sub-result
+sub-result : tie.Need-overflow_sub-result
 sub-result c = sfits-to (negative-is c.before) (negative_fits c.before)
 
-returns : tie.Need-returns
+returns : tie.Need-returns-then-turn
 returns c =
     let s = c.before in
-    tz (negative-is s) (negative_fits s) ∙ sym (ap (λ t. cond t (neg_ℤ s.args.z) s.args.z) c.if1.true)
+    tz (negative-is s) (negative_fits s) ∙ sym (ap (λ t. cond t (neg_ℤ s.args.z) s.args.z) c.if-turn.true)
 
-returns-2 : tie.Need-returns-2
+returns-2 : tie.Need-returns-else-turn
 returns-2 c =
     let s = c.before in
-    tz refl s.ranges.z ∙ sym (ap (λ t. cond t (neg_ℤ s.args.z) s.args.z) c.if1.false)
+    tz refl s.ranges.z ∙ sym (ap (λ t. cond t (neg_ℤ s.args.z) s.args.z) c.if-turn.false)
 
-pub signed-spec : {M : Type 1} → statement M
-signed-spec = tie.close (tie.spec sub-result returns returns-2)
+pub signed_spec : {M : Type 1} → statement M
+signed_spec = tie.close (tie.spec sub-result returns returns-2)
