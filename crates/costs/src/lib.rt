@@ -1,5 +1,7 @@
 // What samples cost: their squared distances from the nearest numbers of each parity, and of each residue modulo 4; and the frame that is nearest to
 // them among those with given level words. Samples are counted in 256ths, squared distances in parts of 1 / 65,536.
+#![tactic(auto)]
+
 mod coordinate;
 mod tables;
 

@@ -24,22 +24,22 @@ module _ (c : tie.After-lifted) where
 lifted-requires : tie.Need-lifted-requires
 lifted-requires c κs = search rules
 
-add-square-from : tie.Need-overflow-add-square-from
+add-square-from : tie.Need-overflow_add-lifted
 add-square-from c = record { fits = omega (arith, (range c).1, half-small c.before.args.half c.before.requires.2) }
 
-mul-square-from : tie.Need-overflow-mul-square-from
+mul-square-from : tie.Need-overflow_mul-c
 mul-square-from c = search rules
 
-sub-square-from : tie.Need-overflow-sub-square-from
+sub-square-from : tie.Need-overflow_sub-lifted
 sub-square-from c = omega (arith, (range c).0, c.before.requires.1)
 
-mul-square-from-2 : tie.Need-overflow-mul-square-from-2
+mul-square-from-2 : tie.Need-overflow_mul-half
 mul-square-from-2 c = record { fits = omega (arith, (half-small c.before.args.half c.before.requires.2).1) }
 
-rem-square-from : tie.Need-nonzero-rem-square-from
+rem-square-from : tie.Need-nonzero_rem-lifted
 rem-square-from c = omega (arith, (half-small c.before.args.half c.before.requires.2).0)
 
-square-from-requires : tie.Need-square-from-requires
+square-from-requires : tie.Need-square_from-requires
 square-from-requires c κs =
     let a = c.before.args in
     let h = half-small a.half c.before.requires.2 in
@@ -49,11 +49,11 @@ returns : tie.Need-returns
 returns c =
     let l = c.before in
     let s = l.before in
-    c.square-from.ensures
+    c.square_from.ensures
     ∙ half-gap (t l) s.requires.0 l.lifted.result s.args.c (is l) s.requires.1 s.args.half s.requires.2
 
-pub gap-of-spec : {M : Type 1} → statement M
-gap-of-spec =
+pub gap_of_spec : {M : Type 1} → statement M
+gap_of_spec =
     tie.close
     (tie.spec
     lifted-requires

@@ -24,15 +24,15 @@ module _ (c : tie.Start) where
   natural : pos (nat_abs (t +ℤ pos 65536)) ≡ t +ℤ pos 65536
   natural = lifted-natural t c.requires (t +ℤ pos 65536) refl
 
-add-result : tie.Need-overflow-add-result
+add-result : tie.Need-overflow_add-result
 add-result c = sfits-to (sum c) (lifted-fits (t c) c.requires)
 
-cast-result : tie.Need-overflow-cast-result
+cast-result : tie.Need-overflow_cast-result
 cast-result c = subst (λ (z : ℤ). T (non_neg z) × Fits w32 (nat_abs z)) (sym (read c))
     (natural-sign (t c +ℤ pos 65536) (natural c), record { fits = omega (arith, (lifted-range (t c) c.requires (nat_abs (t c +ℤ pos 65536)) (natural c)).1) })
 
 returns : tie.Need-returns
 returns c = ap (λ (z : ℤ). pos (nat_abs z)) (read c) ∙ natural c
 
-pub lifted-spec : {M : Type 1} → statement M
-lifted-spec = tie.close (tie.spec add-result cast-result returns)
+pub lifted_spec : {M : Type 1} → statement M
+lifted_spec = tie.close (tie.spec add-result cast-result returns)

@@ -45,25 +45,25 @@ module _ (u d : ℕ) (hu : u ≤ 400) (hd : d ≤ 400) where
 lifted-requires : tie.Need-lifted-requires
 lifted-requires c κs = search rules
 
-add-up : tie.Need-overflow-add-up
+add-up : tie.Need-overflow_add-up
 add-up c = record { fits = omega (arith, (range c).1) }
 
-mul-up : tie.Need-overflow-mul-up
+mul-up : tie.Need-overflow_mul-up
 mul-up c = search rules
 
-sub-up : tie.Need-overflow-sub-up
+sub-up : tie.Need-overflow_sub-up
 sub-up c = omega (arith, (range c).0)
 
-mul-up-2 : tie.Need-overflow-mul-up-2
+mul-up-2 : tie.Need-overflow_mul-up-2
 mul-up-2 c = search rules
 
-add-up-2 : tie.Need-overflow-add-up-2
+add-up-2 : tie.Need-overflow_add-up-2
 add-up-2 c = search rules
 
-cast-result : tie.Need-overflow-cast-result
+cast-result : tie.Need-overflow_cast-result
 cast-result c = search rules
 
-sub-result : tie.Need-overflow-sub-result
+sub-result : tie.Need-overflow_sub-result
 sub-result c = search (less-fits, up_small, (range c).1, c.before.requires.1, lit≤)
 
 returns : tie.Need-returns
@@ -73,8 +73,8 @@ returns c =
     less (4 * ((l + 512 - 256 * r) / 1024) + r) 256 (up_small l 512 r (range c).1 (omega arith) c.before.requires.1) (omega arith)
     ∙ residue-number (t c) c.before.requires.0 l r (is c) c.before.requires.1
 
-pub nearest-number-spec : {M : Type 1} → statement M
-nearest-number-spec =
+pub nearest_number_spec : {M : Type 1} → statement M
+nearest_number_spec =
     tie.close
     (tie.spec
     lifted-requires

@@ -42,24 +42,24 @@ module _ (c : tie.Start) where
   square-fits : SFits w32 (pos (sq z))
   square-fits = fits (pos (sq z)) (omega (arith, square-small))
 
-cast-d : tie.Need-overflow-cast-d
+cast-d : tie.Need-overflow_cast-d
 cast-d c = search rules
 
-cast-d-2 : tie.Need-overflow-cast-d-2
+cast-d-2 : tie.Need-overflow_cast-d-2
 cast-d-2 c = search rules
 
-sub-d : tie.Need-overflow-sub-d
+sub-d : tie.Need-overflow_sub-d
 sub-d c = sfits-to (difference c) (z-fits c)
 
-mul-result : tie.Need-overflow-mul-result
+mul-result : tie.Need-overflow_mul-result
 mul-result c = sfits-to (product c) (square-fits c)
 
-cast-result : tie.Need-overflow-cast-result
+cast-result : tie.Need-overflow_cast-result
 cast-result c =
     subst (λ (y : ℤ). T (non_neg y) × Fits w32 (nat_abs y)) (sym (tz (product c) (square-fits c))) (tt, record { fits = omega (arith, square-small c) })
 
 returns : tie.Need-returns
 returns c = ap nat_abs (tz (product c) (square-fits c))
 
-pub square-from-spec : {M : Type 1} → statement M
-square-from-spec = tie.close (tie.spec cast-d cast-d-2 sub-d mul-result cast-result returns)
+pub square_from_spec : {M : Type 1} → statement M
+square_from_spec = tie.close (tie.spec cast-d cast-d-2 sub-d mul-result cast-result returns)

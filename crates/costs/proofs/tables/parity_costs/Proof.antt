@@ -17,39 +17,39 @@ use Rattle.costs.proofs.Costs.{parity-costs-are}
 use Rattle.costs.proofs.tables.parity_costs.Statement.{statement}
 use Rattle.costs.proofs.tables.parity_costs.Tie as tie
 
-abbrev invariant-loop : tie.invariant-loop
-invariant-loop samples costs₀ n p₀ costs p =
+abbrev invariant-loop-p : tie.invariant-loop-p
+invariant-loop-p samples costs₀ n p₀ costs p =
     (p ≤ n) × (length costs ≡ length costs₀) × ((i : ℕ) → i < 2 * p → get_or costs i 0 ≡ cost_at 256 samples (i / 2) (i % 2))
 
-abbrev decreases-loop : tie.decreases-loop
-decreases-loop samples costs₀ n p₀ costs p = n - p
+abbrev decreases-loop-p : tie.decreases-loop-p
+decreases-loop-p samples costs₀ n p₀ costs p = n - p
 
 -- the sample
-module _ (c : tie.After-t invariant-loop decreases-loop) where
-  abbrev s : tie.Start invariant-loop decreases-loop
+module _ (c : tie.After-t-1 invariant-loop-p decreases-loop-p) where
+  abbrev s : tie.Start invariant-loop-p decreases-loop-p
   s = c.before.before.before.before
 
   abbrev ts : List ℤ
   ts = s.args.samples.now
 
   abbrev p : ℕ
-  p = c.before.before.loop.p
+  p = c.before.before.loop-p.p
 
   abbrev so_far : List ℕ
-  so_far = c.before.before.loop.costs
+  so_far = c.before.before.loop-p.costs
 
   back : to_z w32 (of_z w32 (get_or ts p (pos 0))) ≡ get_or ts p (pos 0)
-  back = tz refl (record { sfits = c.t.given })
+  back = tz refl (record { sfits = c.t-1.given })
 
   small : nat_abs (to_z w32 (of_z w32 (get_or ts p (pos 0)))) ≤ 32768
-  small = subst (λ (y : ℤ). nat_abs y ≤ 32768) (sym back) (within-at 32768 ts p s.pre.2)
+  small = subst (λ (y : ℤ). nat_abs y ≤ 32768) (sym back) (within-at 32768 ts p s.requires.2)
 
   room : 2 * p + 1 < length so_far
-  room = omega (arith, c.before.loop-test.true, c.before.before.loop.invariant.1, s.pre.0)
+  room = omega (arith, c.before.loop-p-test.true, c.before.before.loop-p.invariant.1, s.requires.0)
 
 -- its costs
-module _ (c : tie.After-gap-of2 invariant-loop decreases-loop) where
-  abbrev t : tie.After-t invariant-loop decreases-loop
+module _ (c : tie.After-gap_of-in-loop-p invariant-loop-p decreases-loop-p) where
+  abbrev t : tie.After-t-1 invariant-loop-p decreases-loop-p
   t = c.before.before
 
   even : c.before.gap_of.result ≡ cost_at 256 (ts t) (2 * p t / 2) (2 * p t % 2)
@@ -58,79 +58,79 @@ module _ (c : tie.After-gap-of2 invariant-loop decreases-loop) where
       let r : 0 ≡ 2 * p t % 2 = omega arith in
       c.before.gap_of.ensures ∙ ap (λ (y : ℤ). gap 256 (y -ℤ pos (256 * 0))) (back t) ∙ ap₂ (cost_at 256 (ts t)) q r
 
-  odd : c.gap-of2.result ≡ cost_at 256 (ts t) ((2 * p t + 1) / 2) ((2 * p t + 1) % 2)
+  odd : c.gap_of-in-loop-p.result ≡ cost_at 256 (ts t) ((2 * p t + 1) / 2) ((2 * p t + 1) % 2)
   odd =
       let q : p t ≡ (2 * p t + 1) / 2 = omega arith in
       let r : 1 ≡ (2 * p t + 1) % 2 = omega arith in
-      c.gap-of2.ensures ∙ ap (λ (y : ℤ). gap 256 (y -ℤ pos (256 * 1))) (back t) ∙ ap₂ (cost_at 256 (ts t)) q r
+      c.gap_of-in-loop-p.ensures ∙ ap (λ (y : ℤ). gap 256 (y -ℤ pos (256 * 1))) (back t) ∙ ap₂ (cost_at 256 (ts t)) q r
 
-loop-holds : tie.Need-loop-init invariant-loop decreases-loop
+loop-holds : tie.Need-loop-p-init invariant-loop-p decreases-loop-p
 loop-holds c = (omega arith, refl, λ i l. absurd (omega arith))
 
-mul-t : tie.Need-overflow-mul-t invariant-loop decreases-loop
+mul-t : tie.Need-offset_bounds-samples-p invariant-loop-p decreases-loop-p
 mul-t c = search rules
 
-shared-slice-copy-out-t : tie.Need-shared-slice-copy-out-t invariant-loop decreases-loop
+shared-slice-copy-out-t : tie.Need-bounds-samples-p invariant-loop-p decreases-loop-p
 shared-slice-copy-out-t c = search rules
 
-gap-of-requires : tie.Need-gap-of-requires invariant-loop decreases-loop
+gap-of-requires : tie.Need-gap_of-requires invariant-loop-p decreases-loop-p
 gap-of-requires c κs = (small c, omega arith, inl refl)
 
-mul-costs : tie.Need-overflow-mul-costs invariant-loop decreases-loop
+mul-costs : tie.Need-overflow_mul-costs invariant-loop-p decreases-loop-p
 mul-costs c = search rules
 
-mul-costs-2 : tie.Need-overflow-mul-costs-2 invariant-loop decreases-loop
+mul-costs-2 : tie.Need-offset_bounds-costs-p invariant-loop-p decreases-loop-p
 mul-costs-2 c = search rules
 
-slice-write-costs : tie.Need-slice-write-costs invariant-loop decreases-loop
+slice-write-costs : tie.Need-bounds-costs-p invariant-loop-p decreases-loop-p
 slice-write-costs c = omega (arith, room c.before)
 
-gap-of-requires-2 : tie.Need-gap-of-requires-2 invariant-loop decreases-loop
+gap-of-requires-2 : tie.Need-gap_of-requires-in-loop-p invariant-loop-p decreases-loop-p
 gap-of-requires-2 c κs = (small c.before, omega arith, inl refl)
 
-mul-costs-3 : tie.Need-overflow-mul-costs-3 invariant-loop decreases-loop
+mul-costs-3 : tie.Need-overflow_mul-costs-in-loop-p invariant-loop-p decreases-loop-p
 mul-costs-3 c = search rules
 
-add-costs : tie.Need-overflow-add-costs invariant-loop decreases-loop
+add-costs : tie.Need-overflow_add-costs invariant-loop-p decreases-loop-p
 add-costs c = search rules
 
-mul-costs-4 : tie.Need-overflow-mul-costs-4 invariant-loop decreases-loop
+mul-costs-4 : tie.Need-offset_bounds-costs-p-in-loop-p invariant-loop-p decreases-loop-p
 mul-costs-4 c = search rules
 
-slice-write-costs-2 : tie.Need-slice-write-costs-2 invariant-loop decreases-loop
+slice-write-costs-2 : tie.Need-bounds-costs-p-in-loop-p invariant-loop-p decreases-loop-p
 slice-write-costs-2 c = omega (arith, room c.before.before, length-set (so_far (t c)) (2 * p (t c)) c.before.gap_of.result)
 
-add-p : tie.Need-overflow-add-p invariant-loop decreases-loop
+add-p : tie.Need-overflow_add-p invariant-loop-p decreases-loop-p
 add-p c = search rules
 
-loop-less : tie.Need-loop-smaller invariant-loop decreases-loop
+loop-less : tie.Need-loop-p-smaller invariant-loop-p decreases-loop-p
 loop-less c = search rules
 
-loop-again : tie.Need-loop-preserved invariant-loop decreases-loop
+loop-again : tie.Need-loop-p-preserved invariant-loop-p decreases-loop-p
 loop-again c =
-    let l = (t c).before.before.loop in (
-      omega (arith, (t c).before.loop-test.true),
-      length-set (set (so_far (t c)) (2 * p (t c)) c.before.gap_of.result) (2 * p (t c) + 1) c.gap-of2.result
-          ∙ length-set (so_far (t c)) (2 * p (t c)) c.before.gap_of.result ∙ l.inv.1,
-      λ i h. stored-two 0 (λ i. cost_at 256 (ts (t c)) (i / 2) (i % 2)) (so_far (t c)) (2 * p (t c)) c.before.gap_of.result c.gap-of2.result
-          (room (t c)) (even c) (odd c) l.inv.2 i (omega arith),
+    let l = (t c).before.before.loop-p in (
+      omega (arith, (t c).before.loop-p-test.true),
+      length-set (set (so_far (t c)) (2 * p (t c)) c.before.gap_of.result) (2 * p (t c) + 1) c.gap_of-in-loop-p.result
+          ∙ length-set (so_far (t c)) (2 * p (t c)) c.before.gap_of.result ∙ l.invariant.1,
+      λ i h. stored-two 0 (λ i. cost_at 256 (ts (t c)) (i / 2) (i % 2)) (so_far (t c)) (2 * p (t c)) c.before.gap_of.result c.gap_of-in-loop-p.result
+          (room (t c)) (even c) (odd c) l.invariant.2 i (omega arith),
     )
 
-same_length : tie.Need-same-length invariant-loop decreases-loop
+same_length : tie.Need-shape_of-costs invariant-loop-p decreases-loop-p
 same_length c = search rules
 
-returns : tie.Need-returns invariant-loop decreases-loop
+returns : tie.Need-returns invariant-loop-p decreases-loop-p
 returns c =
-    let l = c.before.loop in
+    let l = c.before.loop-p in
     let s = c.before.before.before in
-    parity-costs-are s.args.samples.now l.costs (l.invariant.1 ∙ s.requires.0) (λ i h. l.invariant.2 i (omega (arith, h, c.loop-test.false)))
+    parity-costs-are s.args.samples.now l.costs (l.invariant.1 ∙ s.requires.0) (λ i h. l.invariant.2 i (omega (arith, h, c.loop-p-test.false)))
 
-pub parity-costs-spec : {M : Type 1} → statement M
-parity-costs-spec =
+pub parity_costs_spec : {M : Type 1} → statement M
+parity_costs_spec =
     tie.close
     (tie.spec
-    invariant-loop
-    decreases-loop
+    invariant-loop-p
+    decreases-loop-p
     loop-holds
     mul-t
     shared-slice-copy-out-t
