@@ -33,7 +33,7 @@ module _ (c : tie.After-t-1 invariant-loop-p decreases-loop-p) where
   z = get_or s.args.samples.now p (pos 0)
 
   back : to_z w32 (of_z w32 z) ≡ z
-  back = tz refl (record { sfits = c.t-1.given })
+  back = tz {w = w32} refl (record { sfits = c.t-1.given })
 
   short : p < 64
   short = omega (arith, c.before.loop-p-test.true, s.requires.1)
@@ -45,7 +45,7 @@ module _ (c : tie.After-nearest_number-z invariant-loop-p decreases-loop-p) wher
 
   written : to_z w32 (of_z w32 c.nearest_number-z.result) ≡ candidate (s u).args.samples.now (s u).args.a (s u).args.b (p u)
   written =
-      tz refl (record { sfits = c.nearest_number-z.type_inv }) ∙ c.nearest_number-z.ensures
+      tz {w = w32} refl (record { sfits = c.nearest_number-z.type_inv }) ∙ c.nearest_number-z.ensures
       ∙ ap₂ (λ (y : ℤ) (r : ℕ). pos 4 *ℤ nearest 512 (y -ℤ pos (256 * r)) +ℤ pos r) (back u)
       (ap₂ (λ (x y : ℕ). x + 2 * y) c.before.before.bit.ensures c.before.bit-in-loop-p.ensures)
 

@@ -56,7 +56,7 @@ module _ (c : tie.After-t-1 invariant-loop-p decreases-loop-p) where
   sample = get_or (ts c.before) (q c.before) (pos 0)
 
   back : to_z w32 (of_z w32 sample) ≡ sample
-  back = tz refl (record { sfits = c.t-1.given })
+  back = tz {w = w32} refl (record { sfits = c.t-1.given })
 
   small : nat_abs (to_z w32 (of_z w32 sample)) ≤ 32768
   small = subst (λ (y : ℤ). nat_abs y ≤ 32768) (sym back) (within-at 32768 (ts c.before) (q c.before) (s c.before).requires.2)

@@ -39,7 +39,7 @@ module _ (c : tie.After-t-1 invariant-loop-p decreases-loop-p) where
   so_far = c.before.before.loop-p.costs
 
   back : to_z w32 (of_z w32 (get_or ts p (pos 0))) ≡ get_or ts p (pos 0)
-  back = tz refl (record { sfits = c.t-1.given })
+  back = tz {w = w32} refl (record { sfits = c.t-1.given })
 
   small : nat_abs (to_z w32 (of_z w32 (get_or ts p (pos 0)))) ≤ 32768
   small = subst (λ (y : ℤ). nat_abs y ≤ 32768) (sym back) (within-at 32768 ts p s.requires.2)
