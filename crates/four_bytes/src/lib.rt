@@ -1,4 +1,6 @@
 // Numbers and coordinates as four bytes, lowest byte first, coordinates in two's complement, in a lent buffer.
+#![tactic(auto)]
+
 ghost use Rattle.std.specs.Prelude.{◌≡◌, ◌+◌, ◌*◌, ◌%◌, ◌≤◌, ◌<◌, leb, length, drop};
 ghost use Rattle.octets.specs.Place.{put_at};
 ghost use Rattle.four_bytes.specs.FourBytes.{four_bytes, four_at, twos, signed, coordinate_bytes, coordinates_from};

@@ -15,11 +15,11 @@ left room p bytes h = go (leb (p + bytes) room) refl
     go true e = le-leb bytes (room - p) (omega (arith, leb-true (p + bytes) room e)) ∙ sym e
     go false e = lt-leb bytes (room - p) (omega (arith, leb-false (p + bytes) room e)) ∙ sym e
 
-returns : tie.Need-returns
+returns : tie.Need-returns-then-room-p
 returns c = let s = c.before.args in sym (lt-leb (s.p + s.bytes) s.room (omega arith))
 
-returns-2 : tie.Need-returns-2
+returns-2 : tie.Need-returns
 returns-2 c = let s = c.before.args in left s.room s.p s.bytes (omega arith)
 
-pub has-room-spec : {M : Type 1} → statement M
-has-room-spec = tie.close (tie.spec returns returns-2)
+pub has_room_spec : {M : Type 1} → statement M
+has_room_spec = tie.close (tie.spec returns returns-2)
