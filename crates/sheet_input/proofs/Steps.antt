@@ -9,8 +9,7 @@ use lib.Dec.{T, eqb, leb}
 use lib.IntN.{ℤ, pos, negsuc, nat_abs}
 use lib.Signed.{lt_z, non_neg}
 use borrow.Author.Tests.{ltb-true, le-leb, lt-leb, eqb-false, leb-false}
-use Rattle.libc.specs.Io.{Moved}
-use Rattle.sheet_input.specs.Reading.{nothing, after_read, Reads, ReadBy}
+use Rattle.sheet_input.specs.Reading.{Moved, nothing, after_read, Reads, ReadBy}
 use Rattle.sheet_input.specs.declared.Input.{Input}
 
 pub none-negative : (z : ℤ) (b : ℕ) → lt_z z (pos b) ≡ false → T (non_neg z)

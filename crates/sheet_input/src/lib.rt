@@ -1,7 +1,11 @@
 // A sheet read from a file into a lent room. What the system's reads answer is not known; what is made of their answers is.
+#![tactic(auto)]
+
 ghost use Rattle.std.specs.Prelude.{◌≡◌, ◌+◌, ◌^◌, ◌<◌, length};
 ghost use Rattle.io.specs.Counts.{IsPrefixLen};
-ghost use Rattle.sheet_input.specs.Reading.{after_read, ReadBy};
+ghost use Rattle.sheet_input.specs.Reading.{Moved, after_read, ReadBy};
+
+use std::io::Read;
 
 // What was read so far: how many bytes stand at the start of the room, whether the reading is over, and whether a read failed.
 #[derive(Drop)]
@@ -39,9 +43,19 @@ fn after_read(input: Input, left: usize, got: isize) -> Input
     }
 }
 
+// One read into a lent room, and its answer as a number: how many bytes came, or -1 where the read failed.
+fn read<R: Read>(from: &mut R, room: &mut [u8]) -> isize
+    ensures { Moved (length room.old) result }
+{
+    match from.read(room) {
+        Ok(n) => n as isize,
+        Err(_) => -1,
+    }
+}
+
 // Reads until the room is full, the input ends or a read fails. After a read that brought nothing there is no other: on a terminal
 // one end of input is enough.
-pub fn read_sheet(fd: i32, room: &mut [u8]) -> Input
+pub fn read_sheet<R: Read>(from: &mut R, room: &mut [u8]) -> Input
     ensures count { IsPrefixLen result.length room.new }
     ensures answers { ReadBy (length room.old) result }
 {
@@ -53,7 +67,7 @@ pub fn read_sheet(fd: i32, room: &mut [u8]) -> Input
     while !input.over {
         let done = input.length;
         let left = room.len() - done;
-        let got = libc::read(fd, &mut room[done..]);
+        let got = read(from, &mut room[done..]);
         input = after_read(input, left, got);
     }
     input
