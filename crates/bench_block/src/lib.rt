@@ -1,4 +1,6 @@
 // The shaping of one block by itself, as other languages call it: a slice passes as a pointer and a length. `block.h` says what a caller has to see to.
+#![tactic(auto)]
+
 ghost use Rattle.std.specs.Prelude.{◌≡◌, cond, ◌^◌, length};
 ghost use Rattle.e8.specs.Least.{least_block};
 ghost use Rattle.bench_block.specs.Shapeable.{shapeable};

@@ -1,4 +1,6 @@
 // The further test of the strict reading: a frame is the one that is sent where each block is the least member of its class.
+#![tactic(auto)]
+
 ghost use Rattle.std.specs.Prelude.{◌≡◌, true, cond, ◌++◌, ◌+◌, ◌/◌, ◌^◌, ◌≤◌, length, take, drop};
 ghost use Rattle.e8.specs.Energy.{Within};
 ghost use Rattle.e8.specs.Ties.{least_frame_by};

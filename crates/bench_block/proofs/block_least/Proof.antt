@@ -7,7 +7,7 @@ use native.Mathlib.Omega.{arith}
 use lib.IntN.{ℤ}
 use lib.ListN.{length}
 use borrow.Author.Rules.{rules}
-use borrow.Author.Tests.{not-true, not-false, eq-eqb, ne_eqb, le-leb, lt-leb}
+use borrow.Author.Tests.{eq-eqb, ne_eqb, le-leb, lt-leb}
 use Rattle.e8.specs.Energy.{Within, is_within}
 use Rattle.e8.specs.Least.{least_block}
 use Rattle.e8.proofs.Within.{test-within}
@@ -52,16 +52,16 @@ module _ (s : tie.Start) where
   refused : answer ≡ false → (false ≡ answer) × (lent ≡ lent)
   refused e = (sym e, refl)
 
-returns : tie.Need-returns
-returns c = let s = c.before in refused s (by-scale (k s) (x s) (length (lent s)) c.if1.true)
+returns : tie.Need-returns-then-k-gt6
+returns c = let s = c.before in refused s (by-scale (k s) (x s) (length (lent s)) c.if-k-gt6.true)
 
-returns-2 : tie.Need-returns-2
-returns-2 c = let s = c.before.before in refused s (by-block (k s) (x s) (length (lent s)) c.before.if1.false c.if2.true)
+returns-2 : tie.Need-returns-then-block-ne8
+returns-2 c = let s = c.before.before in refused s (by-block (k s) (x s) (length (lent s)) c.before.if-k-gt6.false c.if-block-ne8.true)
 
-returns-3 : tie.Need-returns-3
+returns-3 : tie.Need-returns-then-least-ne8
 returns-3 c =
     let s = c.before.before.before in
-    refused s (by-lent (k s) (x s) (length (lent s)) c.before.before.if1.false c.before.if2.false c.if3.true)
+    refused s (by-lent (k s) (x s) (length (lent s)) c.before.before.if-k-gt6.false c.before.if-block-ne8.false c.if-least-ne8.true)
 
 within-requires : tie.Need-within-requires
 within-requires c κs = omega arith
@@ -73,19 +73,19 @@ start c = c.before.before.before.before
 range-decides : (c : tie.After-within) → answer (start c) ≡ is_within (2 ^ 24) (x (start c))
 range-decides c =
     let s = start c in
-    by-range (k s) (x s) (length (lent s)) c.before.before.before.if1.false c.before.before.if2.false c.before.if3.false
+    by-range (k s) (x s) (length (lent s)) c.before.before.before.if-k-gt6.false c.before.before.if-block-ne8.false c.before.if-least-ne8.false
 
-returns-4 : tie.Need-returns-4
-returns-4 c = let n = c.before in refused (start n) (range-decides n ∙ sym n.within.ensures ∙ not-true n.within.result c.if4.true)
+returns-4 : tie.Need-returns-then-not-within
+returns-4 c = let n = c.before in refused (start n) (range-decides n ∙ sym n.within.ensures ∙ c.if-not-within.true)
 
 -- every coordinate is in the range
-passed : (c : tie.Else4) → is_within (2 ^ 24) (x (start c.before)) ≡ true
-passed c = let n = c.before in sym n.within.ensures ∙ not-false n.within.result c.if4.false
+passed : (c : tie.Else-not-within) → is_within (2 ^ 24) (x (start c.before)) ≡ true
+passed c = let n = c.before in sym n.within.ensures ∙ c.if-not-within.false
 
 load-requires : tie.Need-load-requires
 load-requires c κs = search rules
 
-least-requires : tie.Need-least-requires
+least-requires : tie.Need-least-y-requires
 least-requires c κs =
     let e = c.before in
     (omega arith, subst (Within (2 ^ 24)) (sym c.load.ensures) (test-within (2 ^ 24) (x (start e.before)) (passed e)))
@@ -93,19 +93,19 @@ least-requires c κs =
 store-requires : tie.Need-store-requires
 store-requires c κs = search rules
 
-same_length : tie.Need-same-length
+same_length : tie.Need-shape_of-least
 same_length c = search rules
 
-returns-5 : tie.Need-returns-5
+returns-5 : tie.Need-returns
 returns-5 c =
     let w = c.before in
     let y = w.before.before in
     let e = y.before.before in
     let s = start e.before in
-    (sym (range-decides e.before ∙ passed e), w.store.ensures ∙ y.least.ensures ∙ ap (least_block (2 ^ k s)) y.before.load.ensures)
+    (sym (range-decides e.before ∙ passed e), w.store.ensures ∙ y.least-y.ensures ∙ ap (least_block (2 ^ k s)) y.before.load.ensures)
 
-pub block-least-spec : {M : Type 1} → statement M
-block-least-spec =
+pub block_least_spec : {M : Type 1} → statement M
+block_least_spec =
     tie.close
     (tie.spec
     returns

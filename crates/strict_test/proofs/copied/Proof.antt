@@ -18,98 +18,98 @@ long s m h = omega (arith, s.requires.1, pow_mono {j = s.args.kind} h)
 short : (s : tie.Start) (m : ℕ) → s.args.kind ≤ m → length s.args.frame.now ≤ 2 ^ m
 short s m h = omega (arith, s.requires.1, pow_mono {i = s.args.kind} {j = m} h)
 
-copy-part-requires : tie.Need-copy-part-requires
+copy-part-requires : tie.Need-copy_part-requires
 copy-part-requires c κs =
     let s = c.before in
     (omega arith, long s 3 (kind-low s.args.kind s.requires.0), s.requires.2 ∙ sym s.requires.1, refl)
 
-to-8 : (c : tie.After-copy-part) → Copied c.before.before.args.frame.now c.before.before.args.copy.now c.copy-part.new.1.0 8
+to-8 : (c : tie.After-copy_part) → Copied c.before.before.args.frame.now c.before.before.args.copy.now c.copy_part.new.copy 8
 to-8 c =
     let s = c.before.before in
-    record { room = long s 3 (kind-low s.args.kind s.requires.0); same = s.requires.2 ∙ sym s.requires.1; is = c.copy-part.ensures }
+    record { room = long s 3 (kind-low s.args.kind s.requires.0); same = s.requires.2 ∙ sym s.requires.1; is = c.copy_part.ensures }
 
-same_length : tie.Need-same-length
+same_length : tie.Need-shape_of-copy-then-kind-eq3
 same_length c = search rules
 
-returns : tie.Need-returns
+returns : tie.Need-returns-then-kind-eq3
 returns c =
     let p = c.before.before in
-    copy-whole (to-8 p) (short p.before.before 3 (omega (arith, c.if1.true)))
+    copy-whole (to-8 p) (short p.before.before 3 (omega (arith, c.if-kind-eq3.true)))
 
-past-3 : (c : tie.Else1) → 4 ≤ c.before.before.before.before.args.kind
-past-3 c = let s = c.before.before.before.before in omega (arith, c.if1.false, kind-low s.args.kind s.requires.0)
+past-3 : (c : tie.Else-kind-eq3) → 4 ≤ c.before.before.before.before.args.kind
+past-3 c = let s = c.before.before.before.before in omega (arith, c.if-kind-eq3.false, kind-low s.args.kind s.requires.0)
 
-copy-part-requires-2 : tie.Need-copy-part-requires-2
+copy-part-requires-2 : tie.Need-copy_part-requires-2
 copy-part-requires-2 c κs =
     let e = c.before in
     let t = to-8 e.before.before in
     (omega arith, omega (arith, long e.before.before.before.before 4 (past-3 e)), copy-long t, copy-begun t)
 
-to-16 : (c : tie.After-copy-part2) → Copied c.before.before.before.before.before.before.args.frame.now c.before.before.before.before.copy-part.new.1.0 c.copy-part2.new.1.0 16
+to-16 : (c : tie.After-copy_part-2) → Copied c.before.before.before.before.before.before.args.frame.now c.before.before.before.before.copy_part.new.copy c.copy_part-2.new.copy 16
 to-16 c =
     let e = c.before.before in
     let p = e.before.before in
-    record { room = long p.before.before 4 (past-3 e); same = copy-long (to-8 p); is = c.copy-part2.ensures }
+    record { room = long p.before.before 4 (past-3 e); same = copy-long (to-8 p); is = c.copy_part-2.ensures }
 
-same-length-2 : tie.Need-same-length-2
+same-length-2 : tie.Need-shape_of-copy-then-kind-eq4
 same-length-2 c = search rules
 
-returns-2 : tie.Need-returns-2
+returns-2 : tie.Need-returns-then-kind-eq4
 returns-2 c =
     let p = c.before.before in
-    copy-whole (to-16 p) (short p.before.before.before.before.before.before 4 (omega (arith, c.if2.true)))
+    copy-whole (to-16 p) (short p.before.before.before.before.before.before 4 (omega (arith, c.if-kind-eq4.true)))
 
-past-4 : (c : tie.Else2) → 5 ≤ c.before.before.before.before.before.before.before.before.args.kind
-past-4 c = omega (arith, c.if2.false, past-3 c.before.before.before.before)
+past-4 : (c : tie.Else-kind-eq4) → 5 ≤ c.before.before.before.before.before.before.before.before.args.kind
+past-4 c = omega (arith, c.if-kind-eq4.false, past-3 c.before.before.before.before)
 
-copy-part-requires-3 : tie.Need-copy-part-requires-3
+copy-part-requires-3 : tie.Need-copy_part-requires-3
 copy-part-requires-3 c κs =
     let e = c.before in
     let t = to-16 e.before.before in
     (omega arith, omega (arith, long e.before.before.before.before.before.before.before.before 5 (past-4 e)), copy-long t, copy-begun t)
 
-to-32 : (c : tie.After-copy-part3) → Copied c.before.before.before.before.before.before.before.before.before.before.args.frame.now
-    c.before.before.before.before.copy-part2.new.1.0 c.copy-part3.new.1.0 32
+to-32 : (c : tie.After-copy_part-3) → Copied c.before.before.before.before.before.before.before.before.before.before.args.frame.now
+    c.before.before.before.before.copy_part-2.new.copy c.copy_part-3.new.copy 32
 to-32 c =
     let e = c.before.before in
     let p = e.before.before in
-    record { room = long p.before.before.before.before.before.before 5 (past-4 e); same = copy-long (to-16 p); is = c.copy-part3.ensures }
+    record { room = long p.before.before.before.before.before.before 5 (past-4 e); same = copy-long (to-16 p); is = c.copy_part-3.ensures }
 
-same-length-3 : tie.Need-same-length-3
+same-length-3 : tie.Need-shape_of-copy-then-kind-eq5
 same-length-3 c = search rules
 
-returns-3 : tie.Need-returns-3
+returns-3 : tie.Need-returns-then-kind-eq5
 returns-3 c =
     let p = c.before.before in
-    copy-whole (to-32 p) (short p.before.before.before.before.before.before.before.before.before.before 5 (omega (arith, c.if3.true)))
+    copy-whole (to-32 p) (short p.before.before.before.before.before.before.before.before.before.before 5 (omega (arith, c.if-kind-eq5.true)))
 
-past-5 : (c : tie.Else3) → 6 ≤ c.before.before.before.before.before.before.before.before.before.before.before.before.args.kind
-past-5 c = omega (arith, c.if3.false, past-4 c.before.before.before.before)
+past-5 : (c : tie.Else-kind-eq5) → 6 ≤ c.before.before.before.before.before.before.before.before.before.before.before.before.args.kind
+past-5 c = omega (arith, c.if-kind-eq5.false, past-4 c.before.before.before.before)
 
-copy-part-requires-4 : tie.Need-copy-part-requires-4
+copy-part-requires-4 : tie.Need-copy_part-requires-4
 copy-part-requires-4 c κs =
     let e = c.before in
     let s = e.before.before.before.before.before.before.before.before.before.before.before.before in
     let t = to-32 e.before.before in
     (omega arith, omega (arith, long s 6 (past-5 e)), copy-long t, copy-begun t)
 
-to-64 : (c : tie.After-copy-part4) → Copied c.before.before.before.before.before.before.before.before.before.before.before.before.before.before.args.frame.now
-    c.before.before.before.before.copy-part3.new.1.0 c.copy-part4.new.1.0 64
+to-64 : (c : tie.After-copy_part-4) → Copied c.before.before.before.before.before.before.before.before.before.before.before.before.before.before.args.frame.now
+    c.before.before.before.before.copy_part-3.new.copy c.copy_part-4.new.copy 64
 to-64 c =
     let e = c.before.before in
     let p = e.before.before in
-    record { room = long p.before.before.before.before.before.before.before.before.before.before 6 (past-5 e); same = copy-long (to-32 p); is = c.copy-part4.ensures }
+    record { room = long p.before.before.before.before.before.before.before.before.before.before 6 (past-5 e); same = copy-long (to-32 p); is = c.copy_part-4.ensures }
 
-same-length-4 : tie.Need-same-length-4
+same-length-4 : tie.Need-shape_of-copy
 same-length-4 c = search rules
 
-returns-4 : tie.Need-returns-4
+returns-4 : tie.Need-returns
 returns-4 c =
     let s = c.before.before.before.before.before.before.before.before.before.before.before.before.before.before.before in
     copy-whole (to-64 c.before) (short s 6 (kind-high s.args.kind s.requires.0))
 
-pub copied-spec : {M : Type 1} → statement M
-copied-spec =
+pub copied_spec : {M : Type 1} → statement M
+copied_spec =
     tie.close
     (tie.spec
     copy-part-requires

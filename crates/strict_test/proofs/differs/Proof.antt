@@ -8,14 +8,14 @@ use Rattle.strict_test.proofs.Compared.{same-yes, same-no}
 use Rattle.strict_test.proofs.differs.Statement.{statement}
 use Rattle.strict_test.proofs.differs.Tie as tie
 
-returns : tie.Need-returns
-returns c = sym (ap (λ (t : Bool). cond t 0 1) (same-no c.before.args.a c.before.args.b (λ e. c.if1.true (ap (of_z w32) e))))
+returns : tie.Need-returns-then-a-b
+returns c = sym (ap (λ (t : Bool). cond t 0 1) (same-no c.before.args.a c.before.args.b (λ e. c.if-a-b.true (ap (of_z w32) e))))
 
-returns-2 : tie.Need-returns-2
+returns-2 : tie.Need-returns-else-a-b
 returns-2 c =
     let a = c.before.args in
     let f = c.before.ranges in
-    sym (ap (λ (t : Bool). cond t 0 1) (same-yes a.a a.b (sym (tz refl f.a) ∙ ap (to_z w32) c.if1.false ∙ tz refl f.b)))
+    sym (ap (λ (t : Bool). cond t 0 1) (same-yes a.a a.b (sym (tz refl f.a) ∙ ap (to_z w32) c.if-a-b.false ∙ tz refl f.b)))
 
-pub differs-spec : {M : Type 1} → statement M
-differs-spec = tie.close (tie.spec returns returns-2)
+pub differs_spec : {M : Type 1} → statement M
+differs_spec = tie.close (tie.spec returns returns-2)

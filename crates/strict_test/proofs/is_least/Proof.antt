@@ -4,21 +4,21 @@ use Rattle.frames.proofs.Limits.{few-positions}
 use Rattle.strict_test.proofs.is_least.Statement.{statement}
 use Rattle.strict_test.proofs.is_least.Tie as tie
 
-sub-is-least-by : tie.Need-overflow-sub-is-least-by
+sub-is-least-by : tie.Need-slice_bounds-is_least_by-count
 sub-is-least-by c = search rules
 
-part-copy-start : tie.Need-slice-bounds-copy-start
+part-copy-start : tie.Need-slice_bounds-copy-start
 part-copy-start c = search rules
 
-part-copy-end : tie.Need-slice-bounds-copy-end
+part-copy-end : tie.Need-slice_bounds-copy-end
 part-copy-end c = search (rules, few-positions c.args.kind c.requires.0, c.requires.3)
 
-is-least-by-requires : tie.Need-is-least-by-requires
+is-least-by-requires : tie.Need-is_least_by-requires
 is-least-by-requires c κs = search rules
 
 returns : tie.Need-returns
 returns c = search rules
 
-pub is-least-spec : {M : Type 1} → statement M
-is-least-spec =
+pub is_least_spec : {M : Type 1} → statement M
+is_least_spec =
     tie.close (tie.spec sub-is-least-by part-copy-start part-copy-end is-least-by-requires returns)

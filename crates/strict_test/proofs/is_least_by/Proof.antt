@@ -33,17 +33,16 @@ shape-requires c κs =
 same-requires : tie.Need-same-requires
 same-requires c κs = search rules
 
-same_length : tie.Need-same-length
+same_length : tie.Need-shape_of-copy
 same_length c = search rules
 
 returns : tie.Need-returns
 returns c =
-    let d = c.before.before.before in
-    let e = d.before.before.before in
-    let a = e.before.before.args in
-    let made = d.shape.ensures ∙ ap (λ (x : List ℤ). least_frame_by a.last (2 ^ a.k) (length x / 8) x) e.copied.ensures in
+    let d = c in
+    let a = d.args in
+    let made = d.shape.ensures ∙ ap (λ (x : List ℤ). least_frame_by a.last (2 ^ a.k) (length x / 8) x) d.copied.ensures in
     (c.same.ensures ∙ ap (same_frame a.frame.now) made, made)
 
-pub is-least-by-spec : {M : Type 1} → statement M
-is-least-by-spec =
+pub is_least_by_spec : {M : Type 1} → statement M
+is_least_by_spec =
     tie.close (tie.spec copied-requires shape-requires same-requires same_length returns)
