@@ -1,4 +1,6 @@
 // From the bits of a message to its coset leader, block by block: the codewords of the levels, and over them the numbers of each block.
+#![tactic(auto)]
+
 ghost use Rattle.std.specs.Prelude.{◌≡◌, true, cond, ℕ, ◌+◌, ◌*◌, ◌/◌, ◌%◌, ◌<◌, ◌≤◌, ◌^◌, eqb, length, get_or};
 ghost use Rattle.bits.specs.Number.{given, table};
 ghost use Rattle.bits.specs.Message.{message_bit};

@@ -31,15 +31,15 @@ own message from b o = get_or (numbers (message_bit message) from (widths b)) o 
 abbrev made : List ℕ → ℕ → ℕ → ℕ → List ℕ → ℕ → ℕ → ℕ → ℕ
 made message from b n words q i o = over_levels (n - i) (λ t. digit (get_or words (i + t) 0) (q + o)) (own message from b o)
 
-abbrev invariant-loop : tie.invariant-loop
-invariant-loop message from grade levels q words bits x₀ i₀ x i = (i ≤ 3) × (x ≡ table 8 (made message from grade levels words q i))
+abbrev invariant-loop-i : tie.invariant-loop-i
+invariant-loop-i message from grade levels q words bits x₀ i₀ x i = (i ≤ 3) × (x ≡ table 8 (made message from grade levels words q i))
 
-abbrev decreases-loop : tie.decreases-loop
-decreases-loop message from grade levels q words bits x₀ i₀ x i = i
+abbrev decreases-loop-i : tie.decreases-loop-i
+decreases-loop-i message from grade levels q words bits x₀ i₀ x i = i
 
 -- ---- the laws of a block, from what the function is given
 
-module _ (s : tie.Start invariant-loop decreases-loop) where
+module _ (s : tie.Start invariant-loop-i decreases-loop-i) where
   abbrev message : List ℕ
   message = s.args.message.now
 
@@ -53,7 +53,7 @@ module _ (s : tie.Start invariant-loop decreases-loop) where
   n = s.args.levels
 
   abbrev words : List ℕ
-  words = s.args.t5
+  words = s.args.words
 
   abbrev q : ℕ
   q = s.args.q
@@ -65,8 +65,8 @@ module _ (s : tie.Start invariant-loop decreases-loop) where
   small : (i o : ℕ) → o < 8 → F i o < 256
   small i o l =
       let v : ℕ = own message from b o in
-      let h : v < 32 = numbers-below (message_bit message) (message-small message) from b o s.pre.1 l in
-      let few : 2 ^ (n - i) ≤ 8 = pow_mono {j = 3} (omega (arith, s.pre.2)) in
+      let h : v < 32 = numbers-below (message_bit message) (message-small message) from b o s.requires.1 l in
+      let few : 2 ^ (n - i) ≤ 8 = pow_mono {j = 3} (omega (arith, s.requires.2)) in
       let p : 2 ^ (n - i) * (v + 1) ≤ 8 * 32 = mul-le-mul {m₁ = v + 1} {m₂ = 32} few (omega arith) in
       omega (arith, over_below (n - i) (λ t. digit (get_or words (i + t) 0) (q + o)) v (λ t. digit-small (get_or words (i + t) 0) (q + o)))
 
@@ -80,7 +80,7 @@ module _ (s : tie.Start invariant-loop decreases-loop) where
       numbers-ext (digit bits) (message_bit message) 0 from (widths b) each
       ∙ sym (bytes-are ns (λ o. get_or ns o 0) (λ o h. refl))
       ∙ ap (λ (m : ℕ). table m (λ o. get_or ns o 0)) (numbers-length (message_bit message) from (widths b))
-      ∙ table-ext 8 (λ o l. let z : n - 3 ≡ 0 = omega (arith, s.pre.2) in rw z refl)
+      ∙ table-ext 8 (λ o l. let z : n - 3 ≡ 0 = omega (arith, s.requires.2) in rw z refl)
     where
       ns : List ℕ
       ns = numbers (message_bit message) from (widths b)
@@ -88,7 +88,7 @@ module _ (s : tie.Start invariant-loop decreases-loop) where
       each : (i : ℕ) → i < total (widths b) → digit bits (0 + i) ≡ message_bit message (from + i)
       each i l =
           ap (λ (x : ℕ). digit x (0 + i)) e ∙ ap (digit (number (8 * b) (λ t. message_bit message (from + t)))) (zero-add i)
-          ∙ number_bit (λ t. message_bit message (from + t)) (8 * b) (λ t u. message-small message (from + t)) i (omega (arith, total-widths b s.pre.0))
+          ∙ number_bit (λ t. message_bit message (from + t)) (8 * b) (λ t u. message-small message (from + t)) i (omega (arith, total-widths b s.requires.0))
 
   -- over level i too
   one_more : (i : ℕ) {x : List ℕ} → x ≡ table 8 (F (suc i))
@@ -105,75 +105,75 @@ module _ (s : tie.Start invariant-loop decreases-loop) where
 -- ---- the start, from the loop, and the laws at its arguments
 
 abbrev At : Type 0
-At = tie.At-loop invariant-loop decreases-loop
+At = tie.At-loop-i invariant-loop-i decreases-loop-i
 
-abbrev at-start : At → tie.Start invariant-loop decreases-loop
+abbrev at-start : At → tie.Start invariant-loop-i decreases-loop-i
 at-start a = a.before.before.before.before
 
-bounded : (a : At) (o : ℕ) → o < 8 → get_or a.loop.x o 0 < 256
+bounded : (a : At) (o : ℕ) → o < 8 → get_or a.loop-i.x o 0 < 256
 bounded a o l =
     let s = at-start a in
-    let i = a.loop.i in
-    omega (arith, at s i a.loop.invariant.1 o l, small s i o l)
+    let i = a.loop-i.i in
+    omega (arith, at s i a.loop-i.invariant.1 o l, small s i o l)
 
-mul-bits-at : tie.Need-overflow-mul-bits-at invariant-loop decreases-loop
+mul-bits-at : tie.Need-overflow_mul-grade invariant-loop-i decreases-loop-i
 mul-bits-at c = omega arith
 
-bits-at-requires : tie.Need-bits-at-requires invariant-loop decreases-loop
+bits-at-requires : tie.Need-bits_at-bits-requires invariant-loop-i decreases-loop-i
 bits-at-requires c κs = (omega arith, omega arith, omega arith)
 
-unpacked-requires : tie.Need-unpacked-requires invariant-loop decreases-loop
+unpacked-requires : tie.Need-unpacked-x-requires invariant-loop-i decreases-loop-i
 unpacked-requires c κs = (c.before.before.requires.0, c.before.before.requires.1)
 
-loop-holds : tie.Need-loop-init invariant-loop decreases-loop
+loop-holds : tie.Need-loop-i-init invariant-loop-i decreases-loop-i
 loop-holds c =
     let s = c.before.before.before in
-    (omega arith, c.unpacked.ensures ∙ none_yet s c.before.bits_at.result c.before.bits_at.ensures)
+    (omega arith, c.unpacked-x.ensures ∙ none_yet s c.before.bits_at-bits.result c.before.bits_at-bits.ensures)
 
-sub-i : tie.Need-overflow-sub-i invariant-loop decreases-loop
+sub-i : tie.Need-overflow_sub-i invariant-loop-i decreases-loop-i
 sub-i c = search rules
 
-mul-word : tie.Need-overflow-mul-word invariant-loop decreases-loop
+mul-word : tie.Need-offset_bounds-words-i invariant-loop-i decreases-loop-i
 mul-word c = omega arith
 
-array-read-word : tie.Need-array-read-word invariant-loop decreases-loop
+array-read-word : tie.Need-bounds-words-i invariant-loop-i decreases-loop-i
 array-read-word c = omega arith
 
-shr-over-level : tie.Need-overflow-shr-over-level invariant-loop decreases-loop
-shr-over-level c = omega (arith, (at-start c.before).pre.3)
+shr-over-level : tie.Need-overflow_shr-word invariant-loop-i decreases-loop-i
+shr-over-level c = omega (arith, (at-start c.before).requires.3)
 
-over-level-requires : tie.Need-over-level-requires invariant-loop decreases-loop
+over-level-requires : tie.Need-over_level-y-requires invariant-loop-i decreases-loop-i
 over-level-requires c κs o l = omega (arith, bounded c.before o l)
 
-loop-less : tie.Need-loop-smaller invariant-loop decreases-loop
+loop-less : tie.Need-loop-i-smaller invariant-loop-i decreases-loop-i
 loop-less c = search rules
 
-loop-again : tie.Need-loop-preserved invariant-loop decreases-loop
+loop-again : tie.Need-loop-i-preserved invariant-loop-i decreases-loop-i
 loop-again c =
     let a = c.before.before in
     let s = at-start a in
-    let i : ℕ = a.loop.i - 1 in
-    let up : a.loop.i ≡ suc i = omega arith in
-    let x = a.loop.invariant.1 ∙ ap (λ (m : ℕ). table 8 (F s m)) up in
-    (omega arith, c.over-level.ensures ∙ one_more s i x)
+    let i : ℕ = a.loop-i.i - 1 in
+    let up : a.loop-i.i ≡ suc i = omega arith in
+    let x = a.loop-i.invariant.1 ∙ ap (λ (m : ℕ). table 8 (F s m)) up in
+    (omega arith, c.over_level-y.ensures ∙ one_more s i x)
 
-signed-requires : tie.Need-signed-requires invariant-loop decreases-loop
+signed-requires : tie.Need-signed-requires invariant-loop-i decreases-loop-i
 signed-requires c κs o l = omega (arith, bounded c.before o l)
 
-returns : tie.Need-returns invariant-loop decreases-loop
+returns : tie.Need-returns invariant-loop-i decreases-loop-i
 returns c =
     let a = c.before.before in
     let s = at-start a in
-    let none : a.loop.i ≡ 0 = omega arith in
-    let x = a.loop.invariant.1 ∙ ap (λ (m : ℕ). table 8 (F s m)) none in
+    let none : a.loop-i.i ≡ 0 = omega arith in
+    let x = a.loop-i.invariant.1 ∙ ap (λ (m : ℕ). table 8 (F s m)) none in
     c.signed.ensures ∙ ap ints (all_there s x)
 
 pub block_spec : {M : Type 1} → statement M
 block_spec =
     tie.close
     (tie.spec
-    invariant-loop
-    decreases-loop
+    invariant-loop-i
+    decreases-loop-i
     mul-bits-at
     bits-at-requires
     unpacked-requires

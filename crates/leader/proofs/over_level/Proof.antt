@@ -19,20 +19,20 @@ use Rattle.leader.proofs.over_level.Tie as tie
 abbrev made : Bool → ℕ → List ℕ → ℕ → ℕ
 made there word s o = cond there (digit word o + 2 * get_or s o 0) (get_or s o 0)
 
-abbrev invariant-loop : tie.invariant-loop
-invariant-loop there word s w one x₀ p₀ x p = Filled (table 8 (made there word s)) x p
+abbrev invariant-loop-p : tie.invariant-loop-p
+invariant-loop-p there word s w one x₀ p₀ x p = Filled (table 8 (made there word s)) x p
 
-abbrev decreases-loop : tie.decreases-loop
-decreases-loop there word s w one x₀ p₀ x p = 8 - p
+abbrev decreases-loop-p : tie.decreases-loop-p
+decreases-loop-p there word s w one x₀ p₀ x p = 8 - p
 
 -- the start, and the position, from a turn of the loop
-abbrev at-start : tie.After-set-at invariant-loop decreases-loop → tie.Start invariant-loop decreases-loop
+abbrev at-start : tie.After-set_at invariant-loop-p decreases-loop-p → tie.Start invariant-loop-p decreases-loop-p
 at-start c = c.before.before.before
 
-abbrev at_p : tie.After-set-at invariant-loop decreases-loop → ℕ
-at_p c = c.before.before.loop.p
+abbrev at_p : tie.After-set_at invariant-loop-p decreases-loop-p → ℕ
+at_p c = c.before.before.loop-p.p
 
-eight : (c : tie.Start invariant-loop decreases-loop) → length c.args.t3 ≡ 8
+eight : (c : tie.Start invariant-loop-p decreases-loop-p) → length c.args.s ≡ 8
 eight c = search rules
 
 long : (there : Bool) (word : ℕ) (s : List ℕ) → length (table 8 (made there word s)) ≡ 8
@@ -55,74 +55,74 @@ module _ {z : ℕ} (low : z < 2 ^ 30) where
   over-small true d l = omega arith
   over-small false d l = omega arith
 
-cast-w : tie.Need-overflow-cast-w invariant-loop decreases-loop
+cast-w : tie.Need-overflow_cast-w invariant-loop-p decreases-loop-p
 cast-w c = search rules
 
-cast-one : tie.Need-overflow-cast-one invariant-loop decreases-loop
+cast-one : tie.Need-overflow_cast-one invariant-loop-p decreases-loop-p
 cast-one c = search rules
 
-loop-holds : tie.Need-loop-init invariant-loop decreases-loop
-loop-holds c = let g = c.args in filled_none _ _ (eight c ∙ sym (long g.there g.word g.t3))
+loop-holds : tie.Need-loop-p-init invariant-loop-p decreases-loop-p
+loop-holds c = let g = c.args in filled_none _ _ (eight c ∙ sym (long g.there g.word g.s))
 
-mul-z : tie.Need-overflow-mul-z invariant-loop decreases-loop
+mul-z : tie.Need-offset_bounds-s-p invariant-loop-p decreases-loop-p
 mul-z c = search rules
 
-array-read-z : tie.Need-array-read-z invariant-loop decreases-loop
+array-read-z : tie.Need-bounds-s-p invariant-loop-p decreases-loop-p
 array-read-z c = search rules
 
-shl-x : tie.Need-overflow-shl-x invariant-loop decreases-loop
+shl-x : tie.Need-overflow_shl-x invariant-loop-p decreases-loop-p
 shl-x c = shift_small c.before.before.args.there
 
-set-at-requires : tie.Need-set-at-requires invariant-loop decreases-loop
+set-at-requires : tie.Need-set_at-requires invariant-loop-p decreases-loop-p
 set-at-requires c κs = omega arith
 
 -- the number at p
-made-is : (c : tie.After-set-at invariant-loop decreases-loop) → let g = (at-start c).args in
-    get_or g.t3 (at_p c) 0 * 2 ^ bool_byte g.there % 2 ^ 32 + c.set_at.result ≡ made g.there g.word g.t3 (at_p c)
+made-is : (c : tie.After-set_at invariant-loop-p decreases-loop-p) → let g = (at-start c).args in
+    get_or g.s (at_p c) 0 * 2 ^ bool_byte g.there % 2 ^ 32 + c.set_at.result ≡ made g.there g.word g.s (at_p c)
 made-is c =
     let s = at-start c in
     let g = s.args in
     let p = at_p c in
     let h : p < 8 = omega arith in
-    ap (λ (v : ℕ). get_or g.t3 p 0 * 2 ^ bool_byte g.there % 2 ^ 32 + v) c.set_at.ensures
-    ∙ ap (λ (d : ℕ). get_or g.t3 p 0 * 2 ^ bool_byte g.there % 2 ^ 32 + given (eqb d 1) (bool_byte g.there)) (digit-mod g.word 8 p h)
-    ∙ over (s.pre p h) g.there (digit g.word p) (digit-small g.word p)
+    ap (λ (v : ℕ). get_or g.s p 0 * 2 ^ bool_byte g.there % 2 ^ 32 + v) c.set_at.ensures
+    ∙ ap (λ (d : ℕ). get_or g.s p 0 * 2 ^ bool_byte g.there % 2 ^ 32 + given (eqb d 1) (bool_byte g.there)) (digit-mod g.word 8 p h)
+    ∙ over (s.requires p h) g.there (digit g.word p) (digit-small g.word p)
 
-add-x : tie.Need-overflow-add-x invariant-loop decreases-loop
+add-x : tie.Need-overflow_add-x invariant-loop-p decreases-loop-p
 add-x c =
     let s = at-start c in
     let w = s.args.word in
-    record { fits = omega (arith, made-is c, over-small (s.pre (at_p c) (omega arith)) s.args.there (digit w (at_p c)) (digit-small w (at_p c))) }
+    record { fits = omega (arith, made-is c, over-small (s.requires (at_p c) (omega arith)) s.args.there (digit w (at_p c)) (digit-small w (at_p c))) }
 
-mul-x : tie.Need-overflow-mul-x invariant-loop decreases-loop
+mul-x : tie.Need-offset_bounds-x-p invariant-loop-p decreases-loop-p
 mul-x c = search rules
 
-array-write-x : tie.Need-array-write-x invariant-loop decreases-loop
+array-write-x : tie.Need-bounds-x-p invariant-loop-p decreases-loop-p
 array-write-x c = omega arith
 
-add-p : tie.Need-overflow-add-p invariant-loop decreases-loop
+add-p : tie.Need-overflow_add-p invariant-loop-p decreases-loop-p
 add-p c = search rules
 
-loop-less : tie.Need-loop-smaller invariant-loop decreases-loop
+loop-less : tie.Need-loop-p-smaller invariant-loop-p decreases-loop-p
 loop-less c = search rules
 
-loop-again : tie.Need-loop-preserved invariant-loop decreases-loop
+loop-again : tie.Need-loop-p-preserved invariant-loop-p decreases-loop-p
 loop-again c =
     let g = (at-start c).args in
-    let F = made g.there g.word g.t3 in
-    filled_next 0 _ _ (at_p c) _ c.before.before.loop.invariant (omega (arith, long g.there g.word g.t3))
+    let F = made g.there g.word g.s in
+    filled_next 0 _ _ (at_p c) _ c.before.before.loop-p.invariant (omega (arith, long g.there g.word g.s))
     (made-is c ∙ sym (table_at F 8 (at_p c) (omega arith)))
 
-returns : tie.Need-returns invariant-loop decreases-loop
+returns : tie.Need-returns invariant-loop-p decreases-loop-p
 returns c =
-    let g = c.before.before.args in filled-all _ _ c.before.loop.p c.before.loop.invariant (omega (arith, long g.there g.word g.t3))
+    let g = c.before.before.args in filled-all _ _ c.before.loop-p.p c.before.loop-p.invariant (omega (arith, long g.there g.word g.s))
 
-pub over-level-spec : {M : Type 1} → statement M
-over-level-spec =
+pub over_level_spec : {M : Type 1} → statement M
+over_level_spec =
     tie.close
     (tie.spec
-    invariant-loop
-    decreases-loop
+    invariant-loop-p
+    decreases-loop-p
     cast-w
     cast-one
     loop-holds

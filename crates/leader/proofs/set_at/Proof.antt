@@ -13,22 +13,22 @@ use Rattle.leader.proofs.set_at.Tie as tie
 mask : (s : tie.Start) → 1 * 2 ^ s.args.p % 2 ^ 32 ≡ 2 ^ s.args.p
 mask s = one_shifted s.args.p 32 s.requires
 
-cast-m : tie.Need-overflow-cast-m
+cast-m : tie.Need-overflow_cast-m
 cast-m c = search rules
 
-shl-m : tie.Need-overflow-shl-m
+shl-m : tie.Need-overflow_shl-m
 shl-m c = search rules
 
-returns : tie.Need-returns
+returns : tie.Need-returns-then-w-m
 returns c =
     let s = c.before in
-    let e = ap (bit_and s.args.w) (sym (mask s)) ∙ c.if1.true ∙ mask s in
+    let e = ap (bit_and s.args.w) (sym (mask s)) ∙ c.if-w-m.true ∙ mask s in
     rw (eq-eqb _ _ (mask-set s.args.w s.args.p e))
 
-returns-2 : tie.Need-returns-2
+returns-2 : tie.Need-returns-else-w-m
 returns-2 c =
     let s = c.before in
-    rw (ne_eqb _ _ (λ d. c.if1.false (ap (bit_and s.args.w) (mask s) ∙ set-mask s.args.w s.args.p d ∙ sym (mask s))))
+    rw (ne_eqb _ _ (λ d. c.if-w-m.false (ap (bit_and s.args.w) (mask s) ∙ set-mask s.args.w s.args.p d ∙ sym (mask s))))
 
-pub set-at-spec : {M : Type 1} → statement M
-set-at-spec = tie.close (tie.spec cast-m shl-m returns returns-2)
+pub set_at_spec : {M : Type 1} → statement M
+set_at_spec = tie.close (tie.spec cast-m shl-m returns returns-2)

@@ -14,59 +14,59 @@ use Rattle.frames.proofs.Frame.{ints_at}
 use Rattle.leader.proofs.signed.Statement.{statement}
 use Rattle.leader.proofs.signed.Tie as tie
 
-abbrev invariant-loop : tie.invariant-loop
-invariant-loop s x₀ o₀ x o = Filled (ints s) x o
+abbrev invariant-loop-o : tie.invariant-loop-o
+invariant-loop-o s x₀ o₀ x o = Filled (ints s) x o
 
-abbrev decreases-loop : tie.decreases-loop
-decreases-loop s x₀ o₀ x o = 8 - o
+abbrev decreases-loop-o : tie.decreases-loop-o
+decreases-loop-o s x₀ o₀ x o = 8 - o
 
-eight : (c : tie.Start invariant-loop decreases-loop) → length c.args.t1 ≡ 8
+eight : (c : tie.Start invariant-loop-o decreases-loop-o) → length c.args.s ≡ 8
 eight c = search rules
 
-long : (c : tie.Start invariant-loop decreases-loop) → length (ints c.args.t1) ≡ 8
-long c = ints-length c.args.t1 ∙ eight c
+long : (c : tie.Start invariant-loop-o decreases-loop-o) → length (ints c.args.s) ≡ 8
+long c = ints-length c.args.s ∙ eight c
 
-loop-holds : tie.Need-loop-init invariant-loop decreases-loop
+loop-holds : tie.Need-loop-o-init invariant-loop-o decreases-loop-o
 loop-holds c = filled_none _ _ (sym (long c))
 
-mul-z : tie.Need-overflow-mul-z invariant-loop decreases-loop
+mul-z : tie.Need-offset_bounds-s-o invariant-loop-o decreases-loop-o
 mul-z c = search rules
 
-array-read-z : tie.Need-array-read-z invariant-loop decreases-loop
+array-read-z : tie.Need-bounds-s-o invariant-loop-o decreases-loop-o
 array-read-z c = search rules
 
-cast-x : tie.Need-overflow-cast-x invariant-loop decreases-loop
-cast-x c = record { sfits = omega (arith, c.before.before.requires c.before.loop.o (omega arith)) }
+cast-x : tie.Need-overflow_cast-x invariant-loop-o decreases-loop-o
+cast-x c = record { sfits = omega (arith, c.before.before.requires c.before.loop-o.o (omega arith)) }
 
-mul-x : tie.Need-overflow-mul-x invariant-loop decreases-loop
+mul-x : tie.Need-offset_bounds-x-o invariant-loop-o decreases-loop-o
 mul-x c = search rules
 
-array-set-from-x : tie.Need-array-set-from-x invariant-loop decreases-loop
+array-set-from-x : tie.Need-bounds-x-o invariant-loop-o decreases-loop-o
 array-set-from-x c = search rules
 
-add-o : tie.Need-overflow-add-o invariant-loop decreases-loop
+add-o : tie.Need-overflow_add-o invariant-loop-o decreases-loop-o
 add-o c = search rules
 
-loop-less : tie.Need-loop-smaller invariant-loop decreases-loop
+loop-less : tie.Need-loop-o-smaller invariant-loop-o decreases-loop-o
 loop-less c = search rules
 
-loop-again : tie.Need-loop-preserved invariant-loop decreases-loop
+loop-again : tie.Need-loop-o-preserved invariant-loop-o decreases-loop-o
 loop-again c =
-    let l = c.before.loop in
+    let l = c.before.loop-o in
     let s = c.before.before in
     let h : l.o < 8 = omega arith in
     filled_next (pos 0) _ _ l.o _ l.invariant (omega (arith, long s))
-    (to_z_pos w32 {n = get_or s.args.t1 l.o 0} (omega (arith, s.requires l.o h)) ∙ sym (ints_at s.args.t1 l.o))
+    (to_z_pos w32 {n = get_or s.args.s l.o 0} (omega (arith, s.requires l.o h)) ∙ sym (ints_at s.args.s l.o))
 
-returns : tie.Need-returns invariant-loop decreases-loop
-returns c = let s = c.before.before in filled-all _ _ c.before.loop.o c.before.loop.invariant (omega (arith, long s))
+returns : tie.Need-returns invariant-loop-o decreases-loop-o
+returns c = let s = c.before.before in filled-all _ _ c.before.loop-o.o c.before.loop-o.invariant (omega (arith, long s))
 
-pub signed-spec : {M : Type 1} → statement M
-signed-spec =
+pub signed_spec : {M : Type 1} → statement M
+signed_spec =
     tie.close
     (tie.spec
-    invariant-loop
-    decreases-loop
+    invariant-loop-o
+    decreases-loop-o
     loop-holds
     mul-z
     array-read-z

@@ -13,42 +13,42 @@ use Rattle.leader.proofs.unpacked.Tie as tie
 at-grade : (bits : ℕ) {b g : ℕ} → b ≡ g → numbers (digit bits) 0 (widths b) ≡ numbers (digit bits) 0 (widths g)
 at-grade bits e = ap (λ (n : ℕ). numbers (digit bits) 0 (widths n)) e
 
-unpacked-by-requires : tie.Need-unpacked-by-requires
+unpacked-by-requires : tie.Need-unpacked_by-requires
 unpacked-by-requires c κs = search rules
 
-returns : tie.Need-returns
+returns : tie.Need-returns-then-grade-eq1
 returns c =
     let a = c.before.before.args in
-    let e : 1 ≡ a.grade = omega (arith, c.before.if1.true) in c.unpacked-by.ensures ∙ at-grade a.bits e
+    let e : 1 ≡ a.grade = omega (arith, c.before.if-grade-eq1.true) in c.unpacked_by.ensures ∙ at-grade a.bits e
 
-unpacked-by-requires-2 : tie.Need-unpacked-by-requires-2
+unpacked-by-requires-2 : tie.Need-unpacked_by-requires-then-grade-eq2
 unpacked-by-requires-2 c κs = search rules
 
-returns-2 : tie.Need-returns-2
+returns-2 : tie.Need-returns-then-grade-eq2
 returns-2 c =
     let a = c.before.before.before.args in
-    let e : 2 ≡ a.grade = omega (arith, c.before.if2.true) in c.unpacked-by2.ensures ∙ at-grade a.bits e
+    let e : 2 ≡ a.grade = omega (arith, c.before.if-grade-eq2.true) in c.unpacked_by-then-grade-eq2.ensures ∙ at-grade a.bits e
 
-unpacked-by-requires-3 : tie.Need-unpacked-by-requires-3
+unpacked-by-requires-3 : tie.Need-unpacked_by-requires-then-grade-eq3
 unpacked-by-requires-3 c κs = search rules
 
-returns-3 : tie.Need-returns-3
+returns-3 : tie.Need-returns-then-grade-eq3
 returns-3 c =
     let a = c.before.before.before.before.args in
-    let e : 3 ≡ a.grade = omega (arith, c.before.if3.true) in c.unpacked-by3.ensures ∙ at-grade a.bits e
+    let e : 3 ≡ a.grade = omega (arith, c.before.if-grade-eq3.true) in c.unpacked_by-then-grade-eq3.ensures ∙ at-grade a.bits e
 
-unpacked-by-requires-4 : tie.Need-unpacked-by-requires-4
+unpacked-by-requires-4 : tie.Need-unpacked_by-requires-2
 unpacked-by-requires-4 c κs = search rules
 
-returns-4 : tie.Need-returns-4
+returns-4 : tie.Need-returns
 returns-4 c =
     let last = c.before in
     let start = last.before.before.before in
-    let e : 4 ≡ start.args.grade = last-grade start.requires.0 start.requires.1 last.before.before.if1.false last.before.if2.false last.if3.false in
-    c.unpacked-by4.ensures ∙ at-grade start.args.bits e
+    let e : 4 ≡ start.args.grade = last-grade start.requires.0 start.requires.1 last.before.before.if-grade-eq1.false last.before.if-grade-eq2.false last.if-grade-eq3.false in
+    c.unpacked_by-2.ensures ∙ at-grade start.args.bits e
 
-pub unpacked-spec : {M : Type 1} → statement M
-unpacked-spec =
+pub unpacked_spec : {M : Type 1} → statement M
+unpacked_spec =
     tie.close
     (tie.spec
     unpacked-by-requires
