@@ -1,4 +1,6 @@
 // The record of a sent frame (request E11): what its writer and its reader answer, and its length.
+#![tactic(auto)]
+
 ghost use Rattle.std.specs.Prelude.{◌≡◌};
 ghost use Rattle.records.specs.Record.{record_length};
 
