@@ -1,4 +1,4 @@
-/* The shaping of one block for C99 and C++: link with libbench_block.a, which `rt staticlib bench_block` makes in target/staticlib.
+/* The shaping of one block for C99 and C++: link with libbench_block.a, which `tools/archives bench_block` makes in target/staticlib.
  *
  * A block is eight whole numbers, lent as a pointer and a length. The archive is for x86-64 Linux, as libframe_coder.a is; what
  * crates/frame_coder/frame_coder.h says for firmware holds for it too (1026 bytes of text, no undefined symbols, no data).

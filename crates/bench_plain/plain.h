@@ -1,5 +1,5 @@
 /* Sending by document 01's mask test at every position, for C99 and C++: link with libbench_plain.a, which
- * `rt staticlib bench_plain` makes in target/staticlib.
+ * `tools/archives bench_plain` makes in target/staticlib.
  *
  * A program that sends frames needs none of it: coder_send of frame_coder.h gives the same, many times faster. It is here to be
  * measured and compared. The archive is for x86-64 Linux, as libframe_coder.a is; what a caller has to see to, and what is said for

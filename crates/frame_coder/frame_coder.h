@@ -1,4 +1,4 @@
-/* The frame coder for C99 and C++: link with libframe_coder.a, which `rt staticlib frame_coder` makes in target/staticlib.
+/* The frame coder for C99 and C++: link with libframe_coder.a, which `tools/archives frame_coder` makes in target/staticlib.
  *
  * A message is bytes, a frame is 8, 16, 32 or 64 whole numbers (int32_t). Sending makes the frame of a message, or the frames of a
  * queue of messages; reading makes the message of a frame, or of the noisy samples (float) that a receiver has of it; of the samples

@@ -14,6 +14,6 @@ fn main() {
     println!("cargo:rustc-link-search=native={}", folder.display());
     println!("cargo:rustc-link-lib=static=frame_coder");
     if !archive.exists() {
-        println!("cargo:warning=no {}: make it first, by `rt staticlib frame_coder`", archive.display());
+        println!("cargo:warning=no {}: make it first, by `tools/archives frame_coder`", archive.display());
     }
 }

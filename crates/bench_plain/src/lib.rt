@@ -69,8 +69,7 @@ fn write_sent(kind: u8, grade: usize, number: u32, message: &[u8], frame: &mut [
 }
 
 // Sending by the mask test at every position: as `coder_send` where no bit is free, by the same contract.
-#[unsafe(no_mangle)]
-pub extern "C" fn plain_send(
+pub fn plain_send(
     kind: u8,
     grade: u8,
     number: u32,

@@ -1,4 +1,5 @@
-// The library as other languages call it: a slice passes as a pointer and a length. `frame_coder.h` says what a caller has to see to.
+// The library as other languages call it, by the exports of the crate frame_coder_c: a slice passes as a pointer and a length. `frame_coder.h` says what a
+// caller has to see to.
 ghost use Rattle.std.specs.Prelude.{◌≡◌, ℕ, pos, length};
 ghost use Rattle.frames.specs.Sending.{LeastOfFillings};
 ghost use Rattle.answers.specs.Answer.{send_answer, send_frame, open_answer, open_bytes, strict_answer, strict_bytes};
@@ -14,8 +15,7 @@ ghost use Rattle.records.specs.Reading.{frame_read};
 ghost use Rattle.answers.specs.Answer.{write_code, write_held, read_code, read_held, figures_of};
 
 // Sending under a number, with free bits: the energy, or minus the refusal number.
-#[unsafe(no_mangle)]
-pub extern "C" fn coder_send(
+pub fn coder_send(
     kind: u8,
     grade: u8,
     number: u32,
@@ -32,8 +32,7 @@ pub extern "C" fn coder_send(
 }
 
 // The open reading, with free bits: the energy, or minus the refusal number.
-#[unsafe(no_mangle)]
-pub extern "C" fn coder_read_open(
+pub fn coder_read_open(
     kind: u8,
     grade: u8,
     free: u8,
@@ -48,8 +47,7 @@ pub extern "C" fn coder_read_open(
 }
 
 // The strict reading under a number, with free bits: the energy, or minus the refusal number.
-#[unsafe(no_mangle)]
-pub extern "C" fn coder_read_strict(
+pub fn coder_read_strict(
     kind: u8,
     grade: u8,
     number: u32,
@@ -65,8 +63,7 @@ pub extern "C" fn coder_read_strict(
 }
 
 // Opening an account: 0, or minus the refusal number. The account goes to the four lent numbers, its changeover to `kept`; where it is refused, each is 0.
-#[unsafe(no_mangle)]
-pub extern "C" fn coder_open(
+pub fn coder_open(
     changeover: u32,
     count: &mut u32,
     sum: &mut f64,
@@ -88,8 +85,7 @@ pub extern "C" fn coder_open(
 
 // Sending with free bits and an account that is held in three lent numbers, stored to on success only, and of a changeover, which stays: the energy, or
 // minus the refusal number.
-#[unsafe(no_mangle)]
-pub extern "C" fn coder_send_counted(
+pub fn coder_send_counted(
     kind: u8,
     grade: u8,
     free: u8,
@@ -129,8 +125,7 @@ pub extern "C" fn coder_send_counted(
 
 // Sending a queue with an account that is held in three lent numbers, and of a changeover, which stays: 0, or minus the refusal number. The number of
 // messages sent goes to `sent`, also where a message is refused, and the account grown by them to the three.
-#[unsafe(no_mangle)]
-pub extern "C" fn coder_send_queue(
+pub fn coder_send_queue(
     kind: u8,
     grade: u8,
     messages: &[u8],
@@ -168,8 +163,7 @@ pub extern "C" fn coder_send_queue(
 }
 
 // The near reading of samples: 0, or minus the number. The squared distance goes to `distance`, stored to on success only.
-#[unsafe(no_mangle)]
-pub extern "C" fn coder_read_near(
+pub fn coder_read_near(
     kind: u8,
     grade: u8,
     samples: &[f32],
@@ -192,8 +186,7 @@ pub extern "C" fn coder_read_near(
 }
 
 // Which of two recordings of one frame is chosen: 1 for the first, 2 for the second, or minus the number.
-#[unsafe(no_mangle)]
-pub extern "C" fn coder_closer(kind: u8, grade: u8, first: &[f32], second: &[f32]) -> i64
+pub fn coder_closer(kind: u8, grade: u8, first: &[f32], second: &[f32]) -> i64
     ensures { result ≡ closer_code kind grade first.now second.now }
 {
     let c = closer_recording::choose(kind, grade, first, second);
@@ -205,8 +198,7 @@ pub extern "C" fn coder_closer(kind: u8, grade: u8, first: &[f32], second: &[f32
 }
 
 // Writing a record: 0, or minus the refusal number. The place after it goes to `next`, stored to on success only.
-#[unsafe(no_mangle)]
-pub extern "C" fn coder_write_record(
+pub fn coder_write_record(
     kind: u8,
     grade: u8,
     number: u32,
@@ -224,8 +216,7 @@ pub extern "C" fn coder_write_record(
 }
 
 // Reading a record: the energy of its frame, or minus the refusal number. Kind, grade, number and the place after it are stored on success only.
-#[unsafe(no_mangle)]
-pub extern "C" fn coder_read_record(
+pub fn coder_read_record(
     buffer: &[u8],
     place: usize,
     frame: &mut [i32],
@@ -244,8 +235,7 @@ pub extern "C" fn coder_read_record(
 }
 
 // The bytes of a record of a kind, 0 where there is no such kind.
-#[unsafe(no_mangle)]
-pub extern "C" fn coder_record_length(kind: u8) -> usize
+pub fn coder_record_length(kind: u8) -> usize
     ensures { result ≡ record_length kind }
 {
     records::record_length(kind)
