@@ -1,4 +1,6 @@
 // The levels of a frame, each held in a number: the bits of one weight of its coordinates, the same taken backwards, and the test of the levels.
+#![tactic(auto)]
+
 mod broken;
 
 ghost use Rattle.std.specs.Prelude.{◌≡◌, true, ◌*◌, ◌/◌, ◌^◌, ◌<◌, ◌≤◌, length};

@@ -18,25 +18,25 @@ use Rattle.frame_levels.proofs.Words.{weight-bit-small}
 use Rattle.frame_levels.proofs.level_word.Statement.{statement}
 use Rattle.frame_levels.proofs.level_word.Tie as tie
 
-abbrev invariant-loop : tie.invariant-loop
-invariant-loop frame i word₀ j₀ word j = (j ≤ length frame / 8) × (word ≡ number (length frame - 8 * j) (λ q. level_word i frame (8 * j + q)))
+abbrev invariant-loop-j : tie.invariant-loop-j
+invariant-loop-j frame i word₀ j₀ word j = (j ≤ length frame / 8) × (word ≡ number (length frame - 8 * j) (λ q. level_word i frame (8 * j + q)))
 
-abbrev decreases-loop : tie.decreases-loop
-decreases-loop frame i word₀ j₀ word j = j
+abbrev decreases-loop-j : tie.decreases-loop-j
+decreases-loop-j frame i word₀ j₀ word j = j
 
 -- a turn of the loop
-module _ (c : tie.In-loop invariant-loop decreases-loop) where
-  abbrev s : tie.Start invariant-loop decreases-loop
+module _ (c : tie.In-loop-j invariant-loop-j decreases-loop-j) where
+  abbrev s : tie.Start invariant-loop-j decreases-loop-j
   s = c.before.before
 
   abbrev f : List ℤ
   f = s.args.frame.now
 
   abbrev j : ℕ
-  j = c.before.loop.j - 1
+  j = c.before.loop-j.j - 1
 
   whole : length f ≡ 8 * (length f / 8)
-  whole = sym s.pre.0
+  whole = sym s.requires.0
 
   inside : j < length f / 8
   inside = omega arith
@@ -48,20 +48,20 @@ module _ (c : tie.In-loop invariant-loop decreases-loop) where
   i = s.args.i
 
   -- the number has room for eight bits more
-  room : c.before.loop.word < 2 ^ 56
+  room : c.before.loop-j.word < 2 ^ 56
   room =
-      let l = c.before.loop in
+      let l = c.before.loop-j in
       let n : ℕ = length f - 8 * l.j in
       omega (
         arith,
         l.invariant.1,
         number_lt (λ q. level_word i f (8 * l.j + q)) n (λ q h. weight-bit-small i _),
-        pow_mono {i = n} {j = 56} (omega (arith, s.pre.1)),
+        pow_mono {i = n} {j = 56} (omega (arith, s.requires.1)),
       )
 
 -- the eight bits of block j
-module _ (c : tie.After-eight invariant-loop decreases-loop) where
-  abbrev t : tie.In-loop invariant-loop decreases-loop
+module _ (c : tie.After-eight invariant-loop-j decreases-loop-j) where
+  abbrev t : tie.In-loop-j invariant-loop-j decreases-loop-j
   t = c.before.before
 
   is : c.eight.result ≡ number 8 (λ q. level_word (i t) (f t) (8 * j t + q))
@@ -73,62 +73,62 @@ module _ (c : tie.After-eight invariant-loop decreases-loop) where
   below : c.eight.result < 256
   below = omega (arith, is, number_lt (λ q. level_word (i t) (f t) (8 * j t + q)) 8 (λ q h. weight-bit-small (i t) _))
 
-loop-holds : tie.Need-loop-init invariant-loop decreases-loop
+loop-holds : tie.Need-loop-j-init invariant-loop-j decreases-loop-j
 unfolding sum_to
 loop-holds c =
     let a = c.args in
     let e : 0 ≡ length a.frame.now - 8 * (length a.frame.now / 8) = omega (arith, c.requires.0) in
     (omega arith, ap (λ (n : ℕ). number n (λ q. level_word a.i a.frame.now (8 * (length a.frame.now / 8) + q))) e)
 
-sub-j : tie.Need-overflow-sub-j invariant-loop decreases-loop
+sub-j : tie.Need-overflow_sub-j invariant-loop-j decreases-loop-j
 sub-j c = search rules
 
-mul-a : tie.Need-overflow-mul-a invariant-loop decreases-loop
+mul-a : tie.Need-overflow_mul-a invariant-loop-j decreases-loop-j
 mul-a c = search rules
 
-add-e : tie.Need-overflow-add-e invariant-loop decreases-loop
+add-e : tie.Need-overflow_add-e invariant-loop-j decreases-loop-j
 add-e c = search rules
 
-mul-word : tie.Need-overflow-mul-word invariant-loop decreases-loop
+mul-word : tie.Need-overflow_mul-word invariant-loop-j decreases-loop-j
 mul-word c = record { fits = omega (arith, room c) }
 
-mul-eight : tie.Need-overflow-mul-eight invariant-loop decreases-loop
+mul-eight : tie.Need-offset_bounds-frame-a invariant-loop-j decreases-loop-j
 mul-eight c = search rules
 
-sub-eight : tie.Need-overflow-sub-eight invariant-loop decreases-loop
+sub-eight : tie.Need-slice_bounds-eight-count invariant-loop-j decreases-loop-j
 sub-eight c = search rules
 
-part-eight-start : tie.Need-slice-bounds-eight-start invariant-loop decreases-loop
+part-eight-start : tie.Need-slice_bounds-eight-start invariant-loop-j decreases-loop-j
 part-eight-start c = search rules
 
-part-eight-end : tie.Need-slice-bounds-eight-end invariant-loop decreases-loop
+part-eight-end : tie.Need-slice_bounds-eight-end invariant-loop-j decreases-loop-j
 part-eight-end c = search rules
 
-eight-requires : tie.Need-eight-requires invariant-loop decreases-loop
+eight-requires : tie.Need-eight-requires invariant-loop-j decreases-loop-j
 eight-requires c κs = let t = c.before in (ap length (read t) ∙ part_length (f t) (length (f t) / 8) (j t) (whole t) (inside t), (s t).requires.2)
 
-add-word : tie.Need-overflow-add-word invariant-loop decreases-loop
+add-word : tie.Need-overflow_add-word invariant-loop-j decreases-loop-j
 add-word c = record { fits = omega (arith, room (t c), below c) }
 
-loop-less : tie.Need-loop-smaller invariant-loop decreases-loop
+loop-less : tie.Need-loop-j-smaller invariant-loop-j decreases-loop-j
 loop-less c = search rules
 
-loop-again : tie.Need-loop-preserved invariant-loop decreases-loop
+loop-again : tie.Need-loop-j-preserved invariant-loop-j decreases-loop-j
 loop-again c =
-    let l = (t c).before.loop in
+    let l = (t c).before.loop-j in
     let g : ℕ → ℕ = level_word (i (t c)) (f (t c)) in
     let n : ℕ = length (f (t c)) - 8 * l.j in
     let u : 8 + n ≡ length (f (t c)) - 8 * j (t c) = omega (arith, inside (t c), whole (t c)) in
     let d : 8 * l.j ≡ 8 + 8 * j (t c) = omega arith in (
       omega arith,
       ap (λ (x : ℕ). 256 * l.word + x) (is c)
-          ∙ number-from g 8 n (8 * j (t c)) l.word (l.inv.1 ∙ ap (λ (x : ℕ). number n (λ q. g (x + q))) d)
+          ∙ number-from g 8 n (8 * j (t c)) l.word (l.invariant.1 ∙ ap (λ (x : ℕ). number n (λ q. g (x + q))) d)
           ∙ ap (λ (m : ℕ). number m (λ q. g (8 * j (t c) + q))) u,
     )
 
-returns : tie.Need-returns invariant-loop decreases-loop
+returns : tie.Need-returns invariant-loop-j decreases-loop-j
 returns c =
-    let l = c.before.loop in
+    let l = c.before.loop-j in
     let a = c.before.before.args in
     let n : ℕ = length a.frame.now in
     let e : n - 8 * l.j ≡ n = omega arith in
@@ -136,12 +136,12 @@ returns c =
     l.invariant.1 ∙ ap₂ (λ (m x : ℕ). number m (λ q. level_word a.i a.frame.now (x + q))) e z
     ∙ number-ext n (λ q h. let z : 0 + q ≡ q = omega arith in ap (level_word a.i a.frame.now) z)
 
-pub level-word-spec : {M : Type 1} → statement M
-level-word-spec =
+pub level_word_spec : {M : Type 1} → statement M
+level_word_spec =
     tie.close
     (tie.spec
-    invariant-loop
-    decreases-loop
+    invariant-loop-j
+    decreases-loop-j
     loop-holds
     sub-j
     mul-a

@@ -21,18 +21,18 @@ use Rattle.frame_levels.proofs.level_words.Tie as tie
 abbrev back : ℕ → List ℤ → ℕ → ℕ
 back k f i = number (2 ^ k) (backwards k (level_word i f))
 
-abbrev invariant-loop : tie.invariant-loop
-invariant-loop kind frame m count words₀ i₀ words i = (i ≤ count) × (words ≡ filled 3 (back kind frame) i)
+abbrev invariant-loop-i : tie.invariant-loop-i
+invariant-loop-i kind frame m count words₀ i₀ words i = (i ≤ count) × (words ≡ filled 3 (back kind frame) i)
 
-abbrev decreases-loop : tie.decreases-loop
-decreases-loop kind frame m count words₀ i₀ words i = 3 - i
+abbrev decreases-loop-i : tie.decreases-loop-i
+decreases-loop-i kind frame m count words₀ i₀ words i = 3 - i
 
 -- a turn of the loop, past its test
-module _ (c : tie.Else1 invariant-loop decreases-loop) where
-  abbrev called : tie.After-levels invariant-loop decreases-loop
+module _ (c : tie.Else-count-i invariant-loop-i decreases-loop-i) where
+  abbrev called : tie.After-levels-count invariant-loop-i decreases-loop-i
   called = c.before.before.before
 
-  abbrev s : tie.Start invariant-loop decreases-loop
+  abbrev s : tie.Start invariant-loop-i decreases-loop-i
   s = called.before
 
   abbrev k : ℕ
@@ -42,78 +42,78 @@ module _ (c : tie.Else1 invariant-loop decreases-loop) where
   f = s.args.frame.now
 
   abbrev i : ℕ
-  i = c.before.before.loop.i
+  i = c.before.before.loop-i.i
 
   inside : i < levels k
-  inside = omega (arith, c.if1.false, called.levels.ensures)
+  inside = omega (arith, c.if-count-i.false, called.levels-count.ensures)
 
   whole : 8 * (length f / 8) ≡ length f
-  whole = ap (λ (n : ℕ). 8 * (n / 8)) s.pre.1 ∙ whole-blocks k s.pre.0 ∙ sym s.pre.1
+  whole = ap (λ (n : ℕ). 8 * (n / 8)) s.requires.1 ∙ whole-blocks k s.requires.0 ∙ sym s.requires.1
 
-levels-requires : tie.Need-levels-requires invariant-loop decreases-loop
+levels-requires : tie.Need-levels-count-requires invariant-loop-i decreases-loop-i
 levels-requires c κs = search rules
 
-loop-holds : tie.Need-loop-init invariant-loop decreases-loop
+loop-holds : tie.Need-loop-i-init invariant-loop-i decreases-loop-i
 unfolding table
 loop-holds c = (omega arith, sym (filled_none 3 (back c.before.args.kind c.before.args.frame.now)))
 
-level-word-requires : tie.Need-level-word-requires invariant-loop decreases-loop
+level-word-requires : tie.Need-level_word-requires invariant-loop-i decreases-loop-i
 level-word-requires c κs = (
   whole c,
   omega (arith, (s c).requires.1, few-positions (k c) (s c).requires.0),
   omega (arith, inside c, few-levels (k c) (s c).requires.0),
 )
 
-transformed-requires : tie.Need-transformed-requires invariant-loop decreases-loop
+transformed-requires : tie.Need-transformed-requires invariant-loop-i decreases-loop-i
 transformed-requires c κs = let t = c.before in omega (arith, kind-high (k t) (s t).requires.0)
 
-mul_words : tie.Need-overflow-mul-words invariant-loop decreases-loop
+mul_words : tie.Need-offset_bounds-words-i invariant-loop-i decreases-loop-i
 mul_words c = let t = c.before.before in record { fits = omega (arith, inside t, few-levels (k t) (s t).requires.0) }
 
-array-write-words : tie.Need-array-write-words invariant-loop decreases-loop
+array-write-words : tie.Need-bounds-words-i invariant-loop-i decreases-loop-i
 array-write-words c = let t = c.before.before in omega (arith, inside t, few-levels (k t) (s t).requires.0)
 
-add-i : tie.Need-overflow-add-i invariant-loop decreases-loop
+add-i : tie.Need-overflow_add-i invariant-loop-i decreases-loop-i
 add-i c = search rules
 
-loop-less : tie.Need-loop-smaller invariant-loop decreases-loop
+loop-less : tie.Need-loop-i-smaller invariant-loop-i decreases-loop-i
 loop-less c = search rules
 
-loop-again : tie.Need-loop-preserved invariant-loop decreases-loop
+loop-again : tie.Need-loop-i-preserved invariant-loop-i decreases-loop-i
 loop-again c =
     let w = c.before in
     let t = w.before in
-    let l = t.before.before.loop in (
-      omega (arith, inside t, (called t).levels.ensures),
+    let l = t.before.before.loop-i in (
+      omega (arith, inside t, (called t).levels-count.ensures),
       ap₂ (λ (ws : List ℕ) (x : ℕ). set ws (i t) x) l.invariant.1
-          (c.transformed.ensures ∙ word-backwards (k t) (length (f t)) (i t) (f t) w.level-word.result (s t).requires.1 w.level-word.ensures)
+          (c.transformed.ensures ∙ word-backwards (k t) (length (f t)) (i t) (f t) w.level_word.result (s t).requires.1 w.level_word.ensures)
           ∙ filled_more 3 (back (k t) (f t)) (i t) (omega (arith, inside t, few-levels (k t) (s t).requires.0)),
     )
 
 -- no level more
-module _ (c : tie.At-loop invariant-loop decreases-loop) where
-  abbrev start : tie.Start invariant-loop decreases-loop
+module _ (c : tie.At-loop-i invariant-loop-i decreases-loop-i) where
+  abbrev start : tie.Start invariant-loop-i decreases-loop-i
   start = c.before.before
 
-  all_held : levels start.args.kind ≤ c.loop.i → c.loop.words ≡ backward_words start.args.kind start.args.frame.now
+  all_held : levels start.args.kind ≤ c.loop-i.i → c.loop-i.words ≡ backward_words start.args.kind start.args.frame.now
   unfolding backward_words
   all_held h =
       let a = start.args in
-      let e : c.loop.i ≡ levels a.kind = omega (arith, c.before.levels.ensures, c.loop.invariant.0) in
-      c.loop.invariant.1 ∙ ap (filled 3 (back a.kind a.frame.now)) e
+      let e : c.loop-i.i ≡ levels a.kind = omega (arith, c.before.levels-count.ensures, c.loop-i.invariant.0) in
+      c.loop-i.invariant.1 ∙ ap (filled 3 (back a.kind a.frame.now)) e
 
-returns : tie.Need-returns invariant-loop decreases-loop
-returns c = all_held c.before.before (omega (arith, c.before.before.before.levels.ensures, c.if1.true))
+returns : tie.Need-returns-then-count-i invariant-loop-i decreases-loop-i
+returns c = all_held c.before.before (omega (arith, c.before.before.before.levels-count.ensures, c.if-count-i.true))
 
-returns-2 : tie.Need-returns-2 invariant-loop decreases-loop
+returns-2 : tie.Need-returns invariant-loop-i decreases-loop-i
 returns-2 c = let s = c.before.before.before in all_held c.before (omega (arith, few-levels s.args.kind s.requires.0))
 
-pub level-words-spec : {M : Type 1} → statement M
-level-words-spec =
+pub level_words_spec : {M : Type 1} → statement M
+level_words_spec =
     tie.close
     (tie.spec
-    invariant-loop
-    decreases-loop
+    invariant-loop-i
+    decreases-loop-i
     levels-requires
     loop-holds
     returns

@@ -39,26 +39,26 @@ module _ (z : ℤ) (m : ℕ) (fits : SFits w32 z) where
   bit : back (back (shr_z (back z) m) -ℤ back (pos 2 *ℤ back (shr_z (back (shr_z (back z) m)) 2))) ≡ pos (mod_z q 2)
   bit = tz rest (fits-bit q)
 
-cast-q : tie.Need-overflow-cast-q
+cast-q : tie.Need-overflow_cast-q
 cast-q c = search rules
 
-shr-q : tie.Need-overflow-shr-q
+shr-q : tie.Need-overflow_shr-q
 shr-q c = search rules
 
-mul-result : tie.Need-overflow-mul-result
+mul-result : tie.Need-overflow_mul-result
 mul-result c =
     sfits-to (twice c.args.z (2 ^ c.args.i) c.ranges.z)
     (fits-twice (shr_z c.args.z (2 ^ c.args.i)) (fits-quotient (2 ^ c.args.i) c.ranges.z))
 
-sub-result : tie.Need-overflow-sub-result
+sub-result : tie.Need-overflow_sub-result
 sub-result c = sfits-to (rest c.args.z (2 ^ c.args.i) c.ranges.z) (fits-bit (shr_z c.args.z (2 ^ c.args.i)))
 
-cast-result : tie.Need-overflow-cast-result
+cast-result : tie.Need-overflow_cast-result
 cast-result c = subst (λ (y : ℤ). T (non_neg y) × Fits w8 (nat_abs y)) (sym (bit c.args.z (2 ^ c.args.i) c.ranges.z))
     (tt, record { fits = omega (arith, mod_z-lt (shr_z c.args.z (2 ^ c.args.i)) 2 (omega arith)) })
 
 returns : tie.Need-returns
 returns c = ap nat_abs (bit c.args.z (2 ^ c.args.i) c.ranges.z) ∙ sym (weight-bit c.args.i c.args.z)
 
-pub weight-bit-spec : {M : Type 1} → statement M
-weight-bit-spec = tie.close (tie.spec cast-q shr-q mul-result sub-result cast-result returns)
+pub weight_bit_spec : {M : Type 1} → statement M
+weight_bit_spec = tie.close (tie.spec cast-q shr-q mul-result sub-result cast-result returns)
