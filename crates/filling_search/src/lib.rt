@@ -1,5 +1,7 @@
 // The filling of the free bits that is sent. The free bits stand in the last block alone: the blocks of all fillings are laid side by side and shaped,
 // and the first of least energy is taken.
+#![tactic(auto)]
+
 ghost use Rattle.std.specs.Prelude.{◌≡◌, ◌*◌, ◌/◌, ◌%◌, ◌^◌, ◌<◌, ◌≤◌, nat_abs, length};
 ghost use Rattle.e8.specs.Energy.{energy as energyOf, Within};
 ghost use Rattle.e8.specs.Lattice.{part};

@@ -18,15 +18,15 @@ use Rattle.filling_search.proofs.is_quietest.Tie as tie
 eight : (s : tie.Start) → length s.args.x ≡ 8
 eight s = search rules
 
-shifted-block-requires : tie.Need-shifted-block-requires
+shifted-block-requires : tie.Need-shifted_block-y-requires
 shifted-block-requires c κs =
     let p = c.requires in
     (p.1, p.2, p.3, p.4, omega (arith, p.5), within-to (2 ^ 7) (2 ^ 9) c.args.x (omega arith) p.6)
 
 -- the block with the filling taken out
-taken_out : (c : tie.After-shifted-block) → let g = c.before.args in
-    c.shifted-block.result ≡ shifted_block true g.a g.grade g.free g.phi g.x
-taken_out c = c.shifted-block.ensures
+taken_out : (c : tie.After-shifted_block-y) → let g = c.before.args in
+    c.shifted_block-y.result ≡ shifted_block true g.a g.grade g.free g.phi g.x
+taken_out c = c.shifted_block-y.ensures
 
 quietest-requires : tie.Need-quietest-requires
 quietest-requires c κs =
@@ -45,5 +45,5 @@ returns c =
     ap (λ (n : ℕ). eqb n g.phi)
     (c.quietest.ensures ∙ ap (quiet_of g.a g.grade g.free) (taken_out c.before))
 
-pub is-quietest-spec : {M : Type 1} → statement M
-is-quietest-spec = tie.close (tie.spec shifted-block-requires quietest-requires returns)
+pub is_quietest_spec : {M : Type 1} → statement M
+is_quietest_spec = tie.close (tie.spec shifted-block-requires quietest-requires returns)

@@ -11,94 +11,94 @@ use Rattle.filling_search.proofs.Tried.{filled-made}
 use Rattle.filling_search.proofs.lay.Statement.{statement}
 use Rattle.filling_search.proofs.lay.Tie as tie
 
-abbrev invariant-loop : tie.invariant-loop
-invariant-loop a grade free x out₀ count j₀ out j = Over (filled_blocks a grade free x) out₀ j out
+abbrev invariant-loop-j : tie.invariant-loop-j
+invariant-loop-j a grade free x out₀ count j₀ out j = Over (filled_blocks a grade free x) out₀ j out
 
-abbrev decreases-loop : tie.decreases-loop
-decreases-loop a grade free x out₀ count j₀ out j = 2 ^ free - j
+abbrev decreases-loop-j : tie.decreases-loop-j
+decreases-loop-j a grade free x out₀ count j₀ out j = 2 ^ free - j
 
-module _ (s : tie.Start invariant-loop decreases-loop) where
+module _ (s : tie.Start invariant-loop-j decreases-loop-j) where
   eight : length s.args.x ≡ 8
   eight = search rules
 
   whole : length s.args.out.now ≡ 8 * 2 ^ s.args.free
-  whole = s.pre.5
+  whole = s.requires.5
 
   few : 2 ^ s.args.free ≤ 16
-  few = pow_mono {j = 4} s.pre.3
+  few = pow_mono {j = 4} s.requires.3
 
   made : Made (2 ^ s.args.free) (λ j. filled_block s.args.a s.args.grade s.args.free j s.args.x)
       (filled_blocks s.args.a s.args.grade s.args.free s.args.x)
   made = filled-made s.args.a s.args.grade s.args.free s.args.x eight (2 ^ s.args.free)
 
 -- a turn's filling is one of them, and its block has room
-module _ (a : tie.At-loop invariant-loop decreases-loop) where
-  same : length a.loop.out ≡ length a.before.args.out.now
-  same = over-same (made a.before) (whole a.before) a.loop.invariant
+module _ (a : tie.At-loop-j invariant-loop-j decreases-loop-j) where
+  same : length a.loop-j.out ≡ length a.before.args.out.now
+  same = over-same (made a.before) (whole a.before) a.loop-j.invariant
 
-record Turn (a : tie.At-loop invariant-loop decreases-loop) : Type 0 where
-  inside : a.loop.j < 2 ^ a.before.args.free
-  low : a.loop.j < 16
-  room : 8 * a.loop.j + 8 ≤ length a.loop.out
+record Turn (a : tie.At-loop-j invariant-loop-j decreases-loop-j) : Type 0 where
+  inside : a.loop-j.j < 2 ^ a.before.args.free
+  low : a.loop-j.j < 16
+  room : 8 * a.loop-j.j + 8 ≤ length a.loop-j.out
 
-turn : (c : tie.In-loop invariant-loop decreases-loop) → Turn c.before
+turn : (c : tie.In-loop-j invariant-loop-j decreases-loop-j) → Turn c.before
 turn c =
     let a = c.before in
-    let h : a.loop.j < 2 ^ a.before.args.free = omega (arith, whole a.before) in
+    let h : a.loop-j.j < 2 ^ a.before.args.free = omega (arith, whole a.before) in
     record { inside = h; low = omega (arith, few a.before); room = omega (arith, same a, whole a.before) }
 
-loop-holds : tie.Need-loop-init invariant-loop decreases-loop
+loop-holds : tie.Need-loop-j-init invariant-loop-j decreases-loop-j
 loop-holds c = over-start (made c) (whole c)
 
-mul-s : tie.Need-overflow-mul-s invariant-loop decreases-loop
+mul-s : tie.Need-overflow_mul-s invariant-loop-j decreases-loop-j
 mul-s c = omega (arith, (turn c).low)
 
-add-e : tie.Need-overflow-add-e invariant-loop decreases-loop
+add-e : tie.Need-overflow_add-e invariant-loop-j decreases-loop-j
 add-e c = omega (arith, (turn c).low)
 
-shifted-block-requires : tie.Need-shifted-block-requires invariant-loop decreases-loop
+shifted-block-requires : tie.Need-shifted_block-y-requires invariant-loop-j decreases-loop-j
 shifted-block-requires c κs = let s = c.before.before in (s.requires.0, s.requires.1, s.requires.2, s.requires.3, (turn c).inside, s.requires.4)
 
-mul-store : tie.Need-overflow-mul-store invariant-loop decreases-loop
+mul-store : tie.Need-offset_bounds-out-s invariant-loop-j decreases-loop-j
 mul-store c = omega (arith, (turn c.before).low)
 
-sub-store : tie.Need-overflow-sub-store invariant-loop decreases-loop
+sub-store : tie.Need-slice_bounds-store-count invariant-loop-j decreases-loop-j
 sub-store c = omega arith
 
-part-store-start : tie.Need-slice-bounds-store-start invariant-loop decreases-loop
+part-store-start : tie.Need-slice_bounds-store-start invariant-loop-j decreases-loop-j
 part-store-start c = search rules
 
-part-store-end : tie.Need-slice-bounds-store-end invariant-loop decreases-loop
+part-store-end : tie.Need-slice_bounds-store-end invariant-loop-j decreases-loop-j
 part-store-end c = omega (arith, (turn c.before).room)
 
-store-requires : tie.Need-store-requires invariant-loop decreases-loop
+store-requires : tie.Need-store-requires invariant-loop-j decreases-loop-j
 store-requires c κs = simp (length-take, length-drop) (omega (arith, (turn c.before.before).room))
 
-add-j : tie.Need-overflow-add-j invariant-loop decreases-loop
+add-j : tie.Need-overflow_add-j invariant-loop-j decreases-loop-j
 add-j c = omega (arith, (turn c.before.before.before.before).low)
 
-loop-less : tie.Need-loop-smaller invariant-loop decreases-loop
+loop-less : tie.Need-loop-j-smaller invariant-loop-j decreases-loop-j
 loop-less c = omega (arith, (turn c.before.before.before.before).inside)
 
-loop-again : tie.Need-loop-preserved invariant-loop decreases-loop
+loop-again : tie.Need-loop-j-preserved invariant-loop-j decreases-loop-j
 loop-again c =
     let t = c.before in
     let l = t.before.before.before in
     let a = l.before in
-    over-step (made a.before) (whole a.before) a.loop.invariant (turn l).inside (t.store.ensures ∙ t.before.before.shifted-block.ensures)
+    over-step (made a.before) (whole a.before) a.loop-j.invariant (turn l).inside (t.store.ensures ∙ t.before.before.shifted_block-y.ensures)
 
-same_length : tie.Need-same-length invariant-loop decreases-loop
+same_length : tie.Need-shape_of-out invariant-loop-j decreases-loop-j
 same_length c = same c.before
 
-returns : tie.Need-returns invariant-loop decreases-loop
-returns c = over-end (made c.before.before) (whole c.before.before) c.before.loop.invariant (omega (arith, whole c.before.before))
+returns : tie.Need-returns invariant-loop-j decreases-loop-j
+returns c = over-end (made c.before.before) (whole c.before.before) c.before.loop-j.invariant (omega (arith, whole c.before.before))
 
-pub lay-spec : {M : Type 1} → statement M
-lay-spec =
+pub lay_spec : {M : Type 1} → statement M
+lay_spec =
     tie.close
     (tie.spec
-    invariant-loop
-    decreases-loop
+    invariant-loop-j
+    decreases-loop-j
     loop-holds
     mul-s
     add-e

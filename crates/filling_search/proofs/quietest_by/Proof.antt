@@ -23,11 +23,11 @@ abbrev all : tie.Start → List ℤ
 all s = filled_blocks s.args.a s.args.grade s.args.free s.args.x (2 ^ s.args.free)
 
 -- what is laid, and what is made of it
-laid : (l : tie.After-lay) → l.lay.new.1.1.1.1.0 ≡ all l.before.before
+laid : (l : tie.After-lay) → l.lay.new.out ≡ all l.before.before
 laid l = l.lay.ensures
 
 made : (h : tie.After-shape) → let g = h.before.before.before.before.before.args in
-    h.shape.new.1.1.0 ≡ shaped_blocks g.a g.grade g.free g.x
+    h.shape.new.frame ≡ shaped_blocks g.a g.grade g.free g.x
 made h =
     let l = h.before.before.before in
     let s = l.before.before in
@@ -39,13 +39,13 @@ made h =
 lay-requires : tie.Need-lay-requires
 lay-requires c κs = search rules
 
-add-k : tie.Need-overflow-add-k
+add-k : tie.Need-overflow_add-k
 add-k c = search rules
 
-sub-k : tie.Need-overflow-sub-k
+sub-k : tie.Need-overflow_sub-k
 sub-k c = search rules
 
-cast-shape : tie.Need-overflow-cast-shape
+cast-shape : tie.Need-overflow_cast-k
 cast-shape c = search rules
 
 shape-requires : tie.Need-shape-requires
@@ -58,31 +58,31 @@ shape-requires c κs =
     (all_take g.a g.grade g.free g.x (eight s) p.0 p.1 p.2 p.3 p.4 p.5) in
     (omega arith, t.0, t.1, t.2, t.3)
 
-first-least-requires : tie.Need-first-least-requires
+first-least-requires : tie.Need-first_least-requires
 first-least-requires c κs =
-    let h = c.before.before in
+    let h = c.before in
     let s = h.before.before.before.before.before in
     let g = s.args in
     let p = s.requires in
     subst (λ (y : List ℤ). (length y % 8 ≡ 0) × (8 ≤ length y) × (length y ≤ 1024) × Within (2 ^ 10) y) (sym (made h))
     (shaped-takes g.a g.grade g.free g.x (eight s) p.0 p.1 p.2 p.3 p.4 p.5)
 
-same_length : tie.Need-same-length
+same_length : tie.Need-shape_of-buffer
 same_length c = search rules
 
 returns : tie.Need-returns
 returns c =
-    let h = c.before.before.before in
+    let h = c.before.before in
     let s = h.before.before.before.before.before in
     let g = s.args in
     let p = s.requires in (
-      c.first-least.ensures ∙ ap (λ (y : List ℤ). first_least (λ j. energy (part j y)) (length y / 8)) (made h)
+      c.first_least.ensures ∙ ap (λ (y : List ℤ). first_least (λ j. energy (part j y)) (length y / 8)) (made h)
           ∙ shaped-first g.a g.grade g.free g.x (eight s) p.0 p.1 p.2 p.3 p.4 p.5,
       made h,
     )
 
-pub quietest-by-spec : {M : Type 1} → statement M
-quietest-by-spec =
+pub quietest_by_spec : {M : Type 1} → statement M
+quietest_by_spec =
     tie.close
     (tie.spec
     lay-requires

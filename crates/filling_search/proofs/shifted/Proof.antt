@@ -27,49 +27,49 @@ module _ (s : tie.Start) where
   z = s.args.z
 
   up : n * 2 ^ a % 2 ^ 32 ≡ 2 ^ a * n
-  up = moved_up n a 5 32 s.pre.1 (omega (arith, s.pre.0))
+  up = moved_up n a 5 32 s.requires.1 (omega (arith, s.requires.0))
 
   small : 2 ^ a * n ≤ 256
   small =
-      let few : 2 ^ a ≤ 8 = pow_mono {j = 3} s.pre.0 in
-      let low : n ≤ 32 = omega (arith, s.pre.1) in
+      let few : 2 ^ a ≤ 8 = pow_mono {j = 3} s.requires.0 in
+      let low : n ≤ 32 = omega (arith, s.requires.1) in
       mul-le-mul {n₁ = 2 ^ a} {m₁ = n} {n₂ = 8} {m₂ = 32} few low
 
   number_is : to_z w32 (n * 2 ^ a % 2 ^ 32) ≡ pos (2 ^ a * n)
   number_is = to_z_pos w32 {n = n * 2 ^ a % 2 ^ 32} (omega (arith, up, small)) ∙ ap pos up
 
   sum_fits : SFits w32 (z +ℤ pos (2 ^ a * n))
-  sum_fits = fits (z +ℤ pos (2 ^ a * n)) (omega (arith, sum-abs z (pos (2 ^ a * n)) (2 ^ 9) 256 s.pre.2 small))
+  sum_fits = fits (z +ℤ pos (2 ^ a * n)) (omega (arith, sum-abs z (pos (2 ^ a * n)) (2 ^ 9) 256 s.requires.2 small))
 
   sum_is : read z +ℤ to_z w32 (n * 2 ^ a % 2 ^ 32) ≡ z +ℤ pos (2 ^ a * n)
-  sum_is = ap₂ ◌+ℤ◌ (plain z (omega (arith, s.pre.2))) number_is
+  sum_is = ap₂ ◌+ℤ◌ (plain z (omega (arith, s.requires.2))) number_is
 
   difference-fits : SFits w32 (z -ℤ pos (2 ^ a * n))
-  difference-fits = fits (z -ℤ pos (2 ^ a * n)) (omega (arith, less-abs z (pos (2 ^ a * n)) (2 ^ 9) 256 s.pre.2 small))
+  difference-fits = fits (z -ℤ pos (2 ^ a * n)) (omega (arith, less-abs z (pos (2 ^ a * n)) (2 ^ 9) 256 s.requires.2 small))
 
   difference-is : read z -ℤ to_z w32 (n * 2 ^ a % 2 ^ 32) ≡ z -ℤ pos (2 ^ a * n)
-  difference-is = ap₂ ◌-ℤ◌ (plain z (omega (arith, s.pre.2))) number_is
+  difference-is = ap₂ ◌-ℤ◌ (plain z (omega (arith, s.requires.2))) number_is
 
-cast-m : tie.Need-overflow-cast-m
+cast-m : tie.Need-overflow_cast-m
 cast-m c = search rules
 
-shl-m : tie.Need-overflow-shl-m
+shl-m : tie.Need-overflow_shl-m
 shl-m c = search rules
 
-cast-m-2 : tie.Need-overflow-cast-m-2
+cast-m-2 : tie.Need-overflow_cast-m-2
 cast-m-2 c = record { sfits = omega (arith, up c, small c) }
 
-sub-result : tie.Need-overflow-sub-result
+sub-result : tie.Need-overflow_sub-result
 sub-result c = sfits-to (difference-is c.before) (difference-fits c.before)
 
-add-result : tie.Need-overflow-add-result
+add-result : tie.Need-overflow_add-result
 add-result c = sfits-to (sum_is c.before) (sum_fits c.before)
 
-returns : tie.Need-returns
-returns c = rw c.if1.true (tz (difference-is c.before) (difference-fits c.before))
+returns : tie.Need-returns-then-off
+returns c = rw c.if-off.true (tz (difference-is c.before) (difference-fits c.before))
 
-returns-2 : tie.Need-returns-2
-returns-2 c = rw c.if1.false (tz (sum_is c.before) (sum_fits c.before))
+returns-2 : tie.Need-returns-else-off
+returns-2 c = rw c.if-off.false (tz (sum_is c.before) (sum_fits c.before))
 
-pub shifted-spec : {M : Type 1} → statement M
-shifted-spec = tie.close (tie.spec cast-m shl-m cast-m-2 sub-result add-result returns returns-2)
+pub shifted_spec : {M : Type 1} → statement M
+shifted_spec = tie.close (tie.spec cast-m shl-m cast-m-2 sub-result add-result returns returns-2)
