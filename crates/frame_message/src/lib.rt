@@ -1,4 +1,6 @@
 // The message of a frame of the coding set: the bits of the levels and those of the blocks, one behind the other.
+#![tactic(auto)]
+
 ghost use Rattle.std.specs.Prelude.{◌≡◌, true, ◌+◌, ◌*◌, ◌/◌, ◌%◌, ◌^◌, ◌≤◌, length, get_or};
 ghost use Rattle.bits.specs.Number.{number};
 ghost use Rattle.frames.specs.Kind.{is_kind, is_grade, degrees, level_bits, message_bytes};

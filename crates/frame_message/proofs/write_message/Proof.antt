@@ -31,26 +31,26 @@ use Rattle.frame_message.proofs.Pieces.{level_row, row-bits, blocks_end, row-lon
 use Rattle.frame_message.proofs.write_message.Statement.{statement}
 use Rattle.frame_message.proofs.write_message.Tie as tie
 
-abbrev invariant-loop : tie.invariant-loop
-invariant-loop kind grade frame out₀ a b n count over at₀ rest₀ j₀ out at rest j =
+abbrev invariant-loop-j : tie.invariant-loop-j
+invariant-loop-j kind grade frame out₀ a b n count over at₀ rest₀ j₀ out at rest j =
     (j ≤ n) × (at ≡ at₀ + b * j)
     × ((words before : List ℕ) → Carried (level_row kind words) before at₀ over rest₀ out₀ → Carried (held_bits kind grade frame words) before at over rest out)
 
-abbrev decreases-loop : tie.decreases-loop
-decreases-loop kind grade frame out₀ a b n count over at₀ rest₀ j₀ out at rest j = n - j
+abbrev decreases-loop-j : tie.decreases-loop-j
+decreases-loop-j kind grade frame out₀ a b n count over at₀ rest₀ j₀ out at rest j = n - j
 
 -- the loop, at any turn
-module _ (c : tie.At-loop invariant-loop decreases-loop) where
-  abbrev wrote : tie.After-write-levels invariant-loop decreases-loop
+module _ (c : tie.At-loop-j invariant-loop-j decreases-loop-j) where
+  abbrev wrote : tie.After-write_levels-rest invariant-loop-j decreases-loop-j
   wrote = c.before.before.before
 
-  abbrev counted : tie.After-level-bits invariant-loop decreases-loop
+  abbrev counted : tie.After-level_bits-count invariant-loop-j decreases-loop-j
   counted = wrote.before.before
 
-  abbrev called : tie.After-levels invariant-loop decreases-loop
+  abbrev called : tie.After-levels-a invariant-loop-j decreases-loop-j
   called = counted.before
 
-  abbrev s : tie.Start invariant-loop decreases-loop
+  abbrev s : tie.Start invariant-loop-j decreases-loop-j
   s = called.before.before
 
   abbrev k : ℕ
@@ -63,37 +63,37 @@ module _ (c : tie.At-loop invariant-loop decreases-loop) where
   f = s.args.frame.now
 
   abbrev j : ℕ
-  j = c.loop.j
+  j = c.loop-j.j
 
   abbrev over : ℕ
-  over = counted.level-bits.result % 8
+  over = counted.level_bits-count.result % 8
 
   low : 1 ≤ b
-  low = grade-low b s.pre.1
+  low = grade-low b s.requires.1
 
   high : b ≤ 4
-  high = grade-high b s.pre.1
+  high = grade-high b s.requires.1
 
   -- the bits so far
-  place : 8 * c.loop.at + over ≡ level_bits k + 8 * b * j
-  place = omega (arith, c.loop.invariant.1, counted.level-bits.ensures)
+  place : 8 * c.loop-j.at + over ≡ level_bits k + 8 * b * j
+  place = omega (arith, c.loop-j.invariant.1, counted.level_bits-count.ensures)
 
-  of-levels : Carried (level_row k s.args.words) s.args.out.now (counted.level-bits.result / 8) over
-      wrote.write-levels.result wrote.write-levels.last.1.1.0
+  of-levels : Carried (level_row k s.args.words) s.args.out.now (counted.level_bits-count.result / 8) over
+      wrote.write_levels-rest.result wrote.write_levels-rest.new.out
   of-levels =
-      let w = wrote.write-levels in
-      subst (λ (n : ℕ). Carried (level_row k s.args.words) s.args.out.now (n / 8) (n % 8) w.result w.last.1.1.0)
-      (sym counted.level-bits.ensures) (record { bytes = w.ensures.0; held = w.ensures.1 })
+      let w = wrote.write_levels-rest in
+      subst (λ (n : ℕ). Carried (level_row k s.args.words) s.args.out.now (n / 8) (n % 8) w.result w.new.out)
+      (sym counted.level_bits-count.ensures) (record { bytes = w.ensures.0; held = w.ensures.1 })
 
-  so_far : Carried (held_bits k b f s.args.words) s.args.out.now c.loop.at over c.loop.rest c.loop.out
-  so_far = c.loop.invariant.2 s.args.words s.args.out.now of-levels
+  so_far : Carried (held_bits k b f s.args.words) s.args.out.now c.loop-j.at over c.loop-j.rest c.loop-j.out
+  so_far = c.loop-j.invariant.2 s.args.words s.args.out.now of-levels
 
-  long : length c.loop.out ≡ message_bytes k b
-  long = carried-length so_far ∙ s.pre.4
+  long : length c.loop-j.out ≡ message_bytes k b
+  long = carried-length so_far ∙ s.requires.4
 
 -- a turn of the loop
-module _ (c : tie.In-loop invariant-loop decreases-loop) where
-  abbrev t : tie.At-loop invariant-loop decreases-loop
+module _ (c : tie.In-loop-j invariant-loop-j decreases-loop-j) where
+  abbrev t : tie.At-loop-j invariant-loop-j decreases-loop-j
   t = c.before
 
   -- the frame without its level bits
@@ -101,48 +101,48 @@ module _ (c : tie.In-loop invariant-loop decreases-loop) where
   v = quotients (levels (k t)) (f t)
 
   inside : j t < blocks (k t)
-  inside = omega (arith, (s t).pre.2)
+  inside = omega (arith, (s t).requires.2)
 
   whole : length (f t) ≡ 8 * blocks (k t)
-  whole = (s t).pre.2 ∙ sym (whole-blocks (k t) (s t).pre.0)
+  whole = (s t).requires.2 ∙ sym (whole-blocks (k t) (s t).requires.0)
 
-  room : c.before.loop.at + b t ≤ message_bytes (k t) (b t)
-  room = omega (arith, place t, block_room (k t) (b t) (j t) (s t).pre.0 inside, bytes-hold (k t) (b t))
+  room : c.before.loop-j.at + b t ≤ message_bytes (k t) (b t)
+  room = omega (arith, place t, block_room (k t) (b t) (j t) (s t).requires.0 inside, bytes-hold (k t) (b t))
 
   near : Within (2 ^ 24) (f t)
-  near = within-to largest_read (2 ^ 24) (f t) (omega arith) (range-within (f t) (s t).pre.3)
+  near = within-to largest_read (2 ^ 24) (f t) (omega arith) (range-within (f t) (s t).requires.3)
 
 -- the numbers of a block
-numbers : (c : tie.After-block-numbers invariant-loop decreases-loop) → let d = c.before.before in
-    c.block-numbers.result ≡ ints (reduced (2 ^ (b (t d) - 1)) (part (j (t d)) (v d)))
+numbers : (c : tie.After-block_numbers-numbers invariant-loop-j decreases-loop-j) → let d = c.before.before in
+    c.block_numbers-numbers.result ≡ ints (reduced (2 ^ (b (t d) - 1)) (part (j (t d)) (v d)))
 numbers c =
     let d = c.before.before in
     let e = t d in
-    c.block-numbers.ensures
-    ∙ ap (λ (x : List ℤ). ints (reduced (2 ^ (b e - 1)) (quotients (called e).levels.result x))) (part-is (j e) (f e))
-    ∙ ap (λ (a : ℕ). ints (reduced (2 ^ (b e - 1)) (quotients a (part (j e) (f e))))) (called e).levels.ensures
+    c.block_numbers-numbers.ensures
+    ∙ ap (λ (x : List ℤ). ints (reduced (2 ^ (b e - 1)) (quotients (called e).levels-a.result x))) (part-is (j e) (f e))
+    ∙ ap (λ (a : ℕ). ints (reduced (2 ^ (b e - 1)) (quotients a (part (j e) (f e))))) (called e).levels-a.ensures
     ∙ ap (λ (x : List ℤ). ints (reduced (2 ^ (b e - 1)) x)) (sym (quotients-part (levels (k e)) (j e) (f e)))
 
 -- packed, they are the bits of the block
-bits : (c : tie.After-packed invariant-loop decreases-loop) → let d = c.before.before.before in
+bits : (c : tie.After-packed invariant-loop-j decreases-loop-j) → let d = c.before.before.before in
     c.packed.result ≡ number (8 * b (t d)) (λ i. get_or (block_row (b (t d)) (j (t d)) (v d)) i 0)
 bits c =
     let e = t c.before.before.before in
     c.packed.ensures
     ∙ ap (λ (ss : List ℕ). number (8 * b e) (λ i. get_or (all_digits (widths (b e)) ss) i 0)) (ap (map nat_abs) (numbers c.before) ∙ sizes-ints _)
 
-levels-requires : tie.Need-levels-requires invariant-loop decreases-loop
+levels-requires : tie.Need-levels-a-requires invariant-loop-j decreases-loop-j
 levels-requires c κs = search rules
 
-level-bits-requires : tie.Need-level-bits-requires invariant-loop decreases-loop
+level-bits-requires : tie.Need-level_bits-count-requires invariant-loop-j decreases-loop-j
 level-bits-requires c κs = search rules
 
-write-levels-requires : tie.Need-write-levels-requires invariant-loop decreases-loop
+write-levels-requires : tie.Need-write_levels-rest-requires invariant-loop-j decreases-loop-j
 write-levels-requires c κs =
     let s = c.before.before.before.before in
     (s.requires.0, omega (arith, s.requires.4, levels-hold s.args.kind s.args.grade))
 
-loop-holds : tie.Need-loop-init invariant-loop decreases-loop
+loop-holds : tie.Need-loop-j-init invariant-loop-j decreases-loop-j
 loop-holds c =
     let n = c.before.before.before.before in
     let s = n.before.before.before in
@@ -151,132 +151,132 @@ loop-holds c =
       omega arith,
       λ words before.
           carried-ext (λ i l. levels-in a.kind a.grade s.requires.0 (grade-low a.grade s.requires.1) a.frame.now s.requires.2 words i
-          (omega (arith, l, n.level-bits.ensures))),
+          (omega (arith, l, n.level_bits-count.ensures))),
     )
 
-mul-s : tie.Need-overflow-mul-s invariant-loop decreases-loop
+mul-s : tie.Need-overflow_mul-s invariant-loop-j decreases-loop-j
 mul-s c = search rules
 
-add-e : tie.Need-overflow-add-e invariant-loop decreases-loop
+add-e : tie.Need-overflow_add-e invariant-loop-j decreases-loop-j
 add-e c = search rules
 
-mul-block-numbers : tie.Need-overflow-mul-block-numbers invariant-loop decreases-loop
+mul-block-numbers : tie.Need-offset_bounds-frame-s invariant-loop-j decreases-loop-j
 mul-block-numbers c = search rules
 
-sub-block-numbers : tie.Need-overflow-sub-block-numbers invariant-loop decreases-loop
+sub-block-numbers : tie.Need-slice_bounds-block_numbers-count invariant-loop-j decreases-loop-j
 sub-block-numbers c = search rules
 
-part-block-numbers-start : tie.Need-slice-bounds-block-numbers-start invariant-loop decreases-loop
+part-block-numbers-start : tie.Need-slice_bounds-block_numbers-start invariant-loop-j decreases-loop-j
 part-block-numbers-start c = search rules
 
-part-block-numbers-end : tie.Need-slice-bounds-block-numbers-end invariant-loop decreases-loop
+part-block-numbers-end : tie.Need-slice_bounds-block_numbers-end invariant-loop-j decreases-loop-j
 part-block-numbers-end c = omega (arith, inside c, whole c)
 
-block-numbers-requires : tie.Need-block-numbers-requires invariant-loop decreases-loop
+block-numbers-requires : tie.Need-block_numbers-numbers-requires invariant-loop-j decreases-loop-j
 block-numbers-requires c κs =
     let d = c.before in
     let e = t d in (
-      omega (arith, (called e).levels.ensures, few-levels (k e) (s e).pre.0),
+      omega (arith, (called e).levels-a.ensures, few-levels (k e) (s e).requires.0),
       low e,
       high e,
       ap length (part-is (j e) (f e)) ∙ part_length (f e) (blocks (k e)) (j e) (whole d) (inside d),
       subst (Within (2 ^ 24)) (sym (part-is (j e) (f e))) (within-part (2 ^ 24) (j e) (f e) (near d)),
     )
 
-packed-requires : tie.Need-packed-requires invariant-loop decreases-loop
+packed-requires : tie.Need-packed-requires invariant-loop-j decreases-loop-j
 packed-requires c κs =
     let d = c.before.before in
     let e = t d in
     let ss : List ℕ = reduced (2 ^ (b e - 1)) (part (j e) (v d)) in
     (low e, high e, λ i. subst (λ (z : ℤ). T (non_neg z)) (sym (ap (λ (x : List ℤ). get_or x i (pos 0)) (numbers c) ∙ ints_at ss i)) tt)
 
-shl-put-bytes : tie.Need-overflow-shl-put-bytes invariant-loop decreases-loop
+shl-put-bytes : tie.Need-overflow_shl-packed invariant-loop-j decreases-loop-j
 shl-put-bytes c = omega arith
 
-put-bytes-requires : tie.Need-put-bytes-requires invariant-loop decreases-loop
+put-bytes-requires : tie.Need-put_bytes-rest-requires invariant-loop-j decreases-loop-j
 put-bytes-requires c κs =
     let d = c.before.before.before.before in
     (omega (arith, high (t d)), omega (arith, room d, long (t d)))
 
-add_at : tie.Need-overflow-add-at invariant-loop decreases-loop
+add_at : tie.Need-overflow_add-at invariant-loop-j decreases-loop-j
 add_at c =
     let d = c.before.before.before.before.before.before.before in
     let e = t d in
-    record { fits = omega (arith, place e, block_room (k e) (b e) (j e) (s e).pre.0 (inside d), few-message-bits (k e) (b e) (s e).pre.0 (high e)) }
+    record { fits = omega (arith, place e, block_room (k e) (b e) (j e) (s e).requires.0 (inside d), few-message-bits (k e) (b e) (s e).requires.0 (high e)) }
 
-add-j : tie.Need-overflow-add-j invariant-loop decreases-loop
+add-j : tie.Need-overflow_add-j invariant-loop-j decreases-loop-j
 add-j c = search rules
 
-loop-less : tie.Need-loop-smaller invariant-loop decreases-loop
+loop-less : tie.Need-loop-j-smaller invariant-loop-j decreases-loop-j
 loop-less c = search rules
 
-loop-again : tie.Need-loop-preserved invariant-loop decreases-loop
+loop-again : tie.Need-loop-j-preserved invariant-loop-j decreases-loop-j
 loop-again c =
     let w = c.before.before in
     let p = w.before.before in
     let d = p.before.before.before in
     let e = t d in (
       omega arith,
-      omega (arith, e.loop.inv.1),
+      omega (arith, e.loop-j.invariant.1),
       λ words before h.
-          carried-more (e.loop.inv.2 words before h) (row-bits (k e) (b e) (s e).pre.0 (low e) (f e) (s e).pre.2 words)
+          carried-more (e.loop-j.invariant.2 words before h) (row-bits (k e) (b e) (s e).requires.0 (low e) (f e) (s e).requires.2 words)
           (8 * b e) p.packed.result (b e) (over e)
-          (block-number (k e) (b e) (s e).pre.0 (low e) (f e) (s e).pre.2 words (j e) (8 * e.loop.at + over e) p.packed.result
+          (block-number (k e) (b e) (s e).requires.0 (low e) (f e) (s e).requires.2 words (j e) (8 * e.loop-j.at + over e) p.packed.result
           (inside d) (place e) (bits p))
-          (omega arith) (omega (arith, high e)) _ w.put-bytes.result w.put-bytes.ensures.0 w.put-bytes.ensures.1,
+          (omega arith) (omega (arith, high e)) _ w.put_bytes-rest.result w.put_bytes-rest.ensures.0 w.put_bytes-rest.ensures.1,
     )
 
 -- every block is written, but for the bits that are carried
-ends : (c : tie.After-loop invariant-loop decreases-loop) → let e = c.before in 8 * e.loop.at + over e ≡ message_bits (k e) (b e)
+ends : (c : tie.After-loop-j invariant-loop-j decreases-loop-j) → let e = c.before in 8 * e.loop-j.at + over e ≡ message_bits (k e) (b e)
 ends c =
     let e = c.before in
-    let n : j e ≡ blocks (k e) = omega (arith, (s e).requires.2, c.loop-test.false, e.loop.invariant.0) in
+    let n : j e ≡ blocks (k e) = omega (arith, (s e).requires.2, c.loop-j-test.false, e.loop-j.invariant.0) in
     place e ∙ ap (λ (n : ℕ). level_bits (k e) + 8 * b e * n) n ∙ blocks_end (k e) (b e) (s e).requires.0 (low e) (f e) (s e).requires.2 (s e).args.words
 
-put-bytes-requires-2 : tie.Need-put-bytes-requires-2 invariant-loop decreases-loop
+put-bytes-requires-2 : tie.Need-put_bytes-requires invariant-loop-j decreases-loop-j
 put-bytes-requires-2 c κs =
     let d = c.before.before in
     let e = d.before in
-    (omega arith, omega (arith, ends d, c.before.if1.true, bytes-hold (k e) (b e), long e))
+    (omega arith, omega (arith, ends d, c.before.if-over-ne0.true, bytes-hold (k e) (b e), long e))
 
 -- the last byte
-last : (c : tie.After-put-bytes2 invariant-loop decreases-loop) → let e = c.before.before.before.before in
-    c.put-bytes2.new.1.1.0 ≡ written_over (e.loop.at + 1) (held_bits (k e) (b e) (f e) (s e).args.words) (s e).args.out.now
+last : (c : tie.After-put_bytes invariant-loop-j decreases-loop-j) → let e = c.before.before.before.before in
+    c.put_bytes.new.out ≡ written_over (e.loop-j.at + 1) (held_bits (k e) (b e) (f e) (s e).args.words) (s e).args.out.now
 last c =
     let d = c.before.before.before in
     let e = d.before in
     carried-last (so_far e) (row-bits (k e) (b e) (s e).requires.0 (low e) (f e) (s e).requires.2 (s e).args.words)
-    (omega (arith, row-long (k e) (b e) (s e).requires.0 (low e) (f e) (s e).requires.2 (s e).args.words, ends d)) (omega arith) _ c.put-bytes2.ensures.0
+    (omega (arith, row-long (k e) (b e) (s e).requires.0 (low e) (f e) (s e).requires.2 (s e).args.words, ends d)) (omega arith) _ c.put_bytes.ensures.0
 
 -- the bytes that hold the bits are all
-whole-message : (e : tie.At-loop invariant-loop decreases-loop) (n : ℕ) → message_bits (k e) (b e) ≤ 8 * n
+whole-message : (e : tie.At-loop-j invariant-loop-j decreases-loop-j) (n : ℕ) → message_bits (k e) (b e) ≤ 8 * n
     → written_over n (held_bits (k e) (b e) (f e) (s e).args.words) (s e).args.out.now ≡ held_message (k e) (b e) (f e) (s e).args.words
 whole-message e n h = all-bytes (k e) (b e) (s e).requires.0 (low e) (f e) (s e).requires.2 (s e).args.words n (s e).args.out.now (s e).requires.4 h
 
-same_length : tie.Need-same-length invariant-loop decreases-loop
+same_length : tie.Need-shape_of-out-then-over-ne0 invariant-loop-j decreases-loop-j
 same_length c = ap length (last c.before.before) ∙ written-length _ _ _
 
-returns : tie.Need-returns invariant-loop decreases-loop
+returns : tie.Need-returns-then-over-ne0 invariant-loop-j decreases-loop-j
 returns c =
     let w = c.before.before in
     let d = w.before.before.before in
-    last w ∙ whole-message d.before (d.before.loop.at + 1) (omega (arith, ends d))
+    last w ∙ whole-message d.before (d.before.loop-j.at + 1) (omega (arith, ends d))
 
-same-length-2 : tie.Need-same-length-2 invariant-loop decreases-loop
+same-length-2 : tie.Need-shape_of-out-else-over-ne0 invariant-loop-j decreases-loop-j
 same-length-2 c = carried-length (so_far c.before.before)
 
-returns-2 : tie.Need-returns-2 invariant-loop decreases-loop
+returns-2 : tie.Need-returns-else-over-ne0 invariant-loop-j decreases-loop-j
 returns-2 c =
     let d = c.before in
     let e = d.before in
-    (so_far e).bytes ∙ whole-message e e.loop.at (omega (arith, ends d, c.if1.false))
+    (so_far e).bytes ∙ whole-message e e.loop-j.at (omega (arith, ends d, c.if-over-ne0.false))
 
-pub write-message-spec : {M : Type 1} → statement M
-write-message-spec =
+pub write_message_spec : {M : Type 1} → statement M
+write_message_spec =
     tie.close
     (tie.spec
-    invariant-loop
-    decreases-loop
+    invariant-loop-j
+    decreases-loop-j
     levels-requires
     level-bits-requires
     write-levels-requires
