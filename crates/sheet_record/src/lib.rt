@@ -1,4 +1,6 @@
 // A record of a sheet, tested.
+#![tactic(auto)]
+
 ghost use Rattle.std.specs.Prelude.{◌≡◌, ◌<◌, length};
 ghost use Rattle.sheet_record.specs.Record.{marked as isMarked, record_refusal};
 
