@@ -1,6 +1,10 @@
 -- What an answer of the system's close says: the file is closed (0), or it is not (below 0). Assumes nothing.
 use Rattle.std.specs.Prelude.{◌≡◌, Bool, true, false, ℤ, pos, negsuc}
-use Rattle.libc.specs.Io.{Status}
+
+-- what a call that succeeds or fails may answer: 0, or -1
+abbrev pub Status : ℤ → Type 0
+Status (pos k) = k ≡ 0
+Status (negsuc k) = k ≡ 0
 
 -- whether the file is closed
 abbrev pub closed : ℤ → Bool

@@ -3,11 +3,15 @@ ghost use Rattle.std.specs.Prelude.{◌≡◌, true, ◌+◌, ◌^◌, ◌<◌, 
 ghost use Rattle.listing.specs.Listing.{listing_of};
 ghost use Rattle.listing.specs.Places.{place_after, listed_to};
 ghost use Rattle.printing.specs.Printing.{one_more, goes_on, nothing, PrintedBy, ListedBy};
-ghost use Rattle.printing.specs.Closing.{closed as isClosed, ClosedBy};
+ghost use Rattle.printing.specs.Closing.{Status, closed as isClosed, ClosedBy};
 
-use libc::STDERR_FILENO;
 use listing::Place;
 use sheet_input::Input;
+use std::fs;
+use std::fs::{File, Files, OpenFile};
+use std::io::{ErrorKind, Read};
+
+const STDERR: i32 = 2;
 
 // What was handed to the writes: how many lines after the beginning, how many bytes in all, the place after the last line, and
 // whether all of it was written.
@@ -96,12 +100,12 @@ pub fn write_listing(sheet: &[u8], to: i32) -> Printed
 
 // What is said on standard error, of the input and of the output.
 fn say_unread() {
-    io::write_all(STDERR_FILENO, b"sheet: the input cannot be read\n");
+    io::write_all(STDERR, b"sheet: the input cannot be read\n");
 }
 
 fn say_unwritten() {
     io::write_all(
-        STDERR_FILENO,
+        STDERR,
         b"sheet: the output cannot be written; the listing is not whole\n",
     );
 }
@@ -120,7 +124,7 @@ fn nothing_printed() -> Printed
 
 // Prints the listing of the sheet that is read from the one file to the other, and says on standard error where it is not whole.
 // Nothing is printed where the sheet could not be read.
-pub fn list(from: i32, to: i32) -> Listed
+pub fn list<R: Read>(from: &mut R, to: i32) -> Listed
     ensures { ListedBy result }
 {
     // Room for the longest sheet, and a byte more, by which a longer one is seen.
@@ -145,11 +149,40 @@ fn closed(answer: i32) -> bool
     0 <= answer
 }
 
-// Closes the file to which a listing was written, and answers whether it was closed. What some file systems could not write, they tell here.
-pub fn close(to: i32) -> bool
+// What a file answers when all that was written to it has to be kept: 0, also where it keeps nothing, as a pipe or a terminal, or where its
+// name opens nothing; and -1 where some of it could not be written.
+fn settle<F: Files>(rt: &F, to: &str) -> i32
+    ensures { Status result }
+{
+    match fs::metadata(rt, to) {
+        Ok(m) => {
+            if !m.is_file() {
+                return 0;
+            }
+        }
+        Err(_) => return 0,
+    }
+    match File::options().append(true).open(rt, to) {
+        Ok(file) => match file.sync_all() {
+            Ok(()) => 0,
+            Err(e) => {
+                if e.kind() == ErrorKind::InvalidInput {
+                    0
+                } else {
+                    -1
+                }
+            }
+        },
+        Err(_) => 0,
+    }
+}
+
+// Settles the file of this name, to which a listing was written, and answers whether it could be. What some file systems could not write,
+// they tell here.
+pub fn close<F: Files>(rt: &F, to: &str) -> bool
     ensures { ClosedBy result }
 {
-    let r = closed(libc::close(to));
+    let r = closed(settle(rt, to));
     if !r {
         say_unwritten();
     }

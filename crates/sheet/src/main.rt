@@ -1,10 +1,10 @@
 // The sheet program: the listing of the sheet on standard input.
-use libc::{STDIN_FILENO, STDOUT_FILENO};
+const STDOUT: i32 = 1;
 
-fn main() {
-    let listed = printing::list(STDIN_FILENO, STDOUT_FILENO);
+fn main(rt: HostRuntime) {
+    let listed = printing::list(&mut rt.stdin(), STDOUT);
     let printed = listed.printed;
     if printed.whole {
-        printing::close(STDOUT_FILENO);
+        printing::close(&rt, "/dev/stdout");
     }
 }

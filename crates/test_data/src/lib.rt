@@ -10,7 +10,10 @@ ghost use Rattle.test_data.specs.File.{ReadOver};
 use account::Account;
 pub use float::{float_in, same_float, samples};
 pub use frame::{coordinates, same_answer, same_coordinates};
-use libc::STDOUT_FILENO;
+use std::fs::File;
+
+// Standard output.
+pub const STDOUT: i32 = 1;
 
 fn wide(b: u8) -> u64
     ensures { (result ≡ b) × (result ≤ 255) }
@@ -82,6 +85,17 @@ pub fn same_account(a: Account, b: Account) -> bool
     same_float(a.sum, b.sum)
 }
 
+// Opens a data file for reading. Where it cannot be opened, its name and the error are said on standard error.
+pub fn open_data(rt: &HostRuntime, path: &str) -> Option<File> {
+    match File::open(rt, path) {
+        Ok(file) => Some(file),
+        Err(error) => {
+            let _ = eprintln!(rt; "{path}: {error}");
+            None
+        }
+    }
+}
+
 // Fills the first n bytes, where there is room for them, and answers whether the file has as many.
 pub fn fill(fd: i32, n: usize, out: &mut [u8]) -> bool
     ensures { ReadOver n out.old result out.new }
@@ -99,5 +113,5 @@ pub fn write(text: &[u8]) -> bool
     if text.len() == 0 {
         return true;
     }
-    io::write_all(STDOUT_FILENO, text)
+    io::write_all(STDOUT, text)
 }

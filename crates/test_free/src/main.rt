@@ -8,8 +8,8 @@ mod record;
 ghost use Rattle.std.specs.Prelude.{◌≡◌};
 ghost use Rattle.test_tally.specs.Tally.{judged, GrownBy};
 
-use libc::STDOUT_FILENO;
-use test_data::write;
+use std::os::fd::AsRawFd;
+use test_data::{STDOUT, open_data, write};
 use test_tally::DIFFERENT;
 
 // The checks, by their places in the tally.
@@ -57,7 +57,7 @@ fn judge(tally: &mut [u64; 16], number: u64, check: usize, passed: bool)
     write(b"different: ");
     write_name(check);
     write(b", record ");
-    io::print_decimal(STDOUT_FILENO, number);
+    io::print_decimal(STDOUT, number);
     write(b"\n");
 }
 
@@ -66,7 +66,7 @@ fn print(tally: &[u64; 16], check: usize) {
     if check < 16 {
         write_name(check);
         write(b" ");
-        io::print_decimal(STDOUT_FILENO, tally[check]);
+        io::print_decimal(STDOUT, tally[check]);
         write(b"\n");
     }
 }
@@ -88,16 +88,12 @@ fn take_all(fd: i32, tally: &mut [u64; 16])
     judge(tally, v, RECORD, false);
 }
 
-fn main() {
+fn main(rt: HostRuntime) {
     let mut tally = test_tally::zeros();
-    let path = b"free.bin";
-    let fd = os::open_read(path);
-    if fd < 0 {
-        os::fail(path);
+    let Some(file) = open_data(&rt, "free.bin") else {
         return;
-    }
-    take_all(fd, &mut tally);
-    libc::close(fd);
+    };
+    take_all(file.as_raw_fd(), &mut tally);
     print(&tally, RECORD);
     print(&tally, SENT);
     print(&tally, COUNTED);

@@ -7,8 +7,8 @@ mod record;
 ghost use Rattle.std.specs.Prelude.{◌≡◌, false};
 ghost use Rattle.test_tally.specs.Tally.{judged, GrownBy};
 
-use libc::STDOUT_FILENO;
-use test_data::write;
+use std::os::fd::AsRawFd;
+use test_data::{STDOUT, open_data, write};
 use test_tally::DIFFERENT;
 
 // The two ways of a reading: the checks of the tally.
@@ -35,7 +35,7 @@ fn judge(tally: &mut [u64; 16], number: u64, way: usize, passed: bool)
     write(b"different: ");
     write_name(way);
     write(b", reading ");
-    io::print_decimal(STDOUT_FILENO, number);
+    io::print_decimal(STDOUT, number);
     write(b"\n");
 }
 
@@ -52,7 +52,7 @@ fn print(tally: &[u64; 16], way: usize) {
     if way < 16 {
         write_name(way);
         write(b" ");
-        io::print_decimal(STDOUT_FILENO, tally[way]);
+        io::print_decimal(STDOUT, tally[way]);
         write(b"\n");
     }
 }
@@ -74,16 +74,12 @@ fn take_all(fd: i32, tally: &mut [u64; 16])
     file_differs(tally);
 }
 
-fn main() {
+fn main(rt: HostRuntime) {
     let mut tally = test_tally::zeros();
-    let path = b"noisy.bin";
-    let fd = os::open_read(path);
-    if fd < 0 {
-        os::fail(path);
+    let Some(file) = open_data(&rt, "noisy.bin") else {
         return;
-    }
-    take_all(fd, &mut tally);
-    libc::close(fd);
+    };
+    take_all(file.as_raw_fd(), &mut tally);
     print(&tally, LIBRARY);
     print(&tally, EXPORTED);
     print(&tally, DIFFERENT);

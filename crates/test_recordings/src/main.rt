@@ -8,8 +8,8 @@ mod record;
 ghost use Rattle.std.specs.Prelude.{◌≡◌, false};
 ghost use Rattle.test_tally.specs.Tally.{judged, GrownBy};
 
-use libc::STDOUT_FILENO;
-use test_data::write;
+use std::os::fd::AsRawFd;
+use test_data::{STDOUT, open_data, write};
 use test_tally::DIFFERENT;
 
 // The three checks of a pair, as the tally has them.
@@ -39,7 +39,7 @@ fn judge(tally: &mut [u64; 16], v: u64, check: usize, passed: bool)
     write(b"different: ");
     write_name(check);
     write(b", pair ");
-    io::print_decimal(STDOUT_FILENO, v);
+    io::print_decimal(STDOUT, v);
     write(b"\n");
 }
 
@@ -56,7 +56,7 @@ fn print(tally: &[u64; 16], check: usize) {
     if check < 16 {
         write_name(check);
         write(b" ");
-        io::print_decimal(STDOUT_FILENO, tally[check]);
+        io::print_decimal(STDOUT, tally[check]);
         write(b"\n");
     }
 }
@@ -78,16 +78,12 @@ fn take_all(fd: i32, tally: &mut [u64; 16])
     file_differs(tally);
 }
 
-fn main() {
+fn main(rt: HostRuntime) {
     let mut tally = test_tally::zeros();
-    let path = b"pairs.bin";
-    let fd = os::open_read(path);
-    if fd < 0 {
-        os::fail(path);
+    let Some(file) = open_data(&rt, "pairs.bin") else {
         return;
-    }
-    take_all(fd, &mut tally);
-    libc::close(fd);
+    };
+    take_all(file.as_raw_fd(), &mut tally);
     print(&tally, SLICE);
     print(&tally, NUMBER);
     print(&tally, EXPORTED);

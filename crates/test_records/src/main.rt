@@ -9,8 +9,8 @@ mod writer;
 ghost use Rattle.std.specs.Prelude.{◌≡◌, false};
 ghost use Rattle.test_tally.specs.Tally.{judged, GrownBy};
 
-use libc::STDOUT_FILENO;
-use test_data::write;
+use std::os::fd::AsRawFd;
+use test_data::{STDOUT, open_data, write};
 use test_tally::DIFFERENT;
 
 // The checks, as the tally has them: two of a record that is written, two of one that is read, and one of a length.
@@ -46,7 +46,7 @@ fn judge(tally: &mut [u64; 16], v: u64, check: usize, passed: bool)
     write(b"different: ");
     write_name(check);
     write(b", case ");
-    io::print_decimal(STDOUT_FILENO, v);
+    io::print_decimal(STDOUT, v);
     write(b"\n");
 }
 
@@ -63,7 +63,7 @@ fn print(tally: &[u64; 16], check: usize) {
     if check < 16 {
         write_name(check);
         write(b" ");
-        io::print_decimal(STDOUT_FILENO, tally[check]);
+        io::print_decimal(STDOUT, tally[check]);
         write(b"\n");
     }
 }
@@ -85,16 +85,12 @@ fn take_all(fd: i32, tally: &mut [u64; 16])
     file_differs(tally);
 }
 
-fn main() {
+fn main(rt: HostRuntime) {
     let mut tally = test_tally::zeros();
-    let path = b"records.bin";
-    let fd = os::open_read(path);
-    if fd < 0 {
-        os::fail(path);
+    let Some(file) = open_data(&rt, "records.bin") else {
         return;
-    }
-    take_all(fd, &mut tally);
-    libc::close(fd);
+    };
+    take_all(file.as_raw_fd(), &mut tally);
     print(&tally, WRITER);
     print(&tally, EXPORTED_WRITER);
     print(&tally, READER);

@@ -3,8 +3,8 @@
 // it lists an empty sheet and two long ones from files of their own, as the sheet program does.
 ghost use Rattle.std.specs.Prelude.{◌≤◌};
 
-use libc::STDOUT_FILENO;
-use test_data::{fill, number, write};
+use std::os::fd::AsRawFd;
+use test_data::{STDOUT, fill, number, open_data, write};
 
 // A proved loop has to end, and nothing says that a file does: a file of more sheets is not read to its end.
 const MOST: u64 = 1000000;
@@ -28,9 +28,9 @@ fn list(fd: i32, v: u64) -> bool {
         return false;
     }
     write(b"sheet ");
-    io::print_decimal(STDOUT_FILENO, v);
+    io::print_decimal(STDOUT, v);
     write(b"\n");
-    let printed = printing::write_listing(&sheet[0..n], STDOUT_FILENO);
+    let printed = printing::write_listing(&sheet[0..n], STDOUT);
     printed.whole
 }
 
@@ -49,29 +49,22 @@ fn list_all(fd: i32) -> u64
 }
 
 // Prints the listing of the sheet in a file.
-fn print(path: &[u8]) {
-    let fd = os::open_read(path);
-    if fd < 0 {
-        os::fail(path);
+fn print(rt: &HostRuntime, path: &str) {
+    let Some(mut file) = open_data(rt, path) else {
         return;
-    }
-    printing::list(fd, STDOUT_FILENO);
-    libc::close(fd);
+    };
+    printing::list(&mut file, STDOUT);
 }
 
-fn main() {
-    print(b"empty.bin");
-    print(b"long.bin");
-    print(b"longer.bin");
-    let path = b"sheets.bin";
-    let fd = os::open_read(path);
-    if fd < 0 {
-        os::fail(path);
+fn main(rt: HostRuntime) {
+    print(&rt, "empty.bin");
+    print(&rt, "long.bin");
+    print(&rt, "longer.bin");
+    let Some(file) = open_data(&rt, "sheets.bin") else {
         return;
-    }
-    let count = list_all(fd);
-    libc::close(fd);
+    };
+    let count = list_all(file.as_raw_fd());
     write(b"sheets ");
-    io::print_decimal(STDOUT_FILENO, count);
+    io::print_decimal(STDOUT, count);
     write(b"\n");
 }

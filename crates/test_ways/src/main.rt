@@ -8,8 +8,8 @@ mod record;
 ghost use Rattle.std.specs.Prelude.{◌≡◌, false};
 ghost use Rattle.test_tally.specs.Tally.{judged, GrownBy};
 
-use libc::STDOUT_FILENO;
-use test_data::write;
+use std::os::fd::AsRawFd;
+use test_data::{STDOUT, open_data, write};
 use test_tally::DIFFERENT;
 
 // The sort of the calls that are refused; a sort is a check of the tally.
@@ -37,7 +37,7 @@ fn judge(tally: &mut [u64; 16], number: u64, sort: usize, equal: bool)
     write(b"different: ");
     write_name(sort);
     write(b", number ");
-    io::print_decimal(STDOUT_FILENO, number);
+    io::print_decimal(STDOUT, number);
     write(b"\n");
 }
 
@@ -54,7 +54,7 @@ fn print(tally: &[u64; 16], sort: usize) {
     if sort < 16 {
         write_name(sort);
         write(b" ");
-        io::print_decimal(STDOUT_FILENO, tally[sort]);
+        io::print_decimal(STDOUT, tally[sort]);
         write(b"\n");
     }
 }
@@ -76,16 +76,12 @@ fn take_all(fd: i32, tally: &mut [u64; 16])
     file_differs(tally);
 }
 
-fn main() {
+fn main(rt: HostRuntime) {
     let mut tally = test_tally::zeros();
-    let path = b"ways.bin";
-    let fd = os::open_read(path);
-    if fd < 0 {
-        os::fail(path);
+    let Some(file) = open_data(&rt, "ways.bin") else {
         return;
-    }
-    take_all(fd, &mut tally);
-    libc::close(fd);
+    };
+    take_all(file.as_raw_fd(), &mut tally);
     print(&tally, 0);
     print(&tally, 1);
     print(&tally, 2);
