@@ -1,4 +1,6 @@
 // The test of the strict reading that free bits add: the filling of a frame's message is the one that sending takes.
+#![tactic(auto)]
+
 ghost use Rattle.std.specs.Prelude.{◌≡◌, true, ◌≤◌, eqb};
 ghost use Rattle.e8.specs.Energy.{Within};
 ghost use Rattle.frames.specs.Kind.{is_kind, is_grade, scale};

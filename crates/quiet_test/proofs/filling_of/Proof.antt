@@ -17,67 +17,67 @@ last s =
     last_byte a.kind a.grade (length a.message.now) s.requires.0 (grade-low a.grade s.requires.1) (grade-high a.grade s.requires.1) s.requires.4.long
 
 -- where the free bits begin in it
-module _ (c : tie.After-message-bits) where
+module _ (c : tie.After-message_bits) where
   abbrev start : tie.Start
   start = c.before.before
 
   abbrev at : ℕ
-  at = c.message-bits.result - start.args.free - 8 * (length start.args.message.now - 1)
+  at = c.message_bits.result - start.args.free - 8 * (length start.args.message.now - 1)
 
   place : 8 * (length start.args.message.now - 1) + at ≡ free_from start.args.kind start.args.grade start.args.free
   unfolding free_from
-  place = omega (arith, (last start).begin, c.message-bits.ensures, start.pre.3)
+  place = omega (arith, (last start).begin, c.message_bits.ensures, start.requires.3)
 
   end : free_from start.args.kind start.args.grade start.args.free + start.args.free ≡ message_bits start.args.kind start.args.grade
   unfolding free_from
-  end = omega (arith, (last start).begin, start.pre.3)
+  end = omega (arith, (last start).begin, start.requires.3)
 
   fits : start.args.free ≤ 8 - at
-  fits = omega (arith, (last start).begin, (last start).some, (last start).end, c.message-bits.ensures, start.pre.3)
+  fits = omega (arith, (last start).begin, (last start).some, (last start).end, c.message_bits.ensures, start.requires.3)
 
   less : at < 8
-  less = omega (arith, fits, start.pre.2)
+  less = omega (arith, fits, start.requires.2)
 
-sub-last : tie.Need-overflow-sub-last
+sub-last : tie.Need-overflow_sub-last
 sub-last c = (last c.before).some
 
-message-bits-requires : tie.Need-message-bits-requires
+message-bits-requires : tie.Need-message_bits-requires
 message-bits-requires c κs = let s = c.before in (s.requires.0, grade-high s.args.grade s.requires.1)
 
-sub_at : tie.Need-overflow-sub-at
-sub_at c = let s = start c in omega (arith, (last s).begin, c.message-bits.ensures, s.pre.3)
+sub_at : tie.Need-overflow_sub-at
+sub_at c = let s = start c in omega (arith, (last s).begin, c.message_bits.ensures, s.requires.3)
 
-mul_at : tie.Need-overflow-mul-at
+mul_at : tie.Need-overflow_mul-at
 mul_at c = omega (arith, (last (start c)).few)
 
-sub-at-2 : tie.Need-overflow-sub-at-2
-sub-at-2 c = let s = start c in omega (arith, (last s).begin, c.message-bits.ensures, s.pre.3)
+sub-at-2 : tie.Need-overflow_sub-at-2
+sub-at-2 c = let s = start c in omega (arith, (last s).begin, c.message_bits.ensures, s.requires.3)
 
-shared-slice-read-b : tie.Need-shared-slice-read-b
+shared-slice-read-b : tie.Need-bounds-message-last
 shared-slice-read-b c = omega (arith, (last (start c.before)).some)
 
-cast-result : tie.Need-overflow-cast-result
+cast-result : tie.Need-overflow_cast-result
 cast-result c = omega (arith, less c.before)
 
-shr-result : tie.Need-overflow-shr-result
+shr-result : tie.Need-overflow_shr-result
 shr-result c = omega (arith, less c.before)
 
-cast-result-2 : tie.Need-overflow-cast-result-2
+cast-result-2 : tie.Need-overflow_cast-result-2
 cast-result-2 c =
     let m = c.before in
     let s = start m in
     let i = length s.args.message.now - 1 in
-    omega (arith, div-le_self (get_or s.args.message.now i 0) (2 ^ at m), s.pre.4.each i)
+    omega (arith, div-le_self (get_or s.args.message.now i 0) (2 ^ at m), s.requires.4.each i)
 
 returns : tie.Need-returns
 returns c =
     let m = c.before in
     let s = start m in
     let g = s.args in
-    last-filling g.kind g.grade g.free (at m) g.message.now s.pre.4.each (last s).some (place m) (less m) s.pre.4 (fits m) (end m)
+    last-filling g.kind g.grade g.free (at m) g.message.now s.requires.4.each (last s).some (place m) (less m) s.requires.4 (fits m) (end m)
 
-pub filling-of-spec : {M : Type 1} → statement M
-filling-of-spec =
+pub filling_of_spec : {M : Type 1} → statement M
+filling_of_spec =
     tie.close
     (tie.spec
     sub-last

@@ -45,13 +45,13 @@ module _ (s : tie.Start) where
 
   few : is_free_count f ≡ true
   unfolding is_free_count
-  few = le-leb f 4 s.pre.3
+  few = le-leb f 4 s.requires.3
 
   long : length frame ≡ 8 * blocks k
-  long = omega (arith, s.pre.4.long, whole-blocks k s.pre.0)
+  long = omega (arith, s.requires.4.long, whole-blocks k s.requires.0)
 
   some : 1 ≤ blocks k
-  some = some_block k s.pre.0
+  some = some_block k s.requires.0
 
   -- the part from 8 before the end is the last block
   last : take (length frame - (length frame - 8)) (drop (length frame - 8) frame) ≡ part (blocks k - 1) frame
@@ -61,44 +61,44 @@ module _ (s : tie.Start) where
       ap₂ (λ (n m : ℕ). take n (drop m frame)) e p
 
   near : Within (2 ^ 7) (part (blocks k - 1) frame)
-  near = within-part (2 ^ 7) (blocks k - 1) frame (within-to (scale k b) (2 ^ 7) frame (scale-128 k b s.pre.0 s.pre.1) s.pre.5)
+  near = within-part (2 ^ 7) (blocks k - 1) frame (within-to (scale k b) (2 ^ 7) frame (scale-128 k b s.requires.0 s.requires.1) s.requires.5)
 
   -- the frame is of the class of its own filling
   class : SameClass k b frame (leader k b (filled k b f own (fixed_message k b f frame)))
-  class = subst (λ (x : List ℕ). SameClass k b frame (leader k b x)) (sym (fixed-filled k b f s.pre.0 s.pre.1 few frame s.pre.4))
-      (leader-class k b s.pre.0 s.pre.1 frame s.pre.4)
+  class = subst (λ (x : List ℕ). SameClass k b frame (leader k b x)) (sym (fixed-filled k b f s.requires.0 s.requires.1 few frame s.requires.4))
+      (leader-class k b s.requires.0 s.requires.1 frame s.requires.4)
 
   taken : quiet_of (levels k) b f (shifted_block true (levels k) b f own (part (blocks k - 1) frame)) ≡ quiet_filling k b f 0 (fixed_message k b f frame)
-  taken = quietest-is k b f s.pre.0 (grade-low b s.pre.1) (grade-high b s.pre.1) s.pre.3 (fixed_message k b f frame)
-      (fixed-message k b f s.pre.0 s.pre.1 few frame s.pre.4) own (filling-below k b f (open_message k b frame)) frame class 0
+  taken = quietest-is k b f s.requires.0 (grade-low b s.requires.1) (grade-high b s.requires.1) s.requires.3 (fixed_message k b f frame)
+      (fixed-message k b f s.requires.0 s.requires.1 few frame s.requires.4) own (filling-below k b f (open_message k b frame)) frame class 0
 
-x-is : (l : tie.After-load) → let s = l.before.before.before in l.load.result ≡ part (blocks (k s) - 1) (frame s)
-x-is l = let s = l.before.before.before in l.load.ensures ∙ last s
+x-is : (l : tie.After-load-x) → let s = l.before.before.before in l.load-x.result ≡ part (blocks (k s) - 1) (frame s)
+x-is l = let s = l.before.before.before in l.load-x.ensures ∙ last s
 
-phi-is : (p : tie.After-filling-of) → p.filling-of.result ≡ own p.before.before.before.before
+phi-is : (p : tie.After-filling_of-phi) → p.filling_of-phi.result ≡ own p.before.before.before.before
 phi-is p =
     let s = p.before.before.before.before in
-    p.filling-of.ensures ∙ ap (filling (k s) (b s) (f s)) s.requires.6
+    p.filling_of-phi.ensures ∙ ap (filling (k s) (b s) (f s)) s.requires.6
 
-sub-s : tie.Need-overflow-sub-s
+sub-s : tie.Need-overflow_sub-s
 sub-s c = omega (arith, long c.before, some c.before)
 
-mul-load : tie.Need-overflow-mul-load
+mul-load : tie.Need-offset_bounds-frame-s
 mul-load c = search rules
 
-sub-load : tie.Need-overflow-sub-load
+sub-load : tie.Need-slice_bounds-load-count
 sub-load c = search rules
 
-part-load-start : tie.Need-slice-bounds-load-start
+part-load-start : tie.Need-slice_bounds-load-start
 part-load-start c = search rules
 
-part-load-end : tie.Need-slice-bounds-load-end
+part-load-end : tie.Need-slice_bounds-load-end
 part-load-end c = search rules
 
-load-requires : tie.Need-load-requires
+load-requires : tie.Need-load-x-requires
 load-requires c κs = let s = c.before.before in simp (length-take, length-drop) (omega (arith, long s, some s))
 
-filling-of-requires : tie.Need-filling-of-requires
+filling-of-requires : tie.Need-filling_of-phi-requires
 filling-of-requires c κs =
     let s = c.before.before.before in
     let p = s.requires in
@@ -107,7 +107,7 @@ filling-of-requires c κs =
 levels-requires : tie.Need-levels-requires
 levels-requires c κs = search rules
 
-is-quietest-requires : tie.Need-is-quietest-requires
+is-quietest-requires : tie.Need-is_quietest-requires
 is-quietest-requires c κs =
     let q = c.before in
     let l = q.before in
@@ -129,13 +129,13 @@ returns c =
     let q = v.before in
     let l = q.before in
     let s = l.before.before.before in
-    c.is-quietest.ensures
-    ∙ ap₂ (λ (a : ℕ) (x : List ℤ). is_quietest a (b s) (f s) q.filling-of.result x) v.levels.ensures (x-is l)
+    c.is_quietest.ensures
+    ∙ ap₂ (λ (a : ℕ) (x : List ℤ). is_quietest a (b s) (f s) q.filling_of-phi.result x) v.levels.ensures (x-is l)
     ∙ ap (λ (φ : ℕ). is_quietest (levels (k s)) (b s) (f s) φ (part (blocks (k s) - 1) (frame s))) (phi-is q)
     ∙ ap (λ (n : ℕ). eqb n (own s)) (taken s)
 
-pub is-taken-spec : {M : Type 1} → statement M
-is-taken-spec =
+pub is_taken_spec : {M : Type 1} → statement M
+is_taken_spec =
     tie.close
     (tie.spec
     sub-s
