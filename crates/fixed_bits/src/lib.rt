@@ -1,4 +1,6 @@
 // The message of a frame as it is read with free bits: the fixed bits, and free bits written as 0.
+#![tactic(auto)]
+
 ghost use Rattle.std.specs.Prelude.{◌≡◌, true, ◌≤◌, length};
 ghost use Rattle.frames.specs.Kind.{is_kind, is_grade, message_bytes};
 ghost use Rattle.frames.specs.Message.{Message};
