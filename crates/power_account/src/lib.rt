@@ -17,6 +17,7 @@ pub struct Account {
     pub largest: u64,
     pub changeover: u32,
 }
+
 #[derive(Drop)]
 // What opening an account answers: the refusal number, 0 for success, and the account.
 #[derive(Clone, Copy)]

@@ -77,7 +77,7 @@ module _ (c : tie.Joined-c-lt0) where
   last-size : nat_abs (to_z w32 c.if-c-lt0.result-bits) ≤ 30
   last-size =
       elim c.if-c-lt0.branch [
-        then-c-lt0 w ↦ subst (λ (n : ℤ). nat_abs n ≤ 30) (sym w.result-is) (omega (arith, index-size s))
+        | then-c-lt0 w ↦ subst (λ (n : ℤ). nat_abs n ≤ 30) (sym w.result-is) (omega (arith, index-size s))
         | else-c-lt0 w ↦ subst (λ (n : ℤ). nat_abs n ≤ 30) (sym w.result-is) (search (less-read, index-size s, rules))
       ]
 
@@ -86,7 +86,7 @@ module _ (c : tie.Joined-c-lt0) where
       let by : (t : Bool) → lt_z (read (z s)) (pos 0) ≡ t → pos (cond t (i s) (15 - i s)) ≡ pos (cond (lt_z (z s) (pos 0)) (i s) (15 - i s)) =
       λ t h. ap (λ b. pos (cond b (i s) (15 - i s))) (sym (rw (number s) at h)) in
       elim c.if-c-lt0.branch [
-        then-c-lt0 w ↦ w.result-is ∙ index s ∙ by true w.if-c-lt0.true
+        | then-c-lt0 w ↦ w.result-is ∙ index s ∙ by true w.if-c-lt0.true
         | else-c-lt0 w ↦ w.result-is ∙ behind s ∙ by false w.if-c-lt0.false
       ]
 

@@ -101,7 +101,7 @@ loop-again c =
     let t = c.before in
     so_far t
     ∙ elim c.if-i-count.branch [
-      then-i-count+else-not-clear_above w ↦
+      | then-i-count+else-not-clear_above w ↦
           whole-at (k t) (words t) (i t) (omega (arith, w.if-i-count.true, (called t).levels-count.ensures))
           (sym (tested (k t) (words t) (i t) w.degree-degree.result w.clear_above.result w.degree-degree.ensures w.clear_above.ensures) ∙ w.if-not-clear_above.false)
       | else-i-count w ↦ past (k t) (words t) (i t) (omega (arith, w.if-i-count.false, (called t).levels-count.ensures))
