@@ -18,7 +18,6 @@ pub struct Account {
     pub changeover: u32,
 }
 
-#[derive(Drop)]
 // What opening an account answers: the refusal number, 0 for success, and the account.
 #[derive(Clone, Copy)]
 pub struct Opened {
