@@ -1,4 +1,6 @@
 // What the exported functions answer, in one signed number, and what they leave in what is lent: by definitions, and that every energy fits the number.
+#![tactic(auto)]
+
 ghost use Rattle.std.specs.Prelude.{◌≡◌, ◌≤◌, ◌^◌};
 ghost use Rattle.answers.specs.Answer.{answer_of};
 
