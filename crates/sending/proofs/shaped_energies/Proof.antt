@@ -16,108 +16,108 @@ use Rattle.e8.proofs.Blockwise.{taken_made}
 use Rattle.sending.proofs.shaped_energies.Statement.{statement}
 use Rattle.sending.proofs.shaped_energies.Tie as tie
 
-abbrev invariant-loop : tie.invariant-loop
-invariant-loop frame n energy₀ largest₀ j₀ energy largest j =
+abbrev invariant-loop-j : tie.invariant-loop-j
+invariant-loop-j frame n energy₀ largest₀ j₀ energy largest j =
     (8 * j ≤ length frame) × (energy ≡ energy-of (take (8 * j) frame)) × (energy ≤ 8388608 * j) × (largest ≡ largest_to j frame)
 
-abbrev decreases-loop : tie.decreases-loop
-decreases-loop frame n energy₀ largest₀ j₀ energy largest j = length frame / 8 - j
+abbrev decreases-loop-j : tie.decreases-loop-j
+decreases-loop-j frame n energy₀ largest₀ j₀ energy largest j = length frame / 8 - j
 
 -- block j, its length and its size
-module _ (a : tie.At-loop invariant-loop decreases-loop) (inside : a.loop.j < length a.before.args.frame.now / 8) where
-  eight : length (part a.loop.j a.before.args.frame.now) ≡ 8
+module _ (a : tie.At-loop-j invariant-loop-j decreases-loop-j) (inside : a.loop-j.j < length a.before.args.frame.now / 8) where
+  eight : length (part a.loop-j.j a.before.args.frame.now) ≡ 8
   eight = simp (length-take, length-drop) (omega (arith, inside))
 
-  near : Within (2 ^ 10) (part a.loop.j a.before.args.frame.now)
-  near = within-part (2 ^ 10) a.loop.j a.before.args.frame.now a.before.pre.2
+  near : Within (2 ^ 10) (part a.loop-j.j a.before.args.frame.now)
+  near = within-part (2 ^ 10) a.loop-j.j a.before.args.frame.now a.before.requires.2
 
-  block-low : energy-of (part a.loop.j a.before.args.frame.now) ≤ 8388608
-  block-low = omega (arith, energy-within (2 ^ 10) (part a.loop.j a.before.args.frame.now) near, ap (λ (m : ℕ). m * (2 ^ 10 * 2 ^ 10)) eight)
+  block-low : energy-of (part a.loop-j.j a.before.args.frame.now) ≤ 8388608
+  block-low = omega (arith, energy-within (2 ^ 10) (part a.loop-j.j a.before.args.frame.now) near, ap (λ (m : ℕ). m * (2 ^ 10 * 2 ^ 10)) eight)
 
-loop-holds : tie.Need-loop-init invariant-loop decreases-loop
+loop-holds : tie.Need-loop-j-init invariant-loop-j decreases-loop-j
 unfolding energy-of largest_to
 loop-holds c = (omega arith, refl, omega arith, refl)
 
-mul-s : tie.Need-overflow-mul-s invariant-loop decreases-loop
+mul-s : tie.Need-overflow_mul-s invariant-loop-j decreases-loop-j
 mul-s c = omega arith
 
-add-e : tie.Need-overflow-add-e invariant-loop decreases-loop
+add-e : tie.Need-overflow_add-e invariant-loop-j decreases-loop-j
 add-e c = omega arith
 
-mul-block-energy : tie.Need-overflow-mul-block-energy invariant-loop decreases-loop
+mul-block-energy : tie.Need-offset_bounds-frame-s invariant-loop-j decreases-loop-j
 mul-block-energy c = omega arith
 
-sub-block-energy : tie.Need-overflow-sub-block-energy invariant-loop decreases-loop
+sub-block-energy : tie.Need-slice_bounds-block_energy-count invariant-loop-j decreases-loop-j
 sub-block-energy c = omega arith
 
-part-block-energy-start : tie.Need-slice-bounds-block-energy-start invariant-loop decreases-loop
+part-block-energy-start : tie.Need-slice_bounds-block_energy-start invariant-loop-j decreases-loop-j
 part-block-energy-start c = search rules
 
-part-block-energy-end : tie.Need-slice-bounds-block-energy-end invariant-loop decreases-loop
+part-block-energy-end : tie.Need-slice_bounds-block_energy-end invariant-loop-j decreases-loop-j
 part-block-energy-end c = omega arith
 
-block-energy-requires : tie.Need-block-energy-requires invariant-loop decreases-loop
+block-energy-requires : tie.Need-block_energy-block-requires invariant-loop-j decreases-loop-j
 block-energy-requires c κs =
     let a = c.before.before in
-    let t = c.before.loop-test.true in
-    let e = part-is a.loop.j a.before.args.frame.now in
+    let t = c.before.loop-j-test.true in
+    let e = part-is a.loop-j.j a.before.args.frame.now in
     (ap length e ∙ eight a t, subst (Within (2 ^ 10)) (sym e) (near a t))
 
-energy-is : (c : tie.After-block-energy invariant-loop decreases-loop) → let a = c.before.before.before in
-    c.block-energy.result ≡ energy-of (part a.loop.j a.before.args.frame.now)
+energy-is : (c : tie.After-block_energy-block invariant-loop-j decreases-loop-j) → let a = c.before.before.before in
+    c.block_energy-block.result ≡ energy-of (part a.loop-j.j a.before.args.frame.now)
 energy-is c =
     let a = c.before.before.before in
-    c.block-energy.ensures ∙ ap energy-of (part-is a.loop.j a.before.args.frame.now)
+    c.block_energy-block.ensures ∙ ap energy-of (part-is a.loop-j.j a.before.args.frame.now)
 
-add-energy : tie.Need-overflow-add-energy invariant-loop decreases-loop
-add-energy c = omega (arith, energy-is c, block-low c.before.before.before c.before.before.loop-test.true)
+add-energy : tie.Need-overflow_add-energy invariant-loop-j decreases-loop-j
+add-energy c = omega (arith, energy-is c, block-low c.before.before.before c.before.before.loop-j-test.true)
 
-larger-requires : tie.Need-larger-requires invariant-loop decreases-loop
+larger-requires : tie.Need-larger-largest-requires invariant-loop-j decreases-loop-j
 larger-requires c κs = search rules
 
-add-j : tie.Need-overflow-add-j invariant-loop decreases-loop
+add-j : tie.Need-overflow_add-j invariant-loop-j decreases-loop-j
 add-j c = omega arith
 
-loop-less : tie.Need-loop-smaller invariant-loop decreases-loop
+loop-less : tie.Need-loop-j-smaller invariant-loop-j decreases-loop-j
 loop-less c = omega arith
 
 -- the larger of what was found so far and block j's energy
-largest-is : (c : tie.After-larger invariant-loop decreases-loop) → let a = c.before.before.before.before in
-    c.larger.result ≡ largest_to (a.loop.j + 1) a.before.args.frame.now
+largest-is : (c : tie.After-larger-largest invariant-loop-j decreases-loop-j) → let a = c.before.before.before.before in
+    c.larger-largest.result ≡ largest_to (a.loop-j.j + 1) a.before.args.frame.now
 largest-is c =
     let a = c.before.before.before.before in
-    c.larger.ensures ∙ ap₂ max a.loop.invariant.3 (energy-is c.before) ∙ sym (largest-more a.loop.j a.before.args.frame.now)
+    c.larger-largest.ensures ∙ ap₂ max a.loop-j.invariant.3 (energy-is c.before) ∙ sym (largest-more a.loop-j.j a.before.args.frame.now)
 
-loop-again : tie.Need-loop-preserved invariant-loop decreases-loop
+loop-again : tie.Need-loop-j-preserved invariant-loop-j decreases-loop-j
 loop-again c =
     let d = c.before in
     let a = d.before.before.before in
     let f = a.before.args.frame.now in
-    let j = a.loop.j in
-    let t = d.before.before.loop-test.true in
+    let j = a.loop-j.j in
+    let t = d.before.before.loop-j-test.true in
     let e : energy-of (take (8 * (j + 1)) f) ≡ energy-of (take (8 * j) f) + energy-of (part j f) =
     ap energy-of ((taken_made (length f / 8) f (omega arith)).more j) ∙ energy-append (take (8 * j) f) (part j f) in (
       omega (arith, t),
-      omega (arith, e, energy-is d, a.loop.invariant.1),
-      omega (arith, energy-is d, block-low a t, a.loop.invariant.2),
+      omega (arith, e, energy-is d, a.loop-j.invariant.1),
+      omega (arith, energy-is d, block-low a t, a.loop-j.invariant.2),
       largest-is c,
     )
 
-returns : tie.Need-returns invariant-loop decreases-loop
+returns : tie.Need-returns invariant-loop-j decreases-loop-j
 returns c =
     let a = c.before in
     let f = a.before.args.frame.now in
-    let j = a.loop.j in
-    let t = c.loop-test.false in
-    let e : j ≡ length f / 8 = omega (arith, t, a.loop.invariant.0) in
-    (a.loop.invariant.1 ∙ ap energy-of (take_all (8 * j) f (omega (arith, t))), a.loop.invariant.3 ∙ ap (λ (n : ℕ). largest_to n f) e)
+    let j = a.loop-j.j in
+    let t = c.loop-j-test.false in
+    let e : j ≡ length f / 8 = omega (arith, t, a.loop-j.invariant.0) in
+    (a.loop-j.invariant.1 ∙ ap energy-of (take_all (8 * j) f (omega (arith, t))), a.loop-j.invariant.3 ∙ ap (λ (n : ℕ). largest_to n f) e)
 
-pub shaped-energies-spec : {M : Type 1} → statement M
-shaped-energies-spec =
+pub shaped_energies_spec : {M : Type 1} → statement M
+shaped_energies_spec =
     tie.close
     (tie.spec
-    invariant-loop
-    decreases-loop
+    invariant-loop-j
+    decreases-loop-j
     loop-holds
     mul-s
     add-e

@@ -9,5 +9,5 @@ refusal-requires c κs = search rules
 returns : tie.Need-returns
 returns c = c.refusal.ensures
 
-pub test-spec : {M : Type 1} → statement M
-test-spec = tie.close (tie.spec refusal-requires returns)
+pub test_spec : {M : Type 1} → statement M
+test_spec = tie.close (tie.spec refusal-requires returns)

@@ -24,20 +24,20 @@ use Rattle.sending.proofs.write_sent.Tie as tie
 abbrev quiet : tie.Start → List ℕ
 quiet s = let g = s.args in filled g.kind g.grade g.free (quiet_filling g.kind g.grade g.free g.number g.message.now) g.message.now
 
-write-leader-requires : tie.Need-write-leader-requires
+write-leader-requires : tie.Need-write_leader-requires
 write-leader-requires c κs = let s = c.before.before in (s.requires.0, s.requires.1, s.requires.2, s.requires.4.message.long, s.requires.5)
 
 levels-requires : tie.Need-levels-requires
 levels-requires c κs = search rules
 
-fill-last-requires : tie.Need-fill-last-requires
+fill-last-requires : tie.Need-fill_last-requires
 fill-last-requires c κs =
     let v = c.before in
     let l = v.before.before in
     let s = l.before.before.before in
     let g = s.args in
     let p = s.requires in
-    let t = subst (λ (f : List ℤ). (8 ≤ length f) × Within (2 ^ 9) f) (sym l.write-leader.ensures) (
+    let t = subst (λ (f : List ℤ). (8 ≤ length f) × Within (2 ^ 9) f) (sym l.write_leader.ensures) (
       omega (arith, leader-length g.kind g.grade g.message.now, whole-blocks g.kind p.0, some_block g.kind p.0),
       leader-near g.kind g.grade p.0 g.message.now p.2,
     ) in (
@@ -51,26 +51,26 @@ fill-last-requires c κs =
     )
 
 -- what is shaped
-filled_is : (c : tie.After-fill-last) → let s = c.before.before.before.before.before.before.before in
-    c.fill-last.new.1.1.1.0 ≡ leader s.args.kind s.args.grade (quiet s)
+filled_is : (c : tie.After-fill_last) → let s = c.before.before.before.before.before.before.before in
+    c.fill_last.new.leader ≡ leader s.args.kind s.args.grade (quiet s)
 filled_is c =
     let v = c.before.before in
     let l = v.before.before in
     let s = l.before.before.before in
     let g = s.args in
     let p = s.requires in
-    c.fill-last.ensures
-    ∙ ap₂ (λ (a : ℕ) (f : List ℤ). quiet_last a g.grade g.free f) v.levels.ensures l.write-leader.ensures
+    c.fill_last.ensures
+    ∙ ap₂ (λ (a : ℕ) (f : List ℤ). quiet_last a g.grade g.free f) v.levels.ensures l.write_leader.ensures
     ∙ quiet-leader g.kind g.grade g.free p.0 p.1 p.2 p.3 g.message.now p.4 g.number
 
-shape-leader-requires : tie.Need-shape-leader-requires
+shape-leader-requires : tie.Need-shape_leader-requires
 shape-leader-requires c κs =
     let d = c.before.before in
     let s = d.before.before.before.before.before.before.before in
     let t = leader-takes s.args.kind s.args.grade (quiet s) _ (filled_is d) s.requires.0 s.requires.2 in
     (s.requires.0, s.requires.1, s.requires.2, t.0, t.1)
 
-same_length : tie.Need-same-length
+same_length : tie.Need-shape_of-frame
 same_length c = search rules
 
 returns : tie.Need-returns
@@ -80,12 +80,12 @@ returns c =
     let d = h.before.before.before in
     let s = d.before.before.before.before.before.before.before in
     let g = s.args in
-    let e = h.shape-leader.ensures in
+    let e = h.shape_leader.ensures in
     let is : _ ≡ quiet_frame g.kind g.grade g.free g.number g.message.now = sent_is g.kind g.grade (quiet s) _ (filled_is d) g.number in
     (e.0 ∙ is, (e.1.0 ∙ ap energy is, e.1.1 ∙ ap largest_block is))
 
-pub write-sent-spec : {M : Type 1} → statement M
-write-sent-spec =
+pub write_sent_spec : {M : Type 1} → statement M
+write_sent_spec =
     tie.close
     (tie.spec
     write-leader-requires
