@@ -1,6 +1,8 @@
 // The search for the word of level 1, where that of level 0 is given. It starts from the nearest word and goes through the changes of its bits as
 // numbers are counted, a place of a higher coordinate counting more; the distance is kept for the coordinates from each place on. Changes that are
 // too far by place p are left, with all others that agree with them from p on.
+#![tactic(auto)]
+
 ghost use Rattle.std.specs.Prelude.{◌≡◌, true, ℕ, ◌+◌, ◌*◌, ◌/◌, ◌^◌, ◌<◌, ◌≤◌, length, get_or};
 ghost use Rattle.reed_muller.specs.Level.{belongs};
 ghost use Rattle.e8.specs.Energy.{Within};

@@ -12,7 +12,7 @@ use Rattle.level_1_search.proofs.is_second.Tie as tie
 transformed-requires : tie.Need-transformed-requires
 transformed-requires c κs = omega (arith, (size c.args.kind c.requires).high)
 
-clear-above-requires : tie.Need-clear-above-requires
+clear-above-requires : tie.Need-clear_above-requires
 clear-above-requires c κs =
     let z = size c.before.args.kind c.before.requires in
     ((z.low, omega (arith, z.high)), omega (arith, z.low))
@@ -20,9 +20,9 @@ clear-above-requires c κs =
 returns : tie.Need-returns
 returns c =
     let a = c.before.before.args in
-    c.Clear-above.ensures
+    c.clear_above.ensures
     ∙ belongs-bits 3 a.kind (bit_of a.word) (bit_of c.before.transformed.result)
     (digit-of c.before.transformed.ensures (λ S h. backwards-small a.kind (bit_of a.word) S))
 
-pub is-second-spec : {M : Type 1} → statement M
-is-second-spec = tie.close (tie.spec transformed-requires clear-above-requires returns)
+pub is_second_spec : {M : Type 1} → statement M
+is_second_spec = tie.close (tie.spec transformed-requires clear-above-requires returns)

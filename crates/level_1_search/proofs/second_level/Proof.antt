@@ -23,7 +23,7 @@ few : (c : tie.Start) → length c.args.samples.now ≤ 32
 few c = omega (arith, c.requires.1, (size c.args.kind c.requires.0).positions)
 
 -- the nearest word and its costs
-module _ (c : tie.After-nearest-word) where
+module _ (c : tie.After-nearest_word-base) where
   abbrev s : tie.Start
   s = c.before.before
 
@@ -34,62 +34,62 @@ module _ (c : tie.After-nearest-word) where
   a = s.args.a
 
   abbrev base : ℕ
-  base = c.nearest-word.result
+  base = c.nearest_word-base.result
 
   abbrev written : List ℕ
-  written = c.nearest-word.new.1.1.0
+  written = c.nearest_word-base.new.costs
 
   are : written ≡ change_costs ts a base
-  are = c.nearest-word.ensures.1 ∙ ap (change_costs ts a) (sym c.nearest-word.ensures.0)
+  are = c.nearest_word-base.ensures.1 ∙ ap (change_costs ts a) (sym c.nearest_word-base.ensures.0)
 
   long : length written ≡ 2 * length ts
   long = ap length are ∙ change-costs-length ts a base
 
   low : base < 2 ^ (2 ^ s.args.kind)
-  low = omega (arith, c.nearest-word.ensures.0, nearest-low ts a, ap (λ (n : ℕ). 2 ^ n) s.pre.1)
+  low = omega (arith, c.nearest_word-base.ensures.0, nearest-low ts a, ap (λ (n : ℕ). 2 ^ n) s.requires.1)
 
   front : (rest : List ℕ) → take (2 * length ts - 0) (written ++ rest) ≡ change_costs ts a base
   front rest = take_at written rest (2 * length ts - 0) (omega (arith, long)) ∙ are
 
 -- the changes found, or that there are none
-module _ (c : tie.After-changes) where
-  abbrev word : tie.After-nearest-word
-  word = c.before.before.before.before
+module _ (c : tie.After-changes-r) where
+  abbrev word : tie.After-nearest_word-base
+  word = c.before.before.before
 
-  is : Changed (s word).args.kind (change_costs (ts word) (a word) (base word)) (base word) (s word).args.limit c.changes.result.found c.changes.result.word c.changes.result.cost
+  is : Changed (s word).args.kind (change_costs (ts word) (a word) (base word)) (base word) (s word).args.limit c.changes-r.result.found c.changes-r.result.word c.changes-r.result.cost
   is =
-      subst (λ (xs : List ℕ). Changed (s word).args.kind xs (base word) (s word).args.limit c.changes.result.found c.changes.result.word c.changes.result.cost)
-      (front word _) c.changes.ensures
+      subst (λ (xs : List ℕ). Changed (s word).args.kind xs (base word) (s word).args.limit c.changes-r.result.found c.changes-r.result.word c.changes-r.result.cost)
+      (front word _) c.changes-r.ensures
 
-mul-e : tie.Need-overflow-mul-e
+mul-e : tie.Need-overflow_mul-e
 mul-e c = search rules
 
-sub-nearest-word : tie.Need-overflow-sub-nearest-word
+sub-nearest-word : tie.Need-slice_bounds-nearest_word-count
 sub-nearest-word c = search rules
 
-part-costs-start : tie.Need-slice-bounds-costs-start
+part-costs-start : tie.Need-slice_bounds-costs-start
 part-costs-start c = search rules
 
-part-costs-end : tie.Need-slice-bounds-costs-end
+part-costs-end : tie.Need-slice_bounds-costs-end
 part-costs-end c = omega (arith, few c)
 
-nearest-word-requires : tie.Need-nearest-word-requires
+nearest-word-requires : tie.Need-nearest_word-base-requires
 nearest-word-requires c κs =
     let f = few c.before in
     (front_length (2 * length c.before.args.samples.now) _ (omega (arith, f)), omega (arith, f), c.before.requires.2)
 
-sub-changes : tie.Need-overflow-sub-changes
+sub-changes : tie.Need-slice_bounds-changes-count
 sub-changes c = search rules
 
-part-changes-start : tie.Need-slice-bounds-changes-start
+part-changes-start : tie.Need-slice_bounds-changes-start
 part-changes-start c = search rules
 
-part-changes-end : tie.Need-slice-bounds-changes-end
-part-changes-end c = let w = c.before.before in front-inside (2 * length (ts w)) (written w) _ (long w)
+part-changes-end : tie.Need-slice_bounds-changes-end
+part-changes-end c = let w = c.before in front-inside (2 * length (ts w)) (written w) _ (long w)
 
-changes-requires : tie.Need-changes-requires
+changes-requires : tie.Need-changes-r-requires
 changes-requires c κs =
-    let w = c.before.before.before in (
+    let w = c.before.before in (
       (s w).requires.0,
       (s w).requires.1,
       ap length (front w _) ∙ change-costs-length (ts w) (a w) (base w),
@@ -98,20 +98,20 @@ changes-requires c κs =
       λ i. subst (λ (xs : List ℕ). get_or xs i 0 ≤ 2 ^ 20) (sym (front w _)) (change-costs-low (ts w) (a w) (base w) i),
     )
 
-returns : tie.Need-returns
+returns : tie.Need-returns-then-r
 returns c =
     let d = c.before.before in
     let w = word d in
-    searched-found (ts w) (a w) (base w) (s w).args.kind (s w).pre.1 (low w) (s w).args.limit (s w).pre.3 _ _ _ (is d) c.before.if1.true
+    searched-found (ts w) (a w) (base w) (s w).args.kind (s w).requires.1 (low w) (s w).args.limit (s w).requires.3 _ _ _ (is d) c.before.if-r.true
 
-returns-2 : tie.Need-returns-2
+returns-2 : tie.Need-returns
 returns-2 c =
     let d = c.before in
     let w = word d in
-    searched-none (ts w) (a w) (base w) (s w).args.kind (s w).pre.1 (low w) (s w).args.limit (s w).pre.3 _ _ _ (is d) c.if1.false
+    searched-none (ts w) (a w) (base w) (s w).args.kind (s w).requires.1 (low w) (s w).args.limit (s w).requires.3 _ _ _ (is d) c.if-r.false
 
-pub second-level-spec : {M : Type 1} → statement M
-second-level-spec =
+pub second_level_spec : {M : Type 1} → statement M
+second_level_spec =
     tie.close
     (tie.spec
     mul-e
