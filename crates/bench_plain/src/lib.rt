@@ -69,13 +69,7 @@ fn write_sent(kind: u8, grade: usize, number: u32, message: &[u8], frame: &mut [
 }
 
 // Sending by the mask test at every position: as `coder_send` where no bit is free, by the same contract.
-pub fn plain_send(
-    kind: u8,
-    grade: u8,
-    number: u32,
-    message: &[u8],
-    frame: &mut [i32],
-) -> i64
+pub fn plain_send(kind: u8, grade: u8, number: u32, message: &[u8], frame: &mut [i32]) -> i64
     ensures answer { result ≡ send_answer kind grade 0 number message.now (length frame.old) }
     ensures frame { frame.new ≡ send_frame kind grade 0 number message.now frame.old }
 {

@@ -32,13 +32,7 @@ pub fn coder_send(
 }
 
 // The open reading, with free bits: the energy, or minus the refusal number.
-pub fn coder_read_open(
-    kind: u8,
-    grade: u8,
-    free: u8,
-    frame: &[i32],
-    message: &mut [u8],
-) -> i64
+pub fn coder_read_open(kind: u8, grade: u8, free: u8, frame: &[i32], message: &mut [u8]) -> i64
     ensures answer { result ≡ open_answer kind grade free frame.now (length message.old) }
     ensures message { message.new ≡ open_bytes kind grade free frame.now message.old }
 {

@@ -103,7 +103,9 @@ pub extern "C" fn coder_send_counted(
     ensures least { (e : ℕ) → result ≡ pos e → LeastOfFillings kind grade free
         (number_for (account_of count.old sum.old largest.old changeover)) message.now frame.new e }
 {
-    frame_coder::coder_send_counted(kind, grade, free, message, frame, count, sum, largest, changeover)
+    frame_coder::coder_send_counted(
+        kind, grade, free, message, frame, count, sum, largest, changeover,
+    )
 }
 
 // Sending a queue with an account that is held in three lent numbers, and of a changeover, which stays: 0, or minus the refusal number. The number of
@@ -131,7 +133,9 @@ pub extern "C" fn coder_send_queue(
         (account_of count.old sum.old largest.old changeover)).sent }
     ensures least { EachLeast kind grade sent.new frames.new }
 {
-    frame_coder::coder_send_queue(kind, grade, messages, frames, count, sum, largest, changeover, sent)
+    frame_coder::coder_send_queue(
+        kind, grade, messages, frames, count, sum, largest, changeover, sent,
+    )
 }
 
 // The near reading of samples: 0, or minus the number. The squared distance goes to `distance`, stored to on success only.

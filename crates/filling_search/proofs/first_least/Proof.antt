@@ -125,11 +125,11 @@ loop-again c =
     let here : d.block_energy-energy.result ≡ e j = energy-is d in (
       omega (arith, d.before.before.loop-j-test.true),
       elim c.if-energy-least.branch [
-        then-energy-least w ↦ w.best-is ∙ less-here e j best so (omega (arith, w.if-energy-least.true, at, here))
+        | then-energy-least w ↦ w.best-is ∙ less-here e j best so (omega (arith, w.if-energy-least.true, at, here))
         | else-energy-least w ↦ w.best-is ∙ no_less e j best so (omega (arith, w.if-energy-least.false, at, here))
       ],
       elim c.if-energy-least.branch [
-        then-energy-least w ↦ w.least-is ∙ here ∙ sym (ap e w.best-is)
+        | then-energy-least w ↦ w.least-is ∙ here ∙ sym (ap e w.best-is)
         | else-energy-least w ↦ w.least-is ∙ at ∙ sym (ap e w.best-is)
       ],
     )

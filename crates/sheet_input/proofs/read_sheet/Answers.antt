@@ -69,7 +69,7 @@ loop-input-preserved g c =
     let a = c.loop-input in (
       omega (arith, same-room g c, a.invariant.0, within g c),
       one-read _ a.input c.after_read-input.result c.read-got.result (ap (λ (n : ℕ). n - a.input.length) a.auto.room) (made g c)
-      (goes_on g c) (moved g c) a.invariant.1,
+          (goes_on g c) (moved g c) a.invariant.1,
     )
 
 pub returns-clause-count : goal.returns-clause-count
