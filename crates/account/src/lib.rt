@@ -1,4 +1,6 @@
 // Sending with an account: the frame, and the account grown by it. The account's count is the frame's number.
+#![tactic(auto)]
+
 ghost use Rattle.std.specs.Prelude.{◌≡◌, length};
 ghost use Rattle.e8.specs.Energy.{energy as energyOf};
 ghost use Rattle.frames.specs.Free.{quiet_frame};

@@ -11,41 +11,41 @@ use borrow.Author.Rules.{rules}
 use Rattle.account.proofs.send_counted.Statement.{statement}
 use Rattle.account.proofs.send_counted.Tie as tie
 
-refusal-requires : tie.Need-refusal-requires
+refusal-requires : tie.Need-refusal-number-requires
 refusal-requires c κs = search rules
 
 refused-requires : tie.Need-refused-requires
 refused-requires c κs = search rules
 
 -- a refusal leaves all as it was
-returns : tie.Need-returns
+returns : tie.Need-returns-then-number-ne0
 returns c =
     let t = c.before in
     let s = t.before.before.before.args in
     let e = c.refused.ensures in
-    let no : c.refused.result.number ≡ 0 → ⊥ = λ z. omega (arith, z, e.0, t.if1.true) in
+    let no : c.refused.result.number ≡ 0 → ⊥ = λ z. omega (arith, z, e.0, t.if-number-ne0.true) in
     let n = refused-leaves c.refused.result.number s.kind s.grade s.free (number_for s.account) s.message.now s.frame.now no in
     let a = account-refused c.refused.result.number s.kind s.grade s.free s.message.now s.account no in
-    (e.0 ∙ t.before.refusal.ensures, (sym n.0, (e.1 ∙ sym n.1, (e.2 ∙ sym a, λ z. absurd (no z)))))
+    (e.0 ∙ t.before.refusal-number.ensures, (sym n.0, (e.1 ∙ sym n.1, (e.2 ∙ sym a, λ z. absurd (no z)))))
 
 -- past the test the number is 0
-accepted : (d : tie.Else1) → let s = d.before.before.before.args in
+accepted : (d : tie.Else-number-ne0) → let s = d.before.before.before.args in
     counted_refusal s.kind s.grade s.free s.message.now (length s.frame.now) s.account ≡ 0
-accepted d = sym d.before.refusal.ensures ∙ omega (arith, d.if1.false)
+accepted d = sym d.before.refusal-number.ensures ∙ omega (arith, d.if-number-ne0.false)
 
-write-counted-requires : tie.Need-write-counted-requires
+write-counted-requires : tie.Need-write_counted-requires
 write-counted-requires c κs = accepted c.before
 
-same_length : tie.Need-same-length
+same_length : tie.Need-shape_of-frame
 same_length c = search rules
 
-returns-2 : tie.Need-returns-2
+returns-2 : tie.Need-returns
 returns-2 c =
     let w = c.before in
     let d = w.before.before in
     let s = d.before.before.before.args in
-    let number = w.write-counted.result.number in
-    let e = w.write-counted.ensures in
+    let number = w.write_counted.result.number in
+    let e = w.write_counted.ensures in
     let z : number ≡ 0 = e.1.0.0 in
     let p = all-passed s.kind s.grade s.free s.message.now (length s.frame.now)
     (passed s.kind s.grade s.free s.message.now (length s.frame.now) s.account (accepted d)) in
@@ -65,8 +65,8 @@ returns-2 c =
       ),
     )
 
-pub send-counted-spec : {M : Type 1} → statement M
-send-counted-spec =
+pub send_counted_spec : {M : Type 1} → statement M
+send_counted_spec =
     tie.close
     (tie.spec
     refusal-requires
