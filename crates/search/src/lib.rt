@@ -1,5 +1,7 @@
 // The search for the near frame: over the words of both levels, with the distance in hand, by what `costs` says that samples cost.
 // Samples are counted in 256ths, squared distances in parts of 1 / 65,536.
+#![tactic(auto)]
+
 mod first;
 
 ghost use Rattle.std.specs.Prelude.{◌≡◌, true, ◌^◌, length};

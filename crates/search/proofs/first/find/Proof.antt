@@ -18,53 +18,53 @@ few : (c : tie.Start) → length c.args.samples.now ≤ 32
 few c = omega (arith, c.requires.1, (size c.args.kind c.requires.0).positions)
 
 -- the costs
-module _ (c : tie.After-parity-costs) where
+module _ (c : tie.After-parity_costs) where
   abbrev ts : List ℤ
   ts = c.before.before.args.samples.now
 
-  are : c.parity-costs.new.1.0 ≡ parity_costs ts
-  are = c.parity-costs.ensures
+  are : c.parity_costs.new.costs ≡ parity_costs ts
+  are = c.parity_costs.ensures
 
-  long : length c.parity-costs.new.1.0 ≡ 2 * length ts
+  long : length c.parity_costs.new.costs ≡ 2 * length ts
   long = ap length are ∙ parity-costs-length ts
 
-mul-e : tie.Need-overflow-mul-e
+mul-e : tie.Need-overflow_mul-e
 mul-e c = search rules
 
-sub-parity-costs : tie.Need-overflow-sub-parity-costs
+sub-parity-costs : tie.Need-slice_bounds-parity_costs-count
 sub-parity-costs c = search rules
 
-part-costs-start : tie.Need-slice-bounds-costs-start
+part-costs-start : tie.Need-slice_bounds-costs-start
 part-costs-start c = search rules
 
-part-costs-end : tie.Need-slice-bounds-costs-end
+part-costs-end : tie.Need-slice_bounds-costs-end
 part-costs-end c = omega (arith, few c)
 
-parity-costs-requires : tie.Need-parity-costs-requires
+parity-costs-requires : tie.Need-parity_costs-requires
 parity-costs-requires c κs =
     let f = few c.before in
     (front_length (2 * length c.before.args.samples.now) _ (omega (arith, f)), omega (arith, f), c.before.requires.2)
 
-limit-of-requires : tie.Need-limit-of-requires
+limit-of-requires : tie.Need-limit_of-requires
 limit-of-requires c κs = search rules
 
-sub-first-level : tie.Need-overflow-sub-first-level
+sub-first-level : tie.Need-slice_bounds-first_level-count
 sub-first-level c = search rules
 
-part-first-level-start : tie.Need-slice-bounds-first-level-start
+part-first-level-start : tie.Need-slice_bounds-first_level-start
 part-first-level-start c = search rules
 
-part-first-level-end : tie.Need-slice-bounds-first-level-end
+part-first-level-end : tie.Need-slice_bounds-first_level-end
 part-first-level-end c =
-    let d = c.before.before.before in
-    front-inside (2 * length (ts d)) d.parity-costs.new.1.0 _ (long d)
+    let d = c.before.before in
+    front-inside (2 * length (ts d)) d.parity_costs.new.costs _ (long d)
 
-first-level-requires : tie.Need-first-level-requires
+first-level-requires : tie.Need-first_level-requires
 first-level-requires c κs =
-    let d = c.before.before.before.before in
+    let d = c.before.before.before in
     let s = d.before.before in
-    let e : length d.parity-costs.new.1.0 ≡ 2 * length (ts d) - 0 = omega (arith, long d) in
-    (s.requires.0, s.requires.1, s.requires.2, c.before.before.limit-of.ensures, take_at d.parity-costs.new.1.0 _ (2 * length (ts d) - 0) e ∙ are d)
+    let e : length d.parity_costs.new.costs ≡ 2 * length (ts d) - 0 = omega (arith, long d) in
+    (s.requires.0, s.requires.1, s.requires.2, c.limit_of.ensures, take_at d.parity_costs.new.costs _ (2 * length (ts d) - 0) e ∙ are d)
 
 returns : tie.Need-returns
 returns c = search rules

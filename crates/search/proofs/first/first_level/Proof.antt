@@ -25,11 +25,11 @@ use Rattle.search.proofs.Tries.{Tried, tried-far, tried-searched, found-pair, al
 use Rattle.search.proofs.first.first_level.Statement.{statement}
 use Rattle.search.proofs.first.first_level.Tie as tie
 
-abbrev invariant-loop : tie.invariant-loop
-invariant-loop kind samples limit costs n count steps word i a d₀ p₀ d p = (p ≤ n) × (d ≡ sum_to p (parity_cost samples a)) × (d < limit)
+abbrev invariant-loop-p : tie.invariant-loop-p
+invariant-loop-p kind samples limit costs n count steps word i a d₀ p₀ d p = (p ≤ n) × (d ≡ sum_to p (parity_cost samples a)) × (d < limit)
 
-abbrev decreases-loop : tie.decreases-loop
-decreases-loop kind samples limit costs n count steps word i a d₀ p₀ d p = n - p
+abbrev decreases-loop-p : tie.decreases-loop-p
+decreases-loop-p kind samples limit costs n count steps word i a d₀ p₀ d p = n - p
 
 abbrev invariant-next : tie.invariant-next
 invariant-next kind samples limit costs n count steps word₀ i₀ word i = (i ≤ count) × ((j : ℕ) → j < i → Tried kind samples j) × (word ≡ first_word kind i)
@@ -52,11 +52,11 @@ unfolding sum_to
 no-sum f = refl
 
 -- a number is tried
-module _ (h : tie.After-next-word invariant-loop decreases-loop invariant-next decreases-next) where
-  abbrev at : tie.At-next invariant-loop decreases-loop invariant-next decreases-next
+module _ (h : tie.After-next_word-word invariant-loop-p decreases-loop-p invariant-next decreases-next) where
+  abbrev at : tie.At-next invariant-loop-p decreases-loop-p invariant-next decreases-next
   at = h.before.before.before
 
-  abbrev s : tie.Start invariant-loop decreases-loop invariant-next decreases-next
+  abbrev s : tie.Start invariant-loop-p decreases-loop-p invariant-next decreases-next
   s = at.before.before.before.before
 
   abbrev k : ℕ
@@ -75,42 +75,42 @@ module _ (h : tie.After-next-word invariant-loop decreases-loop invariant-next d
   more t j l = go (dec_lt j i)
     where
       go : Dec (j < i) → Tried k ts j
-      go (yes m) = at.next.inv.1 j m
+      go (yes m) = at.next.invariant.1 j m
       go (no m) = let e : i ≡ j = omega arith in subst (Tried k ts) e t
 
 -- a sample of it
-module _ (c : tie.After-bit invariant-loop decreases-loop invariant-next decreases-next) where
-  abbrev h : tie.After-next-word invariant-loop decreases-loop invariant-next decreases-next
+module _ (c : tie.After-bit invariant-loop-p decreases-loop-p invariant-next decreases-next) where
+  abbrev h : tie.After-next_word-word invariant-loop-p decreases-loop-p invariant-next decreases-next
   h = c.before.before.before
 
   abbrev p : ℕ
-  p = c.before.before.loop.p
+  p = c.before.before.loop-p.p
 
   abbrev read : ℕ
   read = get_or (s h).args.costs.now (2 * p + c.bit.result) 0
 
   parity : read ≡ parity_cost (ts h) (a h) p
   parity =
-      ap₂ (λ (xs : List ℕ) (n : ℕ). get_or xs (2 * p + n) 0) (s h).pre.4 c.bit.ensures
-      ∙ parity-costs-at (ts h) p (bit_of (a h) p) c.before.loop-test.true (omega arith)
+      ap₂ (λ (xs : List ℕ) (n : ℕ). get_or xs (2 * p + n) 0) (s h).requires.4 c.bit.ensures
+      ∙ parity-costs-at (ts h) p (bit_of (a h) p) c.before.loop-p-test.true (omega arith)
 
-  sum : c.before.before.loop.d + read ≡ sum_to (p + 1) (parity_cost (ts h) (a h))
+  sum : c.before.before.loop-p.d + read ≡ sum_to (p + 1) (parity_cost (ts h) (a h))
   unfolding sum_to
-  sum = rw (add-one p) (omega (arith, c.before.before.loop.invariant.1, parity))
+  sum = rw (add-one p) (omega (arith, c.before.before.loop-p.invariant.1, parity))
 
-dimension-of-requires : tie.Need-dimension-of-requires invariant-loop decreases-loop invariant-next decreases-next
+dimension-of-requires : tie.Need-dimension_of-requires invariant-loop-p decreases-loop-p invariant-next decreases-next
 dimension-of-requires c κs = let z = size c.before.args.kind c.before.requires.0 in ((z.low, omega (arith, z.high)), omega (arith, z.low))
 
-shl-count : tie.Need-overflow-shl-count invariant-loop decreases-loop invariant-next decreases-next
-shl-count c = omega (arith, c.dimension-of.ensures, few c.before.before.args.kind c.before.before.requires.0)
+shl-count : tie.Need-overflow_shl-count invariant-loop-p decreases-loop-p invariant-next decreases-next
+shl-count c = omega (arith, c.dimension_of.ensures, few c.before.before.args.kind c.before.before.requires.0)
 
-next-holds : tie.Need-next-init invariant-loop decreases-loop invariant-next decreases-next
+next-holds : tie.Need-next-init invariant-loop-p decreases-loop-p invariant-next decreases-next
 next-holds c = let s = c.before.before.before in (omega arith, λ j l. absurd (omega arith), word_none s.args.kind s.requires.0)
 
-add-i : tie.Need-overflow-add-i invariant-loop decreases-loop invariant-next decreases-next
+add-i : tie.Need-overflow_add-i invariant-loop-p decreases-loop-p invariant-next decreases-next
 add-i c = search rules
 
-next-word-requires : tie.Need-next-word-requires invariant-loop decreases-loop invariant-next decreases-next
+next-word-requires : tie.Need-next_word-word-requires invariant-loop-p decreases-loop-p invariant-next decreases-next
 next-word-requires c κs =
     let at = c.before.before in
     let d = at.before.before in
@@ -122,100 +122,100 @@ next-word-requires c κs =
       omega (
         arith,
         c.before.next-test.true,
-        count-is k s.requires.0 d.dimension-of.result d.dimension-of.ensures,
+        count-is k s.requires.0 d.dimension_of.result d.dimension_of.ensures,
         ap (λ (n : ℕ). 2 ^ n) (bits_are k s.requires.0),
       ),
       at.next.invariant.2 ∙ ap (first_word k) (omega arith),
     )
 
-loop-holds : tie.Need-loop-init invariant-loop decreases-loop invariant-next decreases-next
+loop-holds : tie.Need-loop-p-init invariant-loop-p decreases-loop-p invariant-next decreases-next
 loop-holds c = (omega arith, no-sum (parity_cost (ts c) (a c)), omega (arith, (s c).requires.3, limit-pos (k c) (s c).requires.0))
 
-mul-d : tie.Need-overflow-mul-d invariant-loop decreases-loop invariant-next decreases-next
+mul-d : tie.Need-overflow_mul-d invariant-loop-p decreases-loop-p invariant-next decreases-next
 mul-d c = search rules
 
-bit-requires : tie.Need-bit-requires invariant-loop decreases-loop invariant-next decreases-next
-bit-requires c κs = let s = s c.before.before in omega (arith, c.loop-test.true, s.pre.1, (size s.args.kind s.pre.0).positions)
+bit-requires : tie.Need-bit-requires invariant-loop-p decreases-loop-p invariant-next decreases-next
+bit-requires c κs = let s = s c.before.before in omega (arith, c.loop-p-test.true, s.requires.1, (size s.args.kind s.requires.0).positions)
 
-cast-d : tie.Need-overflow-cast-d invariant-loop decreases-loop invariant-next decreases-next
+cast-d : tie.Need-overflow_cast-d invariant-loop-p decreases-loop-p invariant-next decreases-next
 cast-d c = search rules
 
-add-d : tie.Need-overflow-add-d invariant-loop decreases-loop invariant-next decreases-next
+add-d : tie.Need-overflow_add-d invariant-loop-p decreases-loop-p invariant-next decreases-next
 add-d c = search rules
 
-mul-d-2 : tie.Need-overflow-mul-d-2 invariant-loop decreases-loop invariant-next decreases-next
+mul-d-2 : tie.Need-offset_bounds-costs-p invariant-loop-p decreases-loop-p invariant-next decreases-next
 mul-d-2 c = search rules
 
-shared-slice-read-d : tie.Need-shared-slice-read-d invariant-loop decreases-loop invariant-next decreases-next
+shared-slice-read-d : tie.Need-bounds-costs-p invariant-loop-p decreases-loop-p invariant-next decreases-next
 shared-slice-read-d c =
     let b = c.before in
     let s = s (h b) in
-    omega (arith, b.before.loop-test.true, b.bit.ensures, ap length s.pre.4, parity-costs-length s.args.samples.now)
+    omega (arith, b.before.loop-p-test.true, b.bit.ensures, ap length s.requires.4, parity-costs-length s.args.samples.now)
 
-add-d-2 : tie.Need-overflow-add-d-2 invariant-loop decreases-loop invariant-next decreases-next
+add-d-2 : tie.Need-overflow_add-d-in-loop-p invariant-loop-p decreases-loop-p invariant-next decreases-next
 add-d-2 c =
     let b = c.before in
     let g = h b in
     let z = get_or (ts g) (p b) (pos 0) -ℤ pos (256 * bit_of (a g) (p b)) in
-    record { fits = omega (arith, b.before.before.loop.invariant.2, (s g).pre.3, limit-low (k g) (s g).pre.0, parity b, gap-small 256 (omega arith) z) }
+    record { fits = omega (arith, b.before.before.loop-p.invariant.2, (s g).requires.3, limit-low (k g) (s g).requires.0, parity b, gap-small 256 (omega arith) z) }
 
-next-less : tie.Need-next-smaller invariant-loop decreases-loop invariant-next decreases-next
+next-less : tie.Need-next-smaller-then-limit-d invariant-loop-p decreases-loop-p invariant-next decreases-next
 next-less c = search rules
 
-next-again : tie.Need-next-preserved invariant-loop decreases-loop invariant-next decreases-next
+next-again : tie.Need-next-preserved-then-limit-d invariant-loop-p decreases-loop-p invariant-next decreases-next
 next-again c =
     let b = c.before.before in
     let g = h b in (
-      omega (arith, g.before.before.next-test.taken),
-      more g (tried-far (k g) (ts g) (i g) (a g) (at g).next.inv.2 (p b + 1)
-          (omega (arith, b.before.loop-test.true, (s g).pre.1)) (omega (arith, sum b, c.if1.true, (s g).pre.3))),
-      g.next_word.ensures,
+      omega (arith, g.before.before.next-test.true),
+      more g (tried-far (k g) (ts g) (i g) (a g) (at g).next.invariant.2 (p b + 1)
+          (omega (arith, b.before.loop-p-test.true, (s g).requires.1)) (omega (arith, sum b, c.if-limit-d.true, (s g).requires.3))),
+      g.next_word-word.ensures,
     )
 
-add-p : tie.Need-overflow-add-p invariant-loop decreases-loop invariant-next decreases-next
+add-p : tie.Need-overflow_add-p invariant-loop-p decreases-loop-p invariant-next decreases-next
 add-p c = search rules
 
-loop-less : tie.Need-loop-smaller invariant-loop decreases-loop invariant-next decreases-next
+loop-less : tie.Need-loop-p-smaller invariant-loop-p decreases-loop-p invariant-next decreases-next
 loop-less c = search rules
 
-loop-again : tie.Need-loop-preserved invariant-loop decreases-loop invariant-next decreases-next
-loop-again c = (omega (arith, c.before.before.before.loop-test.true), sum c.before.before, c.if1.false)
+loop-again : tie.Need-loop-p-preserved invariant-loop-p decreases-loop-p invariant-next decreases-next
+loop-again c = (omega (arith, c.before.before.before.loop-p-test.true), sum c.before.before, c.if-limit-d.false)
 
-second-level-requires : tie.Need-second-level-requires invariant-loop decreases-loop invariant-next decreases-next
+second-level-requires : tie.Need-second_level-r-requires invariant-loop-p decreases-loop-p invariant-next decreases-next
 second-level-requires c κs = let g = c.before.before in ((s g).requires.0, (s g).requires.1, (s g).requires.2, (s g).requires.3)
 
-returns : tie.Need-returns invariant-loop decreases-loop invariant-next decreases-next
+returns : tie.Need-returns-then-r invariant-loop-p decreases-loop-p invariant-next decreases-next
 returns c =
     let d = c.before in
     let g = d.before.before.before in
-    found-pair (k g) (ts g) (i g) (a g) (at g).next.invariant.2 (s g).requires.0 d.second-level.ensures c.if2.true
+    found-pair (k g) (ts g) (i g) (a g) (at g).next.invariant.2 (s g).requires.0 d.second_level-r.ensures c.if-r.true
 
-next-less-2 : tie.Need-next-smaller-2 invariant-loop decreases-loop invariant-next decreases-next
+next-less-2 : tie.Need-next-smaller invariant-loop-p decreases-loop-p invariant-next decreases-next
 next-less-2 c = search rules
 
-next-again-2 : tie.Need-next-preserved-2 invariant-loop decreases-loop invariant-next decreases-next
+next-again-2 : tie.Need-next-preserved invariant-loop-p decreases-loop-p invariant-next decreases-next
 next-again-2 c =
     let d = c.before in
     let g = d.before.before.before in (
       omega (arith, g.before.before.next-test.true),
-      more g (tried-searched (k g) (ts g) (i g) (a g) (at g).next.invariant.2 d.second-level.ensures c.if2.false),
-      g.next_word.ensures,
+      more g (tried-searched (k g) (ts g) (i g) (a g) (at g).next.invariant.2 d.second_level-r.ensures c.if-r.false),
+      g.next_word-word.ensures,
     )
 
-returns-2 : tie.Need-returns-2 invariant-loop decreases-loop invariant-next decreases-next
+returns-2 : tie.Need-returns invariant-loop-p decreases-loop-p invariant-next decreases-next
 returns-2 c =
     let d = c.before.before.before in
     let s = d.before.before in
     all-tried s.args.kind s.args.samples.now s.requires.0 s.requires.1
     (λ j l. c.before.next.invariant.1 j
-    (omega (arith, l, c.next-test.false, count-is s.args.kind s.requires.0 d.dimension-of.result d.dimension-of.ensures)))
+    (omega (arith, l, c.next-test.false, count-is s.args.kind s.requires.0 d.dimension_of.result d.dimension_of.ensures)))
 
-pub first-level-spec : {M : Type 1} → statement M
-first-level-spec =
+pub first_level_spec : {M : Type 1} → statement M
+first_level_spec =
     tie.close
     (tie.spec
-    invariant-loop
-    decreases-loop
+    invariant-loop-p
+    decreases-loop-p
     invariant-next
     decreases-next
     dimension-of-requires

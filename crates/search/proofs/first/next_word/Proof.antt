@@ -40,25 +40,25 @@ module _ (k i : ℕ) (kind : near_kind k ≡ true) (one : 1 ≤ i) (few : i ≤ 
 entry : (c : tie.Start) → count_trailing_zeros 64 c.args.i < 7
 entry c = inside c.args.kind c.args.i c.requires.0 c.requires.2 c.requires.3
 
-cast-step : tie.Need-overflow-cast-step
+cast-step : tie.Need-overflow_cast-step
 cast-step c = record { fits = omega (arith, entry c) }
 
-mul-step : tie.Need-overflow-mul-step
+mul-step : tie.Need-offset_bounds-steps-i
 mul-step c = record { fits = omega (arith, entry c) }
 
-shared-slice-read-step : tie.Need-shared-slice-read-step
+shared-slice-read-step : tie.Need-bounds-steps-i
 shared-slice-read-step c = let s = c.before in omega (arith, entry s, ap length s.requires.1, ap length steps-are)
 
-shl-result : tie.Need-overflow-shl-result
+shl-result : tie.Need-overflow_shl-result
 shl-result c = let s = c.before in omega (arith, (size s.args.kind s.requires.0).high)
 
-shl-result-2 : tie.Need-overflow-shl-result-2
+shl-result-2 : tie.Need-overflow_shl-result-2
 shl-result-2 c =
     let s = c.before in
     let z = size s.args.kind s.requires.0 in
     omega (arith, one_shifted s.args.kind 64 (omega (arith, z.high)), z.positions)
 
-rem-result : tie.Need-nonzero-rem-result
+rem-result : tie.Need-nonzero_rem-result
 rem-result c = let s = c.before in omega (arith, modulus s.args.kind s.requires.0, pow_pos (2 ^ s.args.kind))
 
 returns : tie.Need-returns
@@ -66,5 +66,5 @@ returns c =
     let s = c.before in
     next s.args.kind s.args.i s.requires.0 s.requires.2 s.requires.3 s.args.steps.now s.args.word s.requires.1 s.requires.4
 
-pub next-word-spec : {M : Type 1} → statement M
-next-word-spec = tie.close (tie.spec cast-step mul-step shared-slice-read-step shl-result shl-result-2 rem-result returns)
+pub next_word_spec : {M : Type 1} → statement M
+next_word_spec = tie.close (tie.spec cast-step mul-step shared-slice-read-step shl-result shl-result-2 rem-result returns)
