@@ -1,4 +1,6 @@
 // The writer of records (request E11): sends a message and puts the sent frame's record at a place of a lent buffer.
+#![tactic(auto)]
+
 ghost use Rattle.std.specs.Prelude.{◌≡◌, true, ◌+◌, ◌*◌, ◌%◌, ◌^◌, ◌≤◌, length};
 ghost use Rattle.octets.specs.Place.{put_at};
 ghost use Rattle.frames.specs.Kind.{is_kind};

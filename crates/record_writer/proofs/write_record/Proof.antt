@@ -14,87 +14,87 @@ use Rattle.records.proofs.Tests.{Writable, writable, write-refused, write-passed
 use Rattle.record_writer.proofs.write_record.Statement.{statement}
 use Rattle.record_writer.proofs.write_record.Tie as tie
 
-abbrev start : tie.After-refusal → tie.Start
+abbrev start : tie.After-refusal-no → tie.Start
 start r = r.before.before.before
 
 -- ---- past the tests
 
-can : (d : tie.Else1) → let a = (start d.before).args in Writable a.kind a.grade a.message.now a.place (length a.buffer.now)
+can : (d : tie.Else-no-ne0) → let a = (start d.before).args in Writable a.kind a.grade a.message.now a.place (length a.buffer.now)
 can d =
     let a = (start d.before).args in
-    writable a.kind a.grade a.message.now a.place (length a.buffer.now) (sym d.before.refusal.ensures ∙ d.if1.false)
+    writable a.kind a.grade a.message.now a.place (length a.buffer.now) (sym d.before.refusal-no.ensures ∙ d.if-no-ne0.false)
 
-good : (d : tie.Else1) → let a = (start d.before).args in Sendable a.kind a.grade 0 a.message.now (2 ^ a.kind)
+good : (d : tie.Else-no-ne0) → let a = (start d.before).args in Sendable a.kind a.grade 0 a.message.now (2 ^ a.kind)
 good d =
     let a = (start d.before).args in
     (accepted-exactly a.kind a.grade 0 a.message.now (2 ^ a.kind)
-    (λ j. (d.before.before.before.shared-slice-known.given j).fits)).sendable (can d).sent
+    (λ j. (d.before.before.before.shared_slice_known-1.given j).fits)).sendable (can d).sent
 
-few : (q : tie.After-positions) → q.positions.result ≤ 64
-few q = omega (arith, q.positions.ensures, few-positions (start q.before.before).args.kind (good q.before).kind)
+few : (q : tie.After-positions-n) → q.positions-n.result ≤ 64
+few q = omega (arith, q.positions-n.ensures, few-positions (start q.before.before).args.kind (good q.before).kind)
 
 -- the room for the frame
 room-long : (n : ℕ) → n ≤ 64 → length (take (n - 0) (replicate 64 (pos 0))) ≡ n
 room-long n h = length-take-le (n - 0) (replicate 64 (pos 0)) (omega arith) ∙ omega arith
 
 -- the record ends in the buffer
-ends : (q : tie.After-positions) → let a = (start q.before.before).args in a.place + (8 + 4 * q.positions.result) ≤ length a.buffer.now
-ends q = omega (arith, q.positions.ensures, (can q.before).fits)
+ends : (q : tie.After-positions-n) → let a = (start q.before.before).args in a.place + (8 + 4 * q.positions-n.result) ≤ length a.buffer.now
+ends q = omega (arith, q.positions-n.ensures, (can q.before).fits)
 
-refusal-requires : tie.Need-refusal-requires
+refusal-requires : tie.Need-refusal-no-requires
 refusal-requires c κs = search rules
 
-returns : tie.Need-returns
+returns : tie.Need-returns-then-no-ne0
 returns c =
     let r = c.before in
     let a = (start r).args in
-    write-refused a.kind a.grade a.number a.message.now a.place a.buffer.now r.refusal.result r.refusal.ensures c.if1.true
+    write-refused a.kind a.grade a.number a.message.now a.place a.buffer.now r.refusal-no.result r.refusal-no.ensures c.if-no-ne0.true
 
-positions-requires : tie.Need-positions-requires
+positions-requires : tie.Need-positions-n-requires
 positions-requires c κs = (good c).kind
 
-sub-put-sent : tie.Need-overflow-sub-put-sent
+sub-put-sent : tie.Need-slice_bounds-put_sent-count
 sub-put-sent c = search rules
 
-part-frame-start : tie.Need-slice-bounds-frame-start
+part-frame-start : tie.Need-slice_bounds-frame-start
 part-frame-start c = search rules
 
-part-frame-end : tie.Need-slice-bounds-frame-end
+part-frame-end : tie.Need-slice_bounds-frame-end
 part-frame-end c = omega (arith, few c)
 
-put-sent-requires : tie.Need-put-sent-requires
+put-sent-requires : tie.Need-put_sent-requires
 put-sent-requires c κs =
     let q = c.before.before in
     let a = (start q.before.before).args in
     let g = good q.before in
-    (g.kind, grade-low a.grade g.grade, grade-high a.grade g.grade, g.message, room-long q.positions.result (few q) ∙ q.positions.ensures, (can q.before).fits)
+    (g.kind, grade-low a.grade g.grade, grade-high a.grade g.grade, g.message, room-long q.positions-n.result (few q) ∙ q.positions-n.ensures, (can q.before).fits)
 
-mul-t10 : tie.Need-overflow-mul-t10
+mul-t10 : tie.Need-overflow_mul-result
 mul-t10 c = let q = c.before.before.before.before.before.before in omega (arith, few q)
 
-add-t19 : tie.Need-overflow-add-t19
+add-t19 : tie.Need-overflow_add-result
 add-t19 c = let q = c.before.before.before.before.before.before in omega (arith, few q)
 
-add-t20 : tie.Need-overflow-add-t20
+add-t20 : tie.Need-overflow_add-result-2
 add-t20 c = let q = c.before.before.before.before.before.before in omega (arith, ends q)
 
-same_length : tie.Need-same-length
+same_length : tie.Need-shape_of-buffer
 same_length c = search rules
 
-returns-2 : tie.Need-returns-2
+returns-2 : tie.Need-returns
 returns-2 c =
     let w = c.before.before.before in
     let q = w.before.before.before in
     let d = q.before in
     let r = d.before in
     let a = (start r).args in
-    let t = write-passed a.kind a.grade a.number a.message.now a.place a.buffer.now r.refusal.result r.refusal.ensures d.if1.false in (
-      ap (λ (n : ℕ). record { refusal = r.refusal.result; next = a.place + (8 + 4 * n) }) q.positions.ensures ∙ t.0,
-      w.put-sent.ensures.1 ∙ t.1,
+    let t = write-passed a.kind a.grade a.number a.message.now a.place a.buffer.now r.refusal-no.result r.refusal-no.ensures d.if-no-ne0.false in (
+      ap (λ (n : ℕ). record { refusal = r.refusal-no.result; next = a.place + (8 + 4 * n) }) q.positions-n.ensures ∙ t.0,
+      w.put_sent.ensures.1 ∙ t.1,
     )
 
-pub write-record-spec : {M : Type 1} → statement M
-write-record-spec =
+pub write_record_spec : {M : Type 1} → statement M
+write_record_spec =
     tie.close
     (tie.spec
     refusal-requires
