@@ -1,4 +1,6 @@
 // Sending a queue: messages of one kind and grade, end to end, sent in turn with an account (request E4).
+#![tactic(auto)]
+
 ghost use Rattle.std.specs.Prelude.{◌≡◌, length};
 ghost use Rattle.queue_turns.specs.Queue.{queue_refusal, calls_of, in_turn, frames_in_turn, queue_outcome, queue_frames, EachLeast};
 

@@ -1,4 +1,6 @@
 // The two readings: a frame's message and its energy, or the number of the first test that is not passed.
+#![tactic(auto)]
+
 mod refusal;
 mod strict;
 

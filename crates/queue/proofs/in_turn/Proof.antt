@@ -20,25 +20,25 @@ use Rattle.queue_turns.proofs.Turns.{SoFar, call_at, none_yet, all-answer, all-f
 use Rattle.queue.proofs.in_turn.Statement.{statement}
 use Rattle.queue.proofs.in_turn.Tie as tie
 
-abbrev invariant-loop : tie.invariant-loop
-invariant-loop kind grade messages frames₀ m n count grown₀ i₀ frames grown i = SoFar kind grade messages frames₀ grown₀ i frames grown
+abbrev invariant-loop-i : tie.invariant-loop-i
+invariant-loop-i kind grade messages frames₀ m n count grown₀ i₀ frames grown i = SoFar kind grade messages frames₀ grown₀ i frames grown
 
-abbrev decreases-loop : tie.decreases-loop
-decreases-loop kind grade messages frames₀ m n count grown₀ i₀ frames grown i = messages_in kind grade messages - i
+abbrev decreases-loop-i : tie.decreases-loop-i
+decreases-loop-i kind grade messages frames₀ m n count grown₀ i₀ frames grown i = messages_in kind grade messages - i
 
 -- ---- the places before the loop, from the loop
 
 abbrev At : Type 0
-At = tie.At-loop invariant-loop decreases-loop
+At = tie.At-loop-i invariant-loop-i decreases-loop-i
 
-abbrev at-bytes : At → tie.After-message-bytes invariant-loop decreases-loop
+abbrev at-bytes : At → tie.After-message_bytes-m invariant-loop-i decreases-loop-i
 at-bytes a = a.before.before
 
-abbrev at-start : At → tie.Start invariant-loop decreases-loop
+abbrev at-start : At → tie.Start invariant-loop-i decreases-loop-i
 at-start a = a.before.before.before.before
 
 -- the queue passed the tests
-fit : (s : tie.Start invariant-loop decreases-loop) → let a = s.args in Fits a.kind a.grade (length a.messages.now) (length a.frames.now)
+fit : (s : tie.Start invariant-loop-i decreases-loop-i) → let a = s.args in Fits a.kind a.grade (length a.messages.now) (length a.frames.now)
 fit s = let a = s.args in fits a.kind a.grade (length a.messages.now) (length a.frames.now) s.requires
 
 -- the first i + 1 pieces of q are within the whole
@@ -48,27 +48,27 @@ within {m} {n} {i} {q} {long} e h l = subst (λ (x : ℕ). x * i + x ≤ long) e
 -- ---- what a turn knows: message i is one of the queue, and it and its frame stand within what is lent
 
 record Turn (a : At) : Type 0 where
-  message : (at-bytes a).message-bytes.result ≡ message_bytes (at-start a).args.kind (at-start a).args.grade
-  frame : a.before.positions.result ≡ 2 ^ (at-start a).args.kind
-  inside : a.loop.i < messages_in (at-start a).args.kind (at-start a).args.grade (at-start a).args.messages.now
-  bytes : (at-bytes a).message-bytes.result * a.loop.i + (at-bytes a).message-bytes.result ≤ length (at-start a).args.messages.now
-  coordinates : a.before.positions.result * a.loop.i + a.before.positions.result ≤ length a.loop.frames
+  message : (at-bytes a).message_bytes-m.result ≡ message_bytes (at-start a).args.kind (at-start a).args.grade
+  frame : a.before.positions-n.result ≡ 2 ^ (at-start a).args.kind
+  inside : a.loop-i.i < messages_in (at-start a).args.kind (at-start a).args.grade (at-start a).args.messages.now
+  bytes : (at-bytes a).message_bytes-m.result * a.loop-i.i + (at-bytes a).message_bytes-m.result ≤ length (at-start a).args.messages.now
+  coordinates : a.before.positions-n.result * a.loop-i.i + a.before.positions-n.result ≤ length a.loop-i.frames
 
-turn : (c : tie.In-loop invariant-loop decreases-loop) → Turn c.before
+turn : (c : tie.In-loop-i invariant-loop-i decreases-loop-i) → Turn c.before
 turn c =
     let a = c.before in
     let s = at-start a in
     let f = fit s in
-    let m = (at-bytes a).message-bytes.ensures in
-    let n = a.before.positions.ensures in
+    let m = (at-bytes a).message_bytes-m.ensures in
+    let n = a.before.positions-n.ensures in
     let q = messages_in s.args.kind s.args.grade s.args.messages.now in
-    let e : length s.args.messages.now / (at-bytes a).message-bytes.result ≡ q = ap (λ (x : ℕ). length s.args.messages.now / x) m in
-    let h : a.loop.i < q = omega (arith, e) in record {
+    let e : length s.args.messages.now / (at-bytes a).message_bytes-m.result ≡ q = ap (λ (x : ℕ). length s.args.messages.now / x) m in
+    let h : a.loop-i.i < q = omega (arith, e) in record {
       message = m;
       frame = n;
       inside = h;
       bytes = within (sym m) h f.messages;
-      coordinates = within (sym n) h (a.loop.invariant.long ∙ f.coordinates);
+      coordinates = within (sym n) h (a.loop-i.invariant.long ∙ f.coordinates);
     }
 
 -- ---- the message that a turn is lent, and what sending it answers
@@ -82,117 +82,117 @@ part-long : {X : Type 0} (n i : ℕ) (xs : List X) → n * i + n ≤ length xs �
 part-long n i xs h = simp (length-take, length-drop) (omega arith)
 
 abbrev the_call : At → Call
-the_call a = let s = (at-start a).args in call_at s.kind s.grade s.messages.now a.loop.i
+the_call a = let s = (at-start a).args in call_at s.kind s.grade s.messages.now a.loop-i.i
 
-answer-is : (r : tie.After-refusal invariant-loop decreases-loop) → let a = r.before.before.before in r.refusal.result ≡ answer a.loop.grown (the_call a)
+answer-is : (r : tie.After-refusal-number invariant-loop-i decreases-loop-i) → let a = r.before.before.before in r.refusal-number.result ≡ answer a.loop-i.grown (the_call a)
 answer-is r =
     let a = r.before.before.before in
     let s = (at-start a).args in
     let t = turn r.before.before in
-    r.refusal.ensures
-    ∙ ap₂ (λ (m : List ℕ) (n : ℕ). counted_refusal s.kind s.grade 0 m n a.loop.grown) (part-is a.loop.i s.messages.now t.message) t.frame
+    r.refusal-number.ensures
+    ∙ ap₂ (λ (m : List ℕ) (n : ℕ). counted_refusal s.kind s.grade 0 m n a.loop-i.grown) (part-is a.loop-i.i s.messages.now t.message) t.frame
 
 -- past the test it is accepted
-accepted : (d : tie.Else1 invariant-loop decreases-loop) → d.before.refusal.result ≡ 0
-accepted d = omega (arith, d.if1.false)
+accepted : (d : tie.Else-number-ne0 invariant-loop-i decreases-loop-i) → d.before.refusal-number.result ≡ 0
+accepted d = omega (arith, d.if-number-ne0.false)
 
-message-bytes-requires : tie.Need-message-bytes-requires invariant-loop decreases-loop
+message-bytes-requires : tie.Need-message_bytes-m-requires invariant-loop-i decreases-loop-i
 message-bytes-requires c κs = let f = fit c.before in (f.kind, grade-high _ f.grade)
 
-positions-requires : tie.Need-positions-requires invariant-loop decreases-loop
+positions-requires : tie.Need-positions-n-requires invariant-loop-i decreases-loop-i
 positions-requires c κs = (fit c.before.before).kind
 
-div-count : tie.Need-nonzero-div-count invariant-loop decreases-loop
+div-count : tie.Need-nonzero_div-count invariant-loop-i decreases-loop-i
 div-count c =
     let s = c.before.before.before in
     let f = fit s in
-    omega (arith, c.before.message-bytes.ensures, some_bytes s.args.kind s.args.grade f.kind f.grade)
+    omega (arith, c.before.message_bytes-m.ensures, some_bytes s.args.kind s.args.grade f.kind f.grade)
 
-loop-holds : tie.Need-loop-init invariant-loop decreases-loop
+loop-holds : tie.Need-loop-i-init invariant-loop-i decreases-loop-i
 loop-holds c = let s = c.before.before.before.args in none_yet s.kind s.grade s.messages.now
 
-mul-s : tie.Need-overflow-mul-s invariant-loop decreases-loop
+mul-s : tie.Need-overflow_mul-s invariant-loop-i decreases-loop-i
 mul-s c = record { fits = omega (arith, (turn c).bytes) }
 
-add-e : tie.Need-overflow-add-e invariant-loop decreases-loop
+add-e : tie.Need-overflow_add-e invariant-loop-i decreases-loop-i
 add-e c = record { fits = omega (arith, (turn c).bytes) }
 
-mul-t : tie.Need-overflow-mul-t invariant-loop decreases-loop
+mul-t : tie.Need-overflow_mul-t invariant-loop-i decreases-loop-i
 mul-t c = record { fits = omega (arith, (turn c).coordinates) }
 
-add-u : tie.Need-overflow-add-u invariant-loop decreases-loop
+add-u : tie.Need-overflow_add-u invariant-loop-i decreases-loop-i
 add-u c = record { fits = omega (arith, (turn c).coordinates) }
 
-sub-refusal : tie.Need-overflow-sub-refusal invariant-loop decreases-loop
+sub-refusal : tie.Need-slice_bounds-refusal-count invariant-loop-i decreases-loop-i
 sub-refusal c = omega arith
 
-part-refusal-start : tie.Need-slice-bounds-refusal-start invariant-loop decreases-loop
+part-refusal-start : tie.Need-slice_bounds-refusal-start invariant-loop-i decreases-loop-i
 part-refusal-start c = search rules
 
-part-refusal-end : tie.Need-slice-bounds-refusal-end invariant-loop decreases-loop
+part-refusal-end : tie.Need-slice_bounds-refusal-end invariant-loop-i decreases-loop-i
 part-refusal-end c = omega (arith, (turn c).bytes)
 
-refusal-requires : tie.Need-refusal-requires invariant-loop decreases-loop
+refusal-requires : tie.Need-refusal-number-requires invariant-loop-i decreases-loop-i
 refusal-requires c κs = tt
 
-same_length : tie.Need-same-length invariant-loop decreases-loop
-same_length c = let e = c.before.before.before.before.loop.invariant.long in search (rules, e)
+same_length : tie.Need-shape_of-frames-then-number-ne0 invariant-loop-i decreases-loop-i
+same_length c = let e = c.before.before.before.before.loop-i.invariant.long in search (rules, e)
 
-returns : tie.Need-returns invariant-loop decreases-loop
+returns : tie.Need-returns-then-number-ne0 invariant-loop-i decreases-loop-i
 returns c =
     let r = c.before in
     let l = r.before.before in
     let a = l.before in
     let s = (at-start a).args in
-    let no : answer a.loop.grown (the_call a) ≡ 0 → ⊥ = λ z. omega (arith, c.if1.true, answer-is r ∙ z) in
+    let no : answer a.loop-i.grown (the_call a) ≡ 0 → ⊥ = λ z. omega (arith, c.if-number-ne0.true, answer-is r ∙ z) in
     let h = (turn l).inside in (
-      ap (λ (n : ℕ). record { number = n; sent = a.loop.i; account = a.loop.grown }) (answer-is r)
-          ∙ stop-answer s.kind s.grade s.messages.now a.loop.invariant h no,
-      stop-frames s.kind s.grade s.messages.now a.loop.invariant h no,
+      ap (λ (n : ℕ). record { number = n; sent = a.loop-i.i; account = a.loop-i.grown }) (answer-is r)
+          ∙ stop-answer s.kind s.grade s.messages.now a.loop-i.invariant h no,
+      stop-frames s.kind s.grade s.messages.now a.loop-i.invariant h no,
     )
 
-sub-write-counted : tie.Need-overflow-sub-write-counted invariant-loop decreases-loop
+sub-write-counted : tie.Need-slice_bounds-write_counted-count invariant-loop-i decreases-loop-i
 sub-write-counted c = omega arith
 
-part-write-counted-start : tie.Need-slice-bounds-write-counted-start invariant-loop decreases-loop
+part-write-counted-start : tie.Need-slice_bounds-write_counted-start invariant-loop-i decreases-loop-i
 part-write-counted-start c = search rules
 
-part-write-counted-end : tie.Need-slice-bounds-write-counted-end invariant-loop decreases-loop
+part-write-counted-end : tie.Need-slice_bounds-write_counted-end invariant-loop-i decreases-loop-i
 part-write-counted-end c = omega (arith, (turn c.before.before.before).bytes)
 
-mul-write-counted : tie.Need-overflow-mul-write-counted invariant-loop decreases-loop
+mul-write-counted : tie.Need-offset_bounds-frames-t invariant-loop-i decreases-loop-i
 mul-write-counted c = record { fits = omega (arith, (turn c.before.before.before.before).coordinates) }
 
-sub-write-counted-2 : tie.Need-overflow-sub-write-counted-2 invariant-loop decreases-loop
+sub-write-counted-2 : tie.Need-slice_bounds-write_counted-count-in-loop-i invariant-loop-i decreases-loop-i
 sub-write-counted-2 c = omega arith
 
-part-write-counted-start-2 : tie.Need-slice-bounds-write-counted-start-2 invariant-loop decreases-loop
+part-write-counted-start-2 : tie.Need-slice_bounds-write_counted-start-in-loop-i invariant-loop-i decreases-loop-i
 part-write-counted-start-2 c = search rules
 
-part-write-counted-end-2 : tie.Need-slice-bounds-write-counted-end-2 invariant-loop decreases-loop
+part-write-counted-end-2 : tie.Need-slice_bounds-write_counted-end-in-loop-i invariant-loop-i decreases-loop-i
 part-write-counted-end-2 c = omega (arith, (turn c.before.before.before.before).coordinates)
 
-write-counted-requires : tie.Need-write-counted-requires invariant-loop decreases-loop
+write-counted-requires : tie.Need-write_counted-w-requires invariant-loop-i decreases-loop-i
 write-counted-requires c κs =
     let d = c.before.before in
     let r = d.before in
     let a = r.before.before.before in
     let s = (at-start a).args in
-    let m = (at-bytes a).message-bytes.result in
-    let message = take (m * a.loop.i + m - m * a.loop.i) (drop (m * a.loop.i) s.messages.now) in
-    ap (λ (x : ℕ). counted_refusal s.kind s.grade 0 message x a.loop.grown)
-    (part-long a.before.positions.result a.loop.i a.loop.frames (turn r.before.before).coordinates) ∙ sym r.refusal.ensures ∙ accepted d
+    let m = (at-bytes a).message_bytes-m.result in
+    let message = take (m * a.loop-i.i + m - m * a.loop-i.i) (drop (m * a.loop-i.i) s.messages.now) in
+    ap (λ (x : ℕ). counted_refusal s.kind s.grade 0 message x a.loop-i.grown)
+    (part-long a.before.positions-n.result a.loop-i.i a.loop-i.frames (turn r.before.before).coordinates) ∙ sym r.refusal-number.ensures ∙ accepted d
 
-add-i : tie.Need-overflow-add-i invariant-loop decreases-loop
+add-i : tie.Need-overflow_add-i invariant-loop-i decreases-loop-i
 add-i c =
     let l = c.before.before.before.before.before.before.before.before in
     let s = (at-start l.before).args in
     omega (arith, (turn l).inside, div-le_self (length s.messages.now) (message_bytes s.kind s.grade))
 
-loop-less : tie.Need-loop-smaller invariant-loop decreases-loop
+loop-less : tie.Need-loop-i-smaller invariant-loop-i decreases-loop-i
 loop-less c = omega (arith, (turn c.before.before.before.before.before.before.before.before).inside)
 
-loop-again : tie.Need-loop-preserved invariant-loop decreases-loop
+loop-again : tie.Need-loop-i-preserved invariant-loop-i decreases-loop-i
 loop-again c =
     let w = c.before.before in
     let d = w.before.before.before in
@@ -200,34 +200,34 @@ loop-again c =
     let a = l.before in
     let s = (at-start a).args in
     let t = turn l in
-    let e = w.write-counted.ensures in
-    let sent = ap (quiet_frame s.kind s.grade 0 (number_for a.loop.grown)) (part-is a.loop.i s.messages.now t.message) in
-    let z : answer a.loop.grown (the_call a) ≡ 0 = sym (answer-is d.before) ∙ accepted d in
-    one_further s.kind s.grade s.messages.now a.loop.invariant t.inside z
-    (subst (λ (n : ℕ). n * a.loop.i + n ≤ length a.loop.frames) t.frame t.coordinates) (e.0 ∙ sent) (sym t.frame)
-    (after-sent a.loop.grown (the_call a) (eq-eqb _ _ z) ∙ sym (e.1.1 ∙ ap (grown a.loop.grown) sent))
+    let e = w.write_counted-w.ensures in
+    let sent = ap (quiet_frame s.kind s.grade 0 (number_for a.loop-i.grown)) (part-is a.loop-i.i s.messages.now t.message) in
+    let z : answer a.loop-i.grown (the_call a) ≡ 0 = sym (answer-is d.before) ∙ accepted d in
+    one_further s.kind s.grade s.messages.now a.loop-i.invariant t.inside z
+    (subst (λ (n : ℕ). n * a.loop-i.i + n ≤ length a.loop-i.frames) t.frame t.coordinates) (e.0 ∙ sent) (sym t.frame)
+    (after-sent a.loop-i.grown (the_call a) (eq-eqb _ _ z) ∙ sym (e.1.1 ∙ ap (grown a.loop-i.grown) sent))
 
-same-length-2 : tie.Need-same-length-2 invariant-loop decreases-loop
-same-length-2 c = c.before.loop.invariant.long
+same-length-2 : tie.Need-shape_of-frames invariant-loop-i decreases-loop-i
+same-length-2 c = c.before.loop-i.invariant.long
 
-returns-2 : tie.Need-returns-2 invariant-loop decreases-loop
+returns-2 : tie.Need-returns invariant-loop-i decreases-loop-i
 returns-2 c =
     let a = c.before in
     let s = (at-start a).args in
-    let e : length s.messages.now / (at-bytes a).message-bytes.result ≡ messages_in s.kind s.grade s.messages.now =
-    ap (λ (x : ℕ). length s.messages.now / x) (at-bytes a).message-bytes.ensures in
-    let h : messages_in s.kind s.grade s.messages.now ≤ a.loop.i = omega (arith, e) in
-    let n : length s.messages.now / (at-bytes a).message-bytes.result ≡ a.loop.i = omega (arith, e, a.loop.invariant.inside) in (
-      ap (λ (x : ℕ). record { number = 0; sent = x; account = a.loop.grown }) n ∙ all-answer s.kind s.grade s.messages.now a.loop.invariant h,
-      all-frames s.kind s.grade s.messages.now a.loop.invariant h,
+    let e : length s.messages.now / (at-bytes a).message_bytes-m.result ≡ messages_in s.kind s.grade s.messages.now =
+    ap (λ (x : ℕ). length s.messages.now / x) (at-bytes a).message_bytes-m.ensures in
+    let h : messages_in s.kind s.grade s.messages.now ≤ a.loop-i.i = omega (arith, e) in
+    let n : length s.messages.now / (at-bytes a).message_bytes-m.result ≡ a.loop-i.i = omega (arith, e, a.loop-i.invariant.inside) in (
+      ap (λ (x : ℕ). record { number = 0; sent = x; account = a.loop-i.grown }) n ∙ all-answer s.kind s.grade s.messages.now a.loop-i.invariant h,
+      all-frames s.kind s.grade s.messages.now a.loop-i.invariant h,
     )
 
-pub in-turn-spec : {M : Type 1} → statement M
-in-turn-spec =
+pub in_turn_spec : {M : Type 1} → statement M
+in_turn_spec =
     tie.close
     (tie.spec
-    invariant-loop
-    decreases-loop
+    invariant-loop-i
+    decreases-loop-i
     message-bytes-requires
     positions-requires
     div-count

@@ -14,38 +14,38 @@ use Rattle.reading.proofs.Words.{words-given}
 use Rattle.reading.proofs.read.Statement.{statement}
 use Rattle.reading.proofs.read.Tie as tie
 
-tests-requires : tie.Need-tests-requires
+tests-requires : tie.Need-tests-t-requires
 tests-requires c κs = search rules
 
 -- a refusal leaves all as it was
-returns : tie.Need-returns
+returns : tie.Need-returns-then-refusal-ne0
 returns c =
-    let t = c.before.tests in
+    let t = c.before.tests-t in
     let a = c.before.before.before.args in
     let bytes = bytes-kept t.result.number a.kind a.grade a.free a.frame.now a.message.now in
     let energy = no-energy t.result.number a.frame.now in
     (t.ensures.0, (bytes (λ e. omega (arith, e)), energy (λ e. omega (arith, e))))
 
 -- past the tests a message can be written
-module _ (c : tie.Else1) where
-  abbrev called : tie.After-tests
+module _ (c : tie.Else-refusal-ne0) where
+  abbrev called : tie.After-tests-t
   called = c.before
 
   abbrev start : tie.Start
   start = called.before.before
 
-  none : called.tests.result.number ≡ 0
-  none = omega (arith, c.if1.false)
+  none : called.tests-t.result.number ≡ 0
+  none = omega (arith, c.if-refusal-ne0.false)
 
   taken : let a = start.args in open_refusal a.kind a.grade a.free a.frame.now (length a.message.now) ≡ 0
   taken =
       let a = start.args in
-      as-taken a.kind a.grade a.free a.frame.now (length a.message.now) a.which (sym called.tests.ensures.0 ∙ none)
+      as-taken a.kind a.grade a.free a.frame.now (length a.message.now) a.which (sym called.tests-t.ensures.0 ∙ none)
 
   passed : let a = start.args in Accepted a.kind a.grade a.free a.frame.now (length a.message.now)
   passed = let a = start.args in accepted a.kind a.grade a.free a.frame.now (length a.message.now) taken
 
-energy-by-blocks-requires : tie.Need-energy-by-blocks-requires
+energy-by-blocks-requires : tie.Need-energy_by_blocks-energy-requires
 energy-by-blocks-requires c κs =
     let a = (start c).args in
     let p = passed c in (
@@ -54,11 +54,11 @@ energy-by-blocks-requires c κs =
       within-to largest_read (2 ^ 24) a.frame.now (omega arith) (range-within a.frame.now p.range),
     )
 
-write-fixed-requires : tie.Need-write-fixed-requires
+write-fixed-requires : tie.Need-write_fixed-requires
 write-fixed-requires c κs =
     let d = c.before.before.before in
     let a = (start d).args in
-    let t = (called d).tests in
+    let t = (called d).tests-t in
     let p = passed d in (
       p.kind,
       p.grade,
@@ -69,21 +69,21 @@ write-fixed-requires c κs =
       p.bytes,
     )
 
-same_length : tie.Need-same-length
+same_length : tie.Need-shape_of-message
 same_length c = search rules
 
-returns-2 : tie.Need-returns-2
+returns-2 : tie.Need-returns
 returns-2 c =
     let w = c.before.before in
     let n = w.before.before.before in
     let d = n.before in
     let a = (start d).args in
-    let t = (called d).tests in
+    let t = (called d).tests-t in
     let number = t.result.number in (
       t.ensures.0,
       (
-        w.write-fixed.ensures ∙ message-given number a.kind a.grade a.free a.frame.now a.message.now (none d),
-        n.energy-by-blocks.ensures ∙ energy-given number a.frame.now (none d),
+        w.write_fixed.ensures ∙ message-given number a.kind a.grade a.free a.frame.now a.message.now (none d),
+        n.energy_by_blocks-energy.ensures ∙ energy-given number a.frame.now (none d),
       ),
     )
 

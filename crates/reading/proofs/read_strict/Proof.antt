@@ -8,66 +8,66 @@ use Rattle.reading.proofs.Answers.{many-refused, long-refused}
 use Rattle.reading.proofs.read_strict.Statement.{statement}
 use Rattle.reading.proofs.read_strict.Tie as tie
 
-read-whole-requires : tie.Need-read-whole-requires
+read-whole-requires : tie.Need-read_whole-requires
 read-whole-requires c κs = search rules
 
-same_length : tie.Need-same-length
+same_length : tie.Need-shape_of-message-then-free-eq0
 same_length c = search rules
 
-returns : tie.Need-returns
+returns : tie.Need-returns-then-free-eq0
 returns c =
     let t = c.before.before.before.before in
-    let none : t.before.before.args.free ≡ 0 = omega (arith, t.if1.true) in
+    let none : t.before.before.args.free ≡ 0 = omega (arith, t.if-free-eq0.true) in
     rw none c.before.before.read_whole.ensures
 
 read-requires : tie.Need-read-requires
 read-requires c κs = search rules
 
-same-length-2 : tie.Need-same-length-2
+same-length-2 : tie.Need-shape_of-message-then-free-gt4
 same-length-2 c = search rules
 
-returns-2 : tie.Need-returns-2
+returns-2 : tie.Need-returns-then-free-gt4
 returns-2 c =
     let r = c.before.before in
     let t = r.before.before in
     let a = t.before.before.before.args in
     let e = r.read.ensures in
-    (e.0 ∙ many-refused a.kind a.grade a.free a.number a.frame.now (length a.message.now) (omega (arith, t.if2.true)), e.1)
+    (e.0 ∙ many-refused a.kind a.grade a.free a.number a.frame.now (length a.message.now) (omega (arith, t.if-free-gt4.true)), e.1)
 
-read-requires-2 : tie.Need-read-requires-2
+read-requires-2 : tie.Need-read-requires-then-n-gt46
 read-requires-2 c κs = search rules
 
-same-length-3 : tie.Need-same-length-3
+same-length-3 : tie.Need-shape_of-message-then-n-gt46
 same-length-3 c = search rules
 
-returns-3 : tie.Need-returns-3
+returns-3 : tie.Need-returns-then-n-gt46
 returns-3 c =
     let r = c.before.before in
     let t = r.before.before in
     let a = t.before.before.before.before.args in
-    let e = r.read2.ensures in
-    (e.0 ∙ long-refused a.kind a.grade a.free a.number a.frame.now (length a.message.now) (omega (arith, t.if3.true)), e.1)
+    let e = r.read-then-n-gt46.ensures in
+    (e.0 ∙ long-refused a.kind a.grade a.free a.number a.frame.now (length a.message.now) (omega (arith, t.if-n-gt46.true)), e.1)
 
-sub-read-quiet : tie.Need-overflow-sub-read-quiet
+sub-read-quiet : tie.Need-slice_bounds-read_quiet-count
 sub-read-quiet c = search rules
 
-part-own-start : tie.Need-slice-bounds-own-start
+part-own-start : tie.Need-slice_bounds-own-start
 part-own-start c = search rules
 
-part-own-end : tie.Need-slice-bounds-own-end
+part-own-end : tie.Need-slice_bounds-own-end
 part-own-end c = search rules
 
-read-quiet-requires : tie.Need-read-quiet-requires
+read-quiet-requires : tie.Need-read_quiet-requires
 read-quiet-requires c κs = search rules
 
-same-length-4 : tie.Need-same-length-4
+same-length-4 : tie.Need-shape_of-message
 same-length-4 c = search rules
 
-returns-4 : tie.Need-returns-4
+returns-4 : tie.Need-returns
 returns-4 c = search rules
 
-pub read-strict-spec : {M : Type 1} → statement M
-read-strict-spec =
+pub read_strict_spec : {M : Type 1} → statement M
+read_strict_spec =
     tie.close
     (tie.spec
     read-whole-requires

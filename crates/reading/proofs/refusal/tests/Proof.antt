@@ -41,15 +41,15 @@ module _ (k b f : ℕ) (frame : List ℤ) (n : ℕ) where
       ∙ ap (λ (m : ℕ). unless (same_frame frame (least_frame_by (is_odd m) (half k b) (blocks k) frame)) 9 0) p
 
 -- no refusal by the open reading
-module _ (c : tie.Else1) where
-  abbrev called : tie.After-open-tests
+module _ (c : tie.Else-refusal-ne0) where
+  abbrev called : tie.After-open_tests-t
   called = c.before
 
   abbrev start : tie.Start
   start = called.before
 
   none : let s = start.args in open_refusal s.kind s.grade s.free s.frame.now s.n ≡ 0
-  none = sym called.open-tests.ensures.0 ∙ c.if1.false
+  none = sym called.open_tests-t.ensures.0 ∙ c.if-refusal-ne0.false
 
   a : let s = start.args in Accepted s.kind s.grade s.free s.frame.now s.n
   a = let s = start.args in accepted s.kind s.grade s.free s.frame.now s.n none
@@ -57,62 +57,62 @@ module _ (c : tie.Else1) where
   small : levels start.args.kind + start.args.grade ≤ 7
   small = omega (arith, few-levels start.args.kind a.kind, grade-high start.args.grade a.grade)
 
-tested : (c : tie.After-is-least) → let s = (start c.before.before.before.before).args in
-    c.is-least.result ≡ same_frame s.frame.now (least_frame_by (is_odd (s.which - 1)) (half s.kind s.grade) (blocks s.kind) s.frame.now)
+tested : (c : tie.After-is_least) → let s = (start c.before.before.before.before).args in
+    c.is_least.result ≡ same_frame s.frame.now (least_frame_by (is_odd (s.which - 1)) (half s.kind s.grade) (blocks s.kind) s.frame.now)
 unfolding half
 tested c =
     let d = c.before.before.before.before in
     let s = (start d).args in
-    c.is-least.ensures
+    c.is_least.ensures
     ∙ ap₂ (λ (l n : ℕ). same_frame s.frame.now (least_frame_by c.before.is_odd.result (2 ^ (l + s.grade - 1)) (n / 8) s.frame.now))
     c.before.before.levels.ensures (a d).coordinates
     ∙ ap (λ last. same_frame s.frame.now (least_frame_by last (half s.kind s.grade) (blocks s.kind) s.frame.now)) c.before.is_odd.ensures
 
 -- a strict reading's number
-number : (c : tie.After-is-least) → let s = (start c.before.before.before.before).args in
-    refusal_of s.which s.kind s.grade s.free s.frame.now s.n ≡ unless c.is-least.result 9 0
+number : (c : tie.After-is_least) → let s = (start c.before.before.before.before).args in
+    refusal_of s.which s.kind s.grade s.free s.frame.now s.n ≡ unless c.is_least.result 9 0
 number c =
     let e = c.before.before.before in
     let d = e.before in
     let s = (start d).args in
-    strict-one s.kind s.grade s.free s.frame.now s.n s.which e.if2.false (none d)
+    strict-one s.kind s.grade s.free s.frame.now s.n s.which e.if-which-eq0.false (none d)
     ∙ ap (λ (t : Bool). unless t 9 0) (sym (tested c))
 
-open-tests-requires : tie.Need-open-tests-requires
+open-tests-requires : tie.Need-open_tests-t-requires
 open-tests-requires c κs = search rules
 
-returns : tie.Need-returns
+returns : tie.Need-returns-then-refusal-ne0
 returns c =
-    let o = c.before.open-tests.ensures in
+    let o = c.before.open_tests-t.ensures in
     let s = c.before.before.args in
-    (o.0 ∙ as-open s.kind s.grade s.free s.frame.now s.n s.which (λ z. c.if1.true (o.0 ∙ z)), o.1)
+    (o.0 ∙ as-open s.kind s.grade s.free s.frame.now s.n s.which (λ z. c.if-refusal-ne0.true (o.0 ∙ z)), o.1)
 
-returns-2 : tie.Need-returns-2
+returns-2 : tie.Need-returns-then-which-eq0
 returns-2 c =
     let d = c.before in
     let s = (start d).args in
-    let o = (called d).open-tests.ensures in
-    (o.0 ∙ open-one s.kind s.grade s.free s.frame.now s.n s.which c.if2.true, o.1)
+    let o = (called d).open_tests-t.ensures in
+    (o.0 ∙ open-one s.kind s.grade s.free s.frame.now s.n s.which c.if-which-eq0.true, o.1)
 
 levels-requires : tie.Need-levels-requires
 levels-requires c κs = (a c.before).kind
 
-add-k : tie.Need-overflow-add-k
+add-k : tie.Need-overflow_add-k
 add-k c = record { fits = omega (arith, c.levels.ensures, small c.before.before) }
 
-sub-k : tie.Need-overflow-sub-k
+sub-k : tie.Need-overflow_sub-k
 sub-k c = let d = c.before.before in omega (arith, grade-low (start d).args.grade (a d).grade)
 
-sub-is-odd : tie.Need-overflow-sub-is-odd
-sub-is-odd c = omega (arith, c.before.if2.false)
+sub-is-odd : tie.Need-overflow_sub-which
+sub-is-odd c = omega (arith, c.before.if-which-eq0.false)
 
-is-odd-requires : tie.Need-is-odd-requires
+is-odd-requires : tie.Need-is_odd-requires
 is-odd-requires c κs = search rules
 
-cast-is-least : tie.Need-overflow-cast-is-least
+cast-is-least : tie.Need-overflow_cast-k-2
 cast-is-least c = record { fits = omega (arith, c.before.levels.ensures, small c.before.before.before) }
 
-is-least-requires : tie.Need-is-least-requires
+is-least-requires : tie.Need-is_least-requires
 is-least-requires c κs =
     let d = c.before.before.before in
     let k = (start d).args.kind in
@@ -123,26 +123,26 @@ is-least-requires c κs =
       (a d).coordinates,
     )
 
-returns-3 : tie.Need-returns-3
+returns-3 : tie.Need-returns-then-is_least
 returns-3 c =
     let d = c.before.before.before.before.before in
-    let o = (called d).open-tests.ensures in
-    (o.0 ∙ none d ∙ sym (number c.before ∙ ap (λ (t : Bool). unless t 9 0) c.if3.true), o.1)
+    let o = (called d).open_tests-t.ensures in
+    (o.0 ∙ none d ∙ sym (number c.before ∙ ap (λ (t : Bool). unless t 9 0) c.if-is_least.true), o.1)
 
 refused-requires : tie.Need-refused-requires
 refused-requires c κs = search rules
 
-returns-4 : tie.Need-returns-4
+returns-4 : tie.Need-returns-else-is_least
 returns-4 c =
     let t = c.before in
     let s = (start t.before.before.before.before.before).args in
     let e = c.refused.ensures in (
-      e.0 ∙ sym (number t.before ∙ ap (λ (t : Bool). unless t 9 0) t.if3.false),
+      e.0 ∙ sym (number t.before ∙ ap (λ (t : Bool). unless t 9 0) t.if-is_least.false),
       e.1 ∙ words-none c.refused.result.number s.kind s.frame.now (λ z. omega (arith, e.0, z)),
     )
 
-pub tests-spec : {M : Type 1} → statement M
-tests-spec =
+pub tests_spec : {M : Type 1} → statement M
+tests_spec =
     tie.close
     (tie.spec
     open-tests-requires

@@ -24,7 +24,7 @@ use Rattle.reading.proofs.strict.read_quiet.Statement.{statement}
 use Rattle.reading.proofs.strict.read_quiet.Tie as tie
 
 -- what is read into `own`
-module _ (c : tie.After-read-whole) where
+module _ (c : tie.After-read_whole-r) where
   abbrev s : tie.Start
   s = c.before.before.before.before
 
@@ -47,25 +47,25 @@ module _ (c : tie.After-read-whole) where
   n = length s.args.message.now
 
   abbrev own : List ℕ
-  own = c.read_whole.new.1.1.1.1.0
+  own = c.read_whole-r.new.message
 
   few : is_free_count f ≡ true
   unfolding is_free_count
-  few = le-leb f 4 s.pre.1
+  few = le-leb f 4 s.requires.1
 
-  number_is : c.read_whole.result.number ≡ strict_refusal k b 0 number frame n
-  number_is = c.read_whole.ensures.0 ∙ ap (strict_refusal k b 0 number frame) s.pre.2
+  number_is : c.read_whole-r.result.number ≡ strict_refusal k b 0 number frame n
+  number_is = c.read_whole-r.ensures.0 ∙ ap (strict_refusal k b 0 number frame) s.requires.2
 
   own_is : own ≡ message_after (strict_refusal k b 0 number frame n) k b 0 frame s.args.own.now
-  own_is = c.read_whole.ensures.1.0 ∙ ap (λ (m : ℕ). message_after m k b 0 frame s.args.own.now) number_is
+  own_is = c.read_whole-r.ensures.1.0 ∙ ap (λ (m : ℕ). message_after m k b 0 frame s.args.own.now) number_is
 
 -- no refusal before the filling is compared
-module _ (c : tie.Else1) where
-  abbrev r : tie.After-read-whole
+module _ (c : tie.Else-refusal-ne0) where
+  abbrev r : tie.After-read_whole-r
   r = c.before.before.before
 
   none : strict_refusal (k r) (b r) 0 (number r) (frame r) (n r) ≡ 0
-  none = sym (number_is r) ∙ c.if1.false
+  none = sym (number_is r) ∙ c.if-refusal-ne0.false
 
   opened : open_refusal (k r) (b r) 0 (frame r) (n r) ≡ 0
   opened = (strict-passed (k r) (b r) 0 (number r) (frame r) (n r) none).0
@@ -85,43 +85,43 @@ module _ (c : tie.Else1) where
       (sent-frame-within (k r) (b r) 0 (number r) a.kind a.grade _)
 
 -- the filling decides
-decided : (c : tie.After-is-taken) → let r = r c.before.before in
-    strict_refusal (k r) (b r) (f r) (number r) (frame r) (n r) ≡ unless c.is-taken.result 9 0
+decided : (c : tie.After-is_taken) → let r = r c.before.before in
+    strict_refusal (k r) (b r) (f r) (number r) (frame r) (n r) ≡ unless c.is_taken.result 9 0
 decided c =
     let d = c.before.before in
     let r = r d in
-    whole-taken (k r) (b r) (f r) (number r) (frame r) (n r) (few r) (none d) ∙ ap (λ (t : Bool). unless t 9 0) (sym c.is-taken.ensures)
+    whole-taken (k r) (b r) (f r) (number r) (frame r) (n r) (few r) (none d) ∙ ap (λ (t : Bool). unless t 9 0) (sym c.is_taken.ensures)
 
-read-whole-requires : tie.Need-read-whole-requires
+read-whole-requires : tie.Need-read_whole-r-requires
 read-whole-requires c κs = search rules
 
-same_length : tie.Need-same-length
+same_length : tie.Need-shape_of-own-then-refusal-ne0
 same_length c = search rules
 
-returns : tie.Need-returns
+returns : tie.Need-returns-then-refusal-ne0
 returns c =
     let r = c.before.before.before in (
-      number_is r ∙ whole-refused (k r) (b r) (f r) (number r) (frame r) (n r) (few r) (λ z. c.if1.true (number_is r ∙ z)),
+      number_is r ∙ whole-refused (k r) (b r) (f r) (number r) (frame r) (n r) (few r) (λ z. c.if-refusal-ne0.true (number_is r ∙ z)),
       (
-        bytes-kept r.read_whole.result.number (k r) (b r) (f r) (frame r) (s r).args.message.now c.if1.true,
-        (no-energy r.read_whole.result.number (frame r) c.if1.true, own_is r),
+        bytes-kept r.read_whole-r.result.number (k r) (b r) (f r) (frame r) (s r).args.message.now c.if-refusal-ne0.true,
+        (no-energy r.read_whole-r.result.number (frame r) c.if-refusal-ne0.true, own_is r),
       ),
     )
 
-is-taken-requires : tie.Need-is-taken-requires
+is-taken-requires : tie.Need-is_taken-requires
 is-taken-requires c κs =
     let d = c.before in
-    let p = (s (r d)).pre in
+    let p = (s (r d)).requires in
     ((a d).kind, (a d).grade, p.0, p.1, set d, small d, whole_is d)
 
-same-length-2 : tie.Need-same-length-2
+same-length-2 : tie.Need-shape_of-own-then-not-is_taken
 same-length-2 c = search rules
 
-returns-2 : tie.Need-returns-2
+returns-2 : tie.Need-returns-then-not-is_taken
 returns-2 c =
     let q = c.before in
     let r = r q.before.before in (
-      sym (decided q ∙ ap (λ (t : Bool). unless t 9 0) (not-true q.is-taken.result c.if2.true)),
+      sym (decided q ∙ ap (λ (t : Bool). unless t 9 0) (not-true q.is_taken.result c.if-not-is_taken.true)),
       (
         bytes-kept 9 (k r) (b r) (f r) (frame r) (s r).args.message.now (λ e. omega (arith, e)),
         (no-energy 9 (frame r) (λ e. omega (arith, e)), own_is r),
@@ -131,13 +131,13 @@ returns-2 c =
 read-requires : tie.Need-read-requires
 read-requires c κs = search rules
 
-same-length-3 : tie.Need-same-length-3
+same-length-3 : tie.Need-shape_of-own
 same-length-3 c = search rules
 
-same-length-4 : tie.Need-same-length-4
+same-length-4 : tie.Need-shape_of-message
 same-length-4 c = search rules
 
-returns-3 : tie.Need-returns-3
+returns-3 : tie.Need-returns
 returns-3 c =
     let p = c.before.before in
     let w = p.before.before in
@@ -146,12 +146,12 @@ returns-3 c =
     let r = r d in
     let e = p.read.ensures in (
       e.0 ∙ few-open (k r) (b r) (f r) (frame r) (n r) (few r) ∙ opened d
-          ∙ sym (decided q ∙ ap (λ (t : Bool). unless t 9 0) (not-false q.is-taken.result w.if2.false)),
+          ∙ sym (decided q ∙ ap (λ (t : Bool). unless t 9 0) (not-false q.is_taken.result w.if-not-is_taken.false)),
       (e.1.0, (e.1.1, own_is r)),
     )
 
-pub read-quiet-spec : {M : Type 1} → statement M
-read-quiet-spec =
+pub read_quiet_spec : {M : Type 1} → statement M
+read_quiet_spec =
     tie.close
     (tie.spec
     read-whole-requires

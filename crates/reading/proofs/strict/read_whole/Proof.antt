@@ -36,16 +36,16 @@ module _ (k b number : ℕ) (frame : List ℤ) (n : ℕ) where
   by-remainder : refusal_of (1 + number % 2) k b 0 frame n ≡ strict_refusal k b 0 number frame n
   by-remainder = let e : 1 + number % 2 ≡ suc (number % 2) = omega arith in ap (λ (which : ℕ). refusal_of which k b 0 frame n) e ∙ same-reading
 
-cast-read : tie.Need-overflow-cast-read
+cast-read : tie.Need-overflow_cast-number
 cast-read c = omega arith
 
-add_read : tie.Need-overflow-add-read
+add_read : tie.Need-overflow_add-number
 add_read c = omega arith
 
 read-requires : tie.Need-read-requires
 read-requires c κs = search rules
 
-same_length : tie.Need-same-length
+same_length : tie.Need-shape_of-message
 same_length c = search rules
 
 returns : tie.Need-returns
@@ -55,5 +55,5 @@ returns c =
     let e = r.read.ensures in
     (e.0 ∙ by-remainder a.kind a.grade a.number a.frame.now (length a.message.now), e.1)
 
-pub read-whole-spec : {M : Type 1} → statement M
-read-whole-spec = tie.close (tie.spec cast-read add_read read-requires same_length returns)
+pub read_whole_spec : {M : Type 1} → statement M
+read_whole_spec = tie.close (tie.spec cast-read add_read read-requires same_length returns)
