@@ -7,7 +7,7 @@ use native.Mathlib.Omega.{arith}
 use lib.IntN.{ℤ}
 use lib.ListN.{length}
 use borrow.Author.Rules.{rules}
-use borrow.Author.Tests.{not-true, not-false, le-leb}
+use borrow.Author.Tests.{le-leb}
 use Rattle.frames.specs.Kind.{is_kind, is_grade, degrees, message_bytes}
 use Rattle.frames.specs.Free.{is_free_count}
 use Rattle.frames.specs.Reading.{in_range, open_refusal}
@@ -85,7 +85,7 @@ module _ (c : tie.Else-not-in_range) where
   at1 = e1 (e2 (e3 e4))
 
   p6 : in_range (frame at1) ≡ true
-  p6 = sym c.before.in_range.ensures ∙ not-false c.before.in_range.result c.if-not-in_range.false
+  p6 = sym c.before.in_range.ensures ∙ c.if-not-in_range.false
 
 levels-answer : (c : tie.After-broken_level-broken) → let a = at1 c.before.before in c.broken_level-broken.result ≡ open_refusal (k a) (b a) (f a) (frame a) (s a).args.n
 levels-answer c =
@@ -168,7 +168,7 @@ returns-5 c =
     let a = e1 (e2 (e3 h)) in
     let e = c.refused-then-not-in_range.ensures in (
       e.0 ∙ by-6 (k a) (b a) (f a) (s a).args.n (frame a) (good a) (p17 (e2 (e3 h))) (p4 (e3 h)) (p3 h)
-          (sym t.before.in_range.ensures ∙ not-true t.before.in_range.result t.if-not-in_range.true),
+          (sym t.before.in_range.ensures ∙ t.if-not-in_range.true),
       none-by c.refused-then-not-in_range.result.number c.refused-then-not-in_range.result.words (k a) (frame a) e.1 (λ z. omega (arith, e.0, z)),
     )
 

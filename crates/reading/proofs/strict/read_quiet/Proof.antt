@@ -7,7 +7,7 @@ use native.Mathlib.Omega.{arith}
 use lib.IntN.{ℤ}
 use lib.ListN.{length}
 use borrow.Author.Rules.{rules}
-use borrow.Author.Tests.{not-true, not-false, le-leb}
+use borrow.Author.Tests.{le-leb}
 use Rattle.e8.specs.Energy.{Within}
 use Rattle.frames.specs.Kind.{scale}
 use Rattle.frames.specs.Frame.{InCodingSet}
@@ -85,10 +85,10 @@ module _ (c : tie.Else-refusal-ne0) where
       (sent-frame-within (k r) (b r) 0 (number r) a.kind a.grade _)
 
 -- the filling decides
-decided : (c : tie.After-is_taken) → let r = r c.before.before in
+decided : (c : tie.After-is_taken) → let r = r c.before in
     strict_refusal (k r) (b r) (f r) (number r) (frame r) (n r) ≡ unless c.is_taken.result 9 0
 decided c =
-    let d = c.before.before in
+    let d = c.before in
     let r = r d in
     whole-taken (k r) (b r) (f r) (number r) (frame r) (n r) (few r) (none d) ∙ ap (λ (t : Bool). unless t 9 0) (sym c.is_taken.ensures)
 
@@ -110,7 +110,7 @@ returns c =
 
 is-taken-requires : tie.Need-is_taken-requires
 is-taken-requires c κs =
-    let d = c.before in
+    let d = c in
     let p = (s (r d)).requires in
     ((a d).kind, (a d).grade, p.0, p.1, set d, small d, whole_is d)
 
@@ -120,8 +120,8 @@ same-length-2 c = search rules
 returns-2 : tie.Need-returns-then-not-is_taken
 returns-2 c =
     let q = c.before in
-    let r = r q.before.before in (
-      sym (decided q ∙ ap (λ (t : Bool). unless t 9 0) (not-true q.is_taken.result c.if-not-is_taken.true)),
+    let r = r q.before in (
+      sym (decided q ∙ ap (λ (t : Bool). unless t 9 0) c.if-not-is_taken.true),
       (
         bytes-kept 9 (k r) (b r) (f r) (frame r) (s r).args.message.now (λ e. omega (arith, e)),
         (no-energy 9 (frame r) (λ e. omega (arith, e)), own_is r),
@@ -142,11 +142,11 @@ returns-3 c =
     let p = c.before.before in
     let w = p.before.before in
     let q = w.before in
-    let d = q.before.before in
+    let d = q.before in
     let r = r d in
     let e = p.read.ensures in (
       e.0 ∙ few-open (k r) (b r) (f r) (frame r) (n r) (few r) ∙ opened d
-          ∙ sym (decided q ∙ ap (λ (t : Bool). unless t 9 0) (not-false q.is_taken.result w.if-not-is_taken.false)),
+          ∙ sym (decided q ∙ ap (λ (t : Bool). unless t 9 0) w.if-not-is_taken.false),
       (e.1.0, (e.1.1, own_is r)),
     )
 
