@@ -7,7 +7,7 @@ ghost use Rattle.listing.specs.Places.{beginning, start_of, line_on, next_on, li
 const ROOM: usize = 1024;
 
 // A place of a sheet: where the next record stands, and its number.
-#[derive(Drop)]
+#[derive(Clone, Copy)]
 pub struct Place {
     pub at: usize,
     pub number: u32,

@@ -15,7 +15,7 @@ const STDERR: i32 = 2;
 
 // What was handed to the writes: how many lines after the beginning, how many bytes in all, the place after the last line, and
 // whether all of it was written.
-#[derive(Drop)]
+#[derive(Clone, Copy)]
 pub struct Printed {
     pub lines: usize,
     pub bytes: usize,

@@ -11,7 +11,7 @@ use test_data::{account_in, count, fill, number, size};
 
 // A call: the number of its function; the frame's number, or the changeover that an account is opened with; and how many bytes and
 // coordinates of what is there are lent.
-#[derive(Drop)]
+#[derive(Clone, Copy)]
 struct Call {
     function: usize,
     kind: u8,

@@ -6,7 +6,7 @@ ghost use Rattle.test_free.specs.Judged.{answered, decoded, read_refusal, read_a
 use account::Account;
 
 // What a message is sent and a frame is read under.
-#[derive(Drop)]
+#[derive(Clone, Copy)]
 pub struct Under {
     pub kind: u8,
     pub grade: u8,
@@ -15,14 +15,14 @@ pub struct Under {
 }
 
 // What a call answers: its number, 0 for success, and the energy.
-#[derive(Drop)]
+#[derive(Clone, Copy)]
 pub struct Answer {
     pub number: u64,
     pub energy: u64,
 }
 
 // What sending answers, and the account afterwards.
-#[derive(Drop)]
+#[derive(Clone, Copy)]
 pub struct Sent {
     pub answer: Answer,
     pub account: Account,

@@ -10,7 +10,7 @@ use near_reading::NearReading;
 use test_data::{same_answer, same_float};
 
 // A reading without its samples and its bytes: the distance before the call, and the number and the distance that it has to give.
-#[derive(Drop)]
+#[derive(Clone, Copy)]
 pub struct Reading {
     pub kind: u8,
     pub grade: u8,

@@ -10,7 +10,7 @@ use queue::Queued;
 use test_data::{same_account, same_answer, same_coordinates};
 
 // A queue without its messages: kind, grade, the account, and the answer.
-#[derive(Drop)]
+#[derive(Clone, Copy)]
 pub struct Queue {
     pub kind: u8,
     pub grade: u8,

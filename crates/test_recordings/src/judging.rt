@@ -8,7 +8,7 @@ use super::{EXPORTED, NUMBER, SLICE, judge};
 use test_data::same_answer;
 
 // A pair without its samples: which recording has to be chosen, 1 or 2, or 0 for neither, and the number.
-#[derive(Drop)]
+#[derive(Clone, Copy)]
 pub struct Pair {
     pub kind: u8,
     pub grade: u8,

@@ -49,7 +49,7 @@ fn mark_bytes() -> [u8; 48]
 }
 
 // What a vector is sent and read under: its kind, its grade and its number; and what the strict reading answers under the number beside it.
-#[derive(Drop)]
+#[derive(Clone, Copy)]
 pub struct Under {
     pub kind: u8,
     pub grade: u8,
