@@ -11,7 +11,7 @@ ghost use Rattle.power_account.specs.Counted.{number_for, counted_refusal, count
 pub use power_account::{Account, Opened, open};
 
 // What sending with an account answers: the refusal number, 0 for success, the energy of the frame sent, and the account.
-#[derive(Drop)]
+#[derive(Clone, Copy)]
 pub struct Counted {
     pub number: u8,
     pub energy: u64,

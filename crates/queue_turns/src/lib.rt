@@ -5,7 +5,7 @@
 use power_account::Account;
 
 // What sending a queue answers: the refusal number, 0 where every message is sent, the number of messages sent, and the account.
-#[derive(Drop)]
+#[derive(Clone, Copy)]
 pub struct Queued {
     pub number: u8,
     pub sent: usize,

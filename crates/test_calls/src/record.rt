@@ -70,7 +70,7 @@ fn make(outside: bool, c: Call, message: &mut [u8], frame: &mut [i32], account: 
 }
 
 // What a call is lent or leaves: bytes and coordinates, and more beyond those that are lent; and whether the file had them.
-#[derive(Drop)]
+#[derive(Clone, Copy)]
 struct Lent {
     whole: bool,
     message: [u8; 48],
