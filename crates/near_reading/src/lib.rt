@@ -1,4 +1,6 @@
 // The near reading: the message of the frame of the coding set that is near to noisy samples, and its squared distance.
+#![tactic(auto)]
+
 ghost use Rattle.std.specs.Prelude.{◌≡◌, true, false, ◌^◌, length};
 ghost use Rattle.std.specs.Float.Ieee.Exact.{HasValue};
 ghost use Rattle.frames.specs.Kind.{is_grade, message_bytes};

@@ -9,7 +9,7 @@ use Rattle.near_reading.proofs.Parts.{parts-quotient, parts-value}
 use Rattle.near_reading.proofs.distance_of.Statement.{statement}
 use Rattle.near_reading.proofs.distance_of.Tie as tie
 
-int-to-float-d : tie.Need-int-to-float-d
+int-to-float-d : tie.Need-int_to_float-d
 int-to-float-d c = search rules
 
 returns : tie.Need-returns
@@ -18,5 +18,5 @@ returns c =
     let h : d < 2 ^ 32 = c.before.ranges.cost.fits in
     (parts-quotient d h, subst (λ (x : Float). HasValue x false d 65536) (sym (parts-quotient d h)) (parts-value d h))
 
-pub distance-of-spec : {M : Type 1} → statement M
-distance-of-spec = tie.close (tie.spec int-to-float-d returns)
+pub distance_of_spec : {M : Type 1} → statement M
+distance_of_spec = tie.close (tie.spec int-to-float-d returns)

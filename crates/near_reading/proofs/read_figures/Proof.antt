@@ -17,7 +17,7 @@ use Rattle.near_reading.proofs.read_figures.Statement.{statement}
 use Rattle.near_reading.proofs.read_figures.Tie as tie
 
 -- the number
-module _ (c : tie.After-refusal) where
+module _ (c : tie.After-refusal-number) where
   abbrev s : tie.Start
   s = c.before.before.before
 
@@ -33,13 +33,13 @@ module _ (c : tie.After-refusal) where
   abbrev bytes : List ℕ
   bytes = s.args.message.now
 
-  is : c.refusal.result ≡ near_refusal k b xs (length bytes)
-  is = c.refusal.ensures
+  is : c.refusal-number.result ≡ near_refusal k b xs (length bytes)
+  is = c.refusal-number.ensures
 
 -- no refusal
-module _ (c : tie.Else1) where
+module _ (c : tie.Else-number-ne0) where
   none : let r = c.before in near_refusal (k r) (b r) (xs r) (length (bytes r)) ≡ 0
-  none = sym (is c.before) ∙ c.if1.false
+  none = sym (is c.before) ∙ c.if-number-ne0.false
 
   every : let r = c.before in Readable (k r) (b r) (xs r) (length (bytes r))
   every = let r = c.before in readable (k r) (b r) (xs r) (length (bytes r)) none
@@ -51,58 +51,58 @@ module _ (c : tie.Else1) where
 part_length : (zs : List ℤ) (n : ℕ) → length zs ≡ 32 → n ≤ 32 → length (take (n - 0) zs) ≡ n
 part_length zs n e h = ap (λ (m : ℕ). length (take m zs)) (sub-zero n) ∙ length-take-le n zs (omega arith)
 
-long : (e : tie.Else1) (zs : List ℤ) → length zs ≡ 32 → length (take (length (xs e.before) - 0) zs) ≡ 2 ^ k e.before
+long : (e : tie.Else-number-ne0) (zs : List ℤ) → length zs ≡ 32 → length (take (length (xs e.before) - 0) zs) ≡ 2 ^ k e.before
 long e zs q = part_length zs (length (xs e.before)) q (short e) ∙ (every e).samples
 
-refusal-requires : tie.Need-refusal-requires
+refusal-requires : tie.Need-refusal-number-requires
 refusal-requires c κs = search rules
 
-cast-result : tie.Need-overflow-cast-result
+cast-result : tie.Need-overflow_cast-result
 cast-result c = search rules
 
-mul-result : tie.Need-overflow-mul-result
+mul-result : tie.Need-overflow_mul-result
 mul-result c = search rules
 
-returns : tie.Need-returns
+returns : tie.Need-returns-then-number-ne0
 returns c =
     let r = c.before in
-    let n : near_refusal (k r) (b r) (xs r) (length (bytes r)) ≡ 0 → ⊥ = λ z. c.if1.true (is r ∙ z) in
+    let n : near_refusal (k r) (b r) (xs r) (length (bytes r)) ≡ 0 → ⊥ = λ z. c.if-number-ne0.true (is r ∙ z) in
     (ap (λ (m : ℕ). m * 4294967296) (is r) ∙ refused-figures (k r) (b r) (xs r) (length (bytes r)) n, message-refused (k r) (b r) (xs r) (bytes r) n)
 
-sub-read-fit : tie.Need-overflow-sub-read-fit
+sub-read-fit : tie.Need-slice_bounds-read_fit-count
 sub-read-fit c = search rules
 
-part-whole-start : tie.Need-slice-bounds-whole-start
+part-whole-start : tie.Need-slice_bounds-whole-start
 part-whole-start c = search rules
 
-part-whole-end : tie.Need-slice-bounds-whole-end
+part-whole-end : tie.Need-slice_bounds-whole-end
 part-whole-end c = short c
 
-sub-read-fit-2 : tie.Need-overflow-sub-read-fit-2
+sub-read-fit-2 : tie.Need-slice_bounds-read_fit-count-2
 sub-read-fit-2 c = search rules
 
-part-frame-start : tie.Need-slice-bounds-frame-start
+part-frame-start : tie.Need-slice_bounds-frame-start
 part-frame-start c = search rules
 
-part-frame-end : tie.Need-slice-bounds-frame-end
+part-frame-end : tie.Need-slice_bounds-frame-end
 part-frame-end c = short c.before
 
-read-fit-requires : tie.Need-read-fit-requires
+read-fit-requires : tie.Need-read_fit-requires
 read-fit-requires c κs =
     let e = c.before.before.before in
     let p = every e in
     (p.kind, p.grade, p.samples, p.fit, long e (replicate 32 (pos 0)) refl, long e (replicate 32 (pos 0)) refl, p.bytes)
 
-same_length : tie.Need-same-length
+same_length : tie.Need-shape_of-message
 same_length c = search rules
 
-returns-2 : tie.Need-returns-2
+returns-2 : tie.Need-returns
 returns-2 c =
     let f = c.before.before.before.before in
-    (f.read-fit.ensures.0, f.read-fit.ensures.1.0)
+    (f.read_fit.ensures.0, f.read_fit.ensures.1.0)
 
-pub read-figures-spec : {M : Type 1} → statement M
-read-figures-spec =
+pub read_figures_spec : {M : Type 1} → statement M
+read_figures_spec =
     tie.close
     (tie.spec
     refusal-requires

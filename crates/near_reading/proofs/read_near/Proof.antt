@@ -15,7 +15,7 @@ use Rattle.near_reading.proofs.read_near.Statement.{statement}
 use Rattle.near_reading.proofs.read_near.Tie as tie
 
 -- the figures are known
-module _ (c : tie.After-read-figures) where
+module _ (c : tie.After-read_figures-figures) where
   abbrev s : tie.Start
   s = c.before.before.before.before
 
@@ -32,62 +32,62 @@ module _ (c : tie.After-read-figures) where
   n = length s.args.message.now
 
   abbrev figures : ℕ
-  figures = c.read-figures.result
+  figures = c.read_figures-figures.result
 
   -- the number and the distance are those of the answer
   by_answer : {a : NearReading} → a ≡ near_answer k b xs n → (a ≡ near_answer k b xs n)
-      × ((number_of a ≡ near_number k b xs n) × ((distance_of a ≡ near_distance k b xs n) × (c.read-figures.new.1.1.1.0 ≡ near_message k b xs s.args.message.now)))
-  by_answer e = (e, (ap number_of e ∙ case-number k b xs n, (ap distance_of e ∙ case-distance k b xs n, c.read-figures.ensures.1)))
+      × ((number_of a ≡ near_number k b xs n) × ((distance_of a ≡ near_distance k b xs n) × (c.read_figures-figures.new.message ≡ near_message k b xs s.args.message.now)))
+  by_answer e = (e, (ap number_of e ∙ case-number k b xs n, (ap distance_of e ∙ case-distance k b xs n, c.read_figures-figures.ensures.1)))
 
 -- a refusal
-module _ (c : tie.Else1) where
-  abbrev r : tie.After-read-figures
+module _ (c : tie.Else-figures-lt-REFUSED) where
+  abbrev r : tie.After-read_figures-figures
   r = c.before.before.before
 
   refusal : Refusal (k r) (b r) (xs r) (n r) (figures r)
-  refusal = told-refusal (k r) (b r) (xs r) (n r) (figures r) r.read-figures.ensures.0 c.if1.false
+  refusal = told-refusal (k r) (b r) (xs r) (n r) (figures r) r.read_figures-figures.ensures.0 c.if-figures-lt-REFUSED.false
 
-read-figures-requires : tie.Need-read-figures-requires
+read-figures-requires : tie.Need-read_figures-figures-requires
 read-figures-requires c κs = search rules
 
-cast-distance-of : tie.Need-overflow-cast-distance-of
+cast-distance-of : tie.Need-overflow_cast-figures
 cast-distance-of c = search rules
 
-distance-of-requires : tie.Need-distance-of-requires
+distance-of-requires : tie.Need-distance_of-d-requires
 distance-of-requires c κs = search rules
 
-same_length : tie.Need-same-length
+same_length : tie.Need-shape_of-message-then-figures-lt-REFUSED
 same_length c = search rules
 
-returns : tie.Need-returns
+returns : tie.Need-returns-then-figures-lt-REFUSED
 returns c =
     let f = c.before.before.before.before in
-    let t = told-distance (k f) (b f) (xs f) (n f) (figures f) f.read-figures.ensures.0 c.before.if1.true in
-    let d = c.distance-of.ensures.0 ∙ ap in_parts t.cost ∙ sym (distance-near (k f) (b f) (xs f) (n f) t.number) in
+    let t = told-distance (k f) (b f) (xs f) (n f) (figures f) f.read_figures-figures.ensures.0 c.before.if-figures-lt-REFUSED.true in
+    let d = c.distance_of-d.ensures.0 ∙ ap in_parts t.cost ∙ sym (distance-near (k f) (b f) (xs f) (n f) t.number) in
     by_answer f (ap Near d ∙ answer-near (k f) (b f) (xs f) (n f) t.number)
 
-cast-number : tie.Need-overflow-cast-number
+cast-number : tie.Need-overflow_cast-number
 cast-number c = record { fits = omega (arith, (refusal c).low) }
 
-same-length-2 : tie.Need-same-length-2
+same-length-2 : tie.Need-shape_of-message-then-number-eq16
 same-length-2 c = search rules
 
-returns-2 : tie.Need-returns-2
+returns-2 : tie.Need-returns-then-number-eq16
 returns-2 c =
     let f = r c.before in
-    by_answer f (answer-far (k f) (b f) (xs f) (n f) (sym (refusal c.before).number ∙ c.if2.true))
+    by_answer f (answer-far (k f) (b f) (xs f) (n f) (sym (refusal c.before).number ∙ c.if-number-eq16.true))
 
-same-length-3 : tie.Need-same-length-3
+same-length-3 : tie.Need-shape_of-message
 same-length-3 c = search rules
 
-returns-3 : tie.Need-returns-3
+returns-3 : tie.Need-returns
 returns-3 c =
     let f = r c.before in
     let t = refusal c.before in
-    by_answer f (ap Refused t.number ∙ answer-refused (k f) (b f) (xs f) (n f) t.some (λ e. c.if2.false (t.number ∙ e)))
+    by_answer f (ap Refused t.number ∙ answer-refused (k f) (b f) (xs f) (n f) t.some (λ e. c.if-number-eq16.false (t.number ∙ e)))
 
-pub read-near-spec : {M : Type 1} → statement M
-read-near-spec =
+pub read_near_spec : {M : Type 1} → statement M
+read_near_spec =
     tie.close
     (tie.spec
     read-figures-requires
