@@ -1,4 +1,6 @@
 // Fields of the data files that the test programs read, and what they print. Numbers stand lowest byte first.
+#![tactic(auto)]
+
 mod float;
 mod frame;
 

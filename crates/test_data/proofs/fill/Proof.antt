@@ -8,31 +8,31 @@ use borrow.Author.Rules.{rules}
 use Rattle.test_data.proofs.fill.Statement.{statement}
 use Rattle.test_data.proofs.fill.Tie as tie
 
-returns : tie.Need-returns
+returns : tie.Need-returns-then-out-n
 returns c = record { as_long = refl; behind = refl; room = λ e. absurd (true≢false (sym e)); no_room = λ h. refl }
 
-sub-read-full : tie.Need-overflow-sub-read-full
+sub-read-full : tie.Need-slice_bounds-read_full-count
 sub-read-full c = search rules
 
-part-read-full-start : tie.Need-slice-bounds-read-full-start
+part-read-full-start : tie.Need-slice_bounds-read_full-start
 part-read-full-start c = search rules
 
-part-read-full-end : tie.Need-slice-bounds-read-full-end
+part-read-full-end : tie.Need-slice_bounds-read_full-end
 part-read-full-end c = search rules
 
-read-full-requires : tie.Need-read-full-requires
+read-full-requires : tie.Need-read_full-requires
 read-full-requires c κs = search rules
 
-same_length : tie.Need-same-length
+same_length : tie.Need-shape_of-out
 same_length c = search rules
 
-returns-2 : tie.Need-returns-2
+returns-2 : tie.Need-returns
 returns-2 c =
     let t = c.before.before in
     let s = t.before.before.before.before.args in
-    let read = t.read-full.new.1.0 in
-    let long = t.read-full.auto.1.0 in
-    let room = t.before.before.if1.false in
+    let read = t.read_full.new.buf in
+    let long = t.read_full.auto.buf in
+    let room = t.before.before.if-out-n.false in
     record {
       as_long = same_len_mid 0 (s.n - 0) s.out.now read long;
       behind = drop_put 0 s.n s.out.now read (omega arith) room (long ∙ mid_len 0 s.n s.out.now room);

@@ -8,11 +8,11 @@ use Rattle.test_data.proofs.float.float_in.Tie as tie
 number-requires : tie.Need-number-requires
 number-requires c κs = search rules
 
-of-bits-requires : tie.Need-of-bits-requires
+of-bits-requires : tie.Need-of_bits-requires
 of-bits-requires c κs = search rules
 
 returns : tie.Need-returns
-returns c = c.of-bits.ensures ∙ ap (of_bits binary64) c.before.number.ensures
+returns c = c.of_bits.ensures ∙ ap (of_bits binary64) c.before.number.ensures
 
-pub float-in-spec : {M : Type 1} → statement M
-float-in-spec = tie.close (tie.spec number-requires of-bits-requires returns)
+pub float_in_spec : {M : Type 1} → statement M
+float_in_spec = tie.close (tie.spec number-requires of-bits-requires returns)

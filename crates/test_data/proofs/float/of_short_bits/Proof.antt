@@ -10,15 +10,15 @@ use Rattle.test_data.proofs.Patterns.{above}
 use Rattle.test_data.proofs.float.of_short_bits.Statement.{statement}
 use Rattle.test_data.proofs.float.of_short_bits.Tie as tie
 
-returns : tie.Need-returns
+returns : tie.Need-returns-then-n-gt2139095040
 unfolding div of_bits of_fields
-returns c = above binary32 c.before.args.n c.if1.true
+returns c = above binary32 c.before.args.n c.if-n-gt2139095040.true
 
-float-from-bits-result : tie.Need-float-from-bits-result
-float-from-bits-result c = subst (λ (b : Bool). T (not b)) (sym (nan_bits_above binary32 c.before.args.n ∙ le-ltb _ _ c.if1.false)) tt
+float-from-bits-result : tie.Need-float_from_bits-result
+float-from-bits-result c = subst (λ (b : Bool). T (not b)) (sym (nan_bits_above binary32 c.before.args.n ∙ le-ltb _ _ c.if-n-gt2139095040.false)) tt
 
-returns-2 : tie.Need-returns-2
+returns-2 : tie.Need-returns
 returns-2 c = search rules
 
-pub of-short-bits-spec : {M : Type 1} → statement M
-of-short-bits-spec = tie.close (tie.spec returns float-from-bits-result returns-2)
+pub of_short_bits_spec : {M : Type 1} → statement M
+of_short_bits_spec = tie.close (tie.spec returns float-from-bits-result returns-2)

@@ -10,85 +10,85 @@ use Rattle.test_data.proofs.Taken.{Taking, no_more, no_room, one_more}
 use Rattle.test_data.proofs.float.samples.Statement.{statement}
 use Rattle.test_data.proofs.float.samples.Tie as tie
 
-abbrev invariant-loop : tie.invariant-loop
-invariant-loop bytes out₀ a₀ p₀ out a p = (a ≤ length bytes) × (length out ≡ length out₀) × Taking sample_in bytes out₀ out a p
+abbrev invariant-loop-p : tie.invariant-loop-p
+invariant-loop-p bytes out₀ a₀ p₀ out a p = (a ≤ length bytes) × (length out ≡ length out₀) × Taking sample_in bytes out₀ out a p
 
-abbrev decreases-loop : tie.decreases-loop
-decreases-loop bytes out₀ a₀ p₀ out a p = length out₀ - p
+abbrev decreases-loop-p : tie.decreases-loop-p
+decreases-loop-p bytes out₀ a₀ p₀ out a p = length out₀ - p
 
-loop-holds : tie.Need-loop-init invariant-loop decreases-loop
+loop-holds : tie.Need-loop-p-init invariant-loop-p decreases-loop-p
 loop-holds c = (omega arith, refl, refl)
 
-sub-if1 : tie.Need-overflow-sub-if1 invariant-loop decreases-loop
+sub-if1 : tie.Need-overflow_sub-bytes invariant-loop-p decreases-loop-p
 sub-if1 c = search rules
 
-same_length : tie.Need-same-length invariant-loop decreases-loop
+same_length : tie.Need-shape_of-out-then-bytes-a-lt4 invariant-loop-p decreases-loop-p
 same_length c = search rules
 
-returns : tie.Need-returns invariant-loop decreases-loop
+returns : tie.Need-returns-then-bytes-a-lt4 invariant-loop-p decreases-loop-p
 returns c =
     let t = c.before.before in
     let s = t.before.before.before.args in
-    no_more sample_in s.bytes.now s.out.now t.loop.out t.loop.a t.loop.p c.if1.true t.loop.invariant.2
+    no_more sample_in s.bytes.now s.out.now t.loop-p.out t.loop-p.a t.loop-p.p c.if-bytes-a-lt4.true t.loop-p.invariant.2
 
-add-e : tie.Need-overflow-add-e invariant-loop decreases-loop
+add-e : tie.Need-overflow_add-e invariant-loop-p decreases-loop-p
 add-e c = search rules
 
-sub-count : tie.Need-overflow-sub-count invariant-loop decreases-loop
+sub-count : tie.Need-slice_bounds-count-count invariant-loop-p decreases-loop-p
 sub-count c = search rules
 
-part-count-start : tie.Need-slice-bounds-count-start invariant-loop decreases-loop
+part-count-start : tie.Need-slice_bounds-count-start invariant-loop-p decreases-loop-p
 part-count-start c = search rules
 
-part-count-end : tie.Need-slice-bounds-count-end invariant-loop decreases-loop
+part-count-end : tie.Need-slice_bounds-count-end invariant-loop-p decreases-loop-p
 part-count-end c = search rules
 
-count-requires : tie.Need-count-requires invariant-loop decreases-loop
+count-requires : tie.Need-count-requires invariant-loop-p decreases-loop-p
 count-requires c κs = search rules
 
-of-short-bits-requires : tie.Need-of-short-bits-requires invariant-loop decreases-loop
+of-short-bits-requires : tie.Need-of_short_bits-requires invariant-loop-p decreases-loop-p
 of-short-bits-requires c κs = search rules
 
-mul-out : tie.Need-overflow-mul-out invariant-loop decreases-loop
+mul-out : tie.Need-offset_bounds-out-p invariant-loop-p decreases-loop-p
 mul-out c = search rules
 
-slice-write-out : tie.Need-slice-write-out invariant-loop decreases-loop
+slice-write-out : tie.Need-bounds-out-p invariant-loop-p decreases-loop-p
 slice-write-out c = search rules
 
-add-p : tie.Need-overflow-add-p invariant-loop decreases-loop
+add-p : tie.Need-overflow_add-p invariant-loop-p decreases-loop-p
 add-p c = search rules
 
-loop-less : tie.Need-loop-smaller invariant-loop decreases-loop
+loop-less : tie.Need-loop-p-smaller invariant-loop-p decreases-loop-p
 loop-less c = search rules
 
-loop-again : tie.Need-loop-preserved invariant-loop decreases-loop
+loop-again : tie.Need-loop-p-preserved invariant-loop-p decreases-loop-p
 loop-again c =
     let e = c.before.before.before in
     let t = e.before.before in
     let s = t.before.before.before.args in
-    let is : c.of-short-bits.result ≡ sample_in (take (t.loop.a + 4 - t.loop.a) (drop t.loop.a s.bytes.now)) =
-    c.of-short-bits.ensures ∙ ap (of_bits binary32) c.before.count.ensures in (
+    let is : c.of_short_bits.result ≡ sample_in (take (t.loop-p.a + 4 - t.loop-p.a) (drop t.loop-p.a s.bytes.now)) =
+    c.of_short_bits.ensures ∙ ap (of_bits binary32) c.before.count.ensures in (
       omega arith,
-      length-set t.loop.out t.loop.p c.of-short-bits.result ∙ t.loop.invariant.1,
-      one_more sample_in s.bytes.now s.out.now t.loop.out t.loop.a (t.loop.a + 4) t.loop.p nan
-          c.of-short-bits.result (omega arith) (omega arith) refl (omega arith) is t.loop.invariant.2,
+      length-set t.loop-p.out t.loop-p.p c.of_short_bits.result ∙ t.loop-p.invariant.1,
+      one_more sample_in s.bytes.now s.out.now t.loop-p.out t.loop-p.a (t.loop-p.a + 4) t.loop-p.p nan
+          c.of_short_bits.result (omega arith) (omega arith) refl (omega arith) is t.loop-p.invariant.2,
     )
 
-same-length-2 : tie.Need-same-length-2 invariant-loop decreases-loop
+same-length-2 : tie.Need-shape_of-out invariant-loop-p decreases-loop-p
 same-length-2 c = search rules
 
-returns-2 : tie.Need-returns-2 invariant-loop decreases-loop
+returns-2 : tie.Need-returns invariant-loop-p decreases-loop-p
 returns-2 c =
     let t = c.before in
     let s = t.before.before.before.args in
-    no_room sample_in s.bytes.now s.out.now t.loop.out t.loop.a t.loop.p (omega arith) t.loop.invariant.2
+    no_room sample_in s.bytes.now s.out.now t.loop-p.out t.loop-p.a t.loop-p.p (omega arith) t.loop-p.invariant.2
 
-pub samples-spec : {M : Type 1} → statement M
-samples-spec =
+pub samples_spec : {M : Type 1} → statement M
+samples_spec =
     tie.close
     (tie.spec
-    invariant-loop
-    decreases-loop
+    invariant-loop-p
+    decreases-loop-p
     loop-holds
     sub-if1
     same_length

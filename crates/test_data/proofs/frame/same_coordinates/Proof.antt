@@ -15,65 +15,65 @@ use Rattle.test_data.proofs.Compared.{frames-equal, frames-differ}
 use Rattle.test_data.proofs.frame.same_coordinates.Statement.{statement}
 use Rattle.test_data.proofs.frame.same_coordinates.Tie as tie
 
-abbrev invariant-loop : tie.invariant-loop
-invariant-loop x y p₀ p = (p ≤ length y) × (take p x ≡ take p y)
+abbrev invariant-loop-p : tie.invariant-loop-p
+invariant-loop-p x y p₀ p = (p ≤ length y) × (take p x ≡ take p y)
 
-abbrev decreases-loop : tie.decreases-loop
-decreases-loop x y p₀ p = length y - p
+abbrev decreases-loop-p : tie.decreases-loop-p
+decreases-loop-p x y p₀ p = length y - p
 
-returns : tie.Need-returns invariant-loop decreases-loop
-returns c = frames-differ (λ e. c.if1.true (ap (λ (l : List ℤ). length l) e))
+returns : tie.Need-returns-then-x-y invariant-loop-p decreases-loop-p
+returns c = frames-differ (λ e. c.if-x-y.true (ap (λ (l : List ℤ). length l) e))
 
-loop-holds : tie.Need-loop-init invariant-loop decreases-loop
+loop-holds : tie.Need-loop-p-init invariant-loop-p decreases-loop-p
 loop-holds c = (omega arith, refl)
 
-mul-a : tie.Need-overflow-mul-a invariant-loop decreases-loop
+mul-a : tie.Need-offset_bounds-x-p invariant-loop-p decreases-loop-p
 mul-a c = search rules
 
-shared-slice-copy-out-a : tie.Need-shared-slice-copy-out-a invariant-loop decreases-loop
+shared-slice-copy-out-a : tie.Need-bounds-x-p invariant-loop-p decreases-loop-p
 shared-slice-copy-out-a c = search rules
 
-mul-b : tie.Need-overflow-mul-b invariant-loop decreases-loop
+mul-b : tie.Need-offset_bounds-y-p invariant-loop-p decreases-loop-p
 mul-b c = search rules
 
-shared-slice-copy-out-b : tie.Need-shared-slice-copy-out-b invariant-loop decreases-loop
+shared-slice-copy-out-b : tie.Need-bounds-y-p invariant-loop-p decreases-loop-p
 shared-slice-copy-out-b c = search rules
 
-returns-2 : tie.Need-returns-2 invariant-loop decreases-loop
+returns-2 : tie.Need-returns-then-a-b invariant-loop-p decreases-loop-p
 returns-2 c =
     let t = c.before.before.before.before in
-    frames-differ (λ e. c.if2.true (ap (λ (l : List ℤ). of_z w32 (at l t.loop.p)) e))
+    frames-differ (λ e. c.if-a-b.true (ap (λ (l : List ℤ). of_z w32 (at l t.loop-p.p)) e))
 
-add-p : tie.Need-overflow-add-p invariant-loop decreases-loop
+add-p : tie.Need-overflow_add-p invariant-loop-p decreases-loop-p
 add-p c = search rules
 
-loop-less : tie.Need-loop-smaller invariant-loop decreases-loop
+loop-less : tie.Need-loop-p-smaller invariant-loop-p decreases-loop-p
 loop-less c = search rules
 
-loop-again : tie.Need-loop-preserved invariant-loop decreases-loop
+loop-again : tie.Need-loop-p-preserved invariant-loop-p decreases-loop-p
 loop-again c =
     let t = c.before.before.before.before in
     let a = t.before.before.args in
-    let e : length a.x.now ≡ length a.y.now = t.before.if1.false in
-    let x : to_z w32 (of_z w32 (at a.x.now t.loop.p)) ≡ at a.x.now t.loop.p = tz refl (record { sfits = c.before.before.a.given }) in
-    let y : to_z w32 (of_z w32 (at a.y.now t.loop.p)) ≡ at a.y.now t.loop.p = tz refl (record { sfits = c.before.b.given }) in (
+    let e : length a.x.now ≡ length a.y.now = t.before.if-x-y.false in
+    let x : to_z w32 (of_z w32 (at a.x.now t.loop-p.p)) ≡ at a.x.now t.loop-p.p = tz {w = w32} refl (record { sfits = c.before.before.a-1.given }) in
+    let y : to_z w32 (of_z w32 (at a.y.now t.loop-p.p)) ≡ at a.y.now t.loop-p.p = tz {w = w32} refl (record { sfits = c.before.b-1.given }) in (
       omega arith,
-      agree-more (pos 0) a.x.now a.y.now t.loop.p (omega arith) (omega arith) t.loop.invariant.1 (sym x ∙ ap (to_z w32) c.if2.false ∙ y),
+      agree-more (pos 0) a.x.now a.y.now t.loop-p.p (omega arith) (omega arith) t.loop-p.invariant.1 (sym x ∙ ap (to_z w32) c.if-a-b.false ∙ y),
     )
 
-returns-3 : tie.Need-returns-3 invariant-loop decreases-loop
+returns-3 : tie.Need-returns invariant-loop-p decreases-loop-p
 returns-3 c =
     let t = c.before in
     let a = t.before.before.args in
-    let e : length a.x.now ≡ length a.y.now = t.before.if1.false in
-    frames-equal (agree-all a.x.now a.y.now t.loop.p (omega arith) (omega arith) t.loop.invariant.1)
+    let e : length a.x.now ≡ length a.y.now = t.before.if-x-y.false in
+    frames-equal (agree-all a.x.now a.y.now t.loop-p.p (omega arith) (omega arith) t.loop-p.invariant.1)
 
-pub same-coordinates-spec : {M : Type 1} → statement M
-same-coordinates-spec =
+pub same_coordinates_spec : {M : Type 1} → statement M
+same_coordinates_spec =
     tie.close
     (tie.spec
-    invariant-loop
-    decreases-loop
+    invariant-loop-p
+    decreases-loop-p
     returns
     loop-holds
     mul-a

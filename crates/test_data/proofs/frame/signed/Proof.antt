@@ -21,30 +21,30 @@ high : (n : ℕ) → 2 ^ 31 ≤ n → signed_of n ≡ pos n -ℤ pos (2 ^ 32)
 unfolding signed_of
 high n h = rw (le-ltb n (2 ^ 31) h) refl
 
-cast-result : tie.Need-overflow-cast-result
+cast-result : tie.Need-overflow_cast-result
 cast-result c = search rules
 
-returns : tie.Need-returns
-returns c = to_z_pos w32 c.if1.true ∙ sym (low c.before.args.x c.if1.true)
+returns : tie.Need-returns-then-x-lt2147483648
+returns c = to_z_pos w32 c.if-x-lt2147483648.true ∙ sym (low c.before.args.x c.if-x-lt2147483648.true)
 
-sub-result : tie.Need-overflow-sub-result
+sub-result : tie.Need-overflow_sub-result
 sub-result c = search rules
 
-cast-result-2 : tie.Need-overflow-cast-result-2
+cast-result-2 : tie.Need-overflow_cast-result-2
 cast-result-2 c = search rules
 
-sub-result-2 : tie.Need-overflow-sub-result-2
+sub-result-2 : tie.Need-overflow_sub-result-2
 sub-result-2 c =
     let x = c.before.args.x in
     rw (to_z_pos w32 {n = 4294967295 - x} (omega arith)) (sfits! w32 (` negsuc 0 ⊖ # (4294967295 - x)) (omega arith) (omega arith))
 
-returns-2 : tie.Need-returns-2
+returns-2 : tie.Need-returns
 returns-2 c =
     let x = c.before.args.x in
     let below : x < 2 ^ 32 = c.before.ranges.x.fits in
     let fits = sfits! w32 (# x ⊖ # (2 ^ 32)) (omega arith) (omega arith) in
     rw (to_z_pos w32 {n = 4294967295 - x} (omega arith))
-    (tz (eq! (` negsuc 0 ⊖ # (4294967295 - x)) (# x ⊖ # (2 ^ 32)) (omega arith)) fits ∙ sym (high x c.if1.false))
+    (tz (eq! (` negsuc 0 ⊖ # (4294967295 - x)) (# x ⊖ # (2 ^ 32)) (omega arith)) fits ∙ sym (high x c.if-x-lt2147483648.false))
 
-pub signed-spec : {M : Type 1} → statement M
-signed-spec = tie.close (tie.spec cast-result returns sub-result cast-result-2 sub-result-2 returns-2)
+pub signed_spec : {M : Type 1} → statement M
+signed_spec = tie.close (tie.spec cast-result returns sub-result cast-result-2 sub-result-2 returns-2)
