@@ -1,4 +1,6 @@
 // Two recordings of one frame: the one whose near reading is closer, as the caller's own slice, and the number that goes with it (request E9).
+#![tactic(auto)]
+
 ghost use Rattle.std.specs.Prelude.{◌≡◌, length};
 ghost use Rattle.near_reading.specs.Answer.{near_message};
 ghost use Rattle.recordings.specs.Choice.{choice, handed, handed_back, closer_number};

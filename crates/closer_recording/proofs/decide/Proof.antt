@@ -16,11 +16,11 @@ use Rattle.closer_recording.proofs.decide.Statement.{statement}
 use Rattle.closer_recording.proofs.decide.Tie as tie
 
 -- both recordings are read
-module _ (c : tie.After-slice-known4) where
-  abbrev h2 : tie.After-read-figures2
+module _ (c : tie.After-slice_known-4-1) where
+  abbrev h2 : tie.After-read_figures-q
   h2 = c.before.before
 
-  abbrev h1 : tie.After-read-figures
+  abbrev h1 : tie.After-read_figures-p
   h1 = h2.before.before.before.before
 
   abbrev s : tie.Start
@@ -45,140 +45,140 @@ module _ (c : tie.After-slice-known4) where
   two = s.args.two.now
 
   abbrev p : ℕ
-  p = h1.read-figures.result
+  p = h1.read_figures-p.result
 
   abbrev q : ℕ
-  q = h2.read-figures2.result
+  q = h2.read_figures-q.result
 
   first-heard : p < 4294967296 → Heard k b xs one p
-  first-heard h = heard k b xs one p s.pre.0 h1.read-figures.ensures.0 h
+  first-heard h = heard k b xs one p s.requires.0 h1.read_figures-p.ensures.0 h
 
   second-heard : q < 4294967296 → Heard k b ys two q
-  second-heard h = heard k b ys two q s.pre.1 h2.read-figures2.ensures.0 h
+  second-heard h = heard k b ys two q s.requires.1 h2.read_figures-q.ensures.0 h
 
   first-turned-down : 4294967296 ≤ p → Refused k b xs one p
-  first-turned-down h = refused k b xs one p s.pre.0 h1.read-figures.ensures.0 h
+  first-turned-down h = refused k b xs one p s.requires.0 h1.read_figures-p.ensures.0 h
 
   second-turned-down : 4294967296 ≤ q → Refused k b ys two q
-  second-turned-down h = refused k b ys two q s.pre.1 h2.read-figures2.ensures.0 h
+  second-turned-down h = refused k b ys two q s.requires.1 h2.read_figures-q.ensures.0 h
 
   -- the bytes afterwards
-  left : (h1.read-figures.last.1.1.1.0 ≡ near_message k b xs one) × (h2.read-figures2.last.1.1.1.0 ≡ near_message k b ys two)
-  left = (h1.read-figures.ensures.1, h2.read-figures2.ensures.1)
+  left : (h1.read_figures-p.last.message ≡ near_message k b xs one) × (h2.read_figures-q.last.message ≡ near_message k b ys two)
+  left = (h1.read_figures-p.ensures.1, h2.read_figures-q.ensures.1)
 
 -- both are near, and their messages compared
-module _ (c : tie.After-same-bytes) where
-  abbrev e : tie.Else3
+module _ (c : tie.After-same_bytes) where
+  abbrev e : tie.Else-q-ge-REFUSED-2
   e = c.before.before.before
 
-  abbrev r : tie.After-slice-known4
+  abbrev r : tie.After-slice_known-4-1
   r = e.before.before
 
   first : Heard (k r) (b r) (xs r) (one r) (p r)
-  first = first-heard r e.before.if1.left
+  first = first-heard r e.before.if-p-ge-REFUSED.left
 
   second : Heard (k r) (b r) (ys r) (two r) (q r)
-  second = second-heard r e.if3.left
+  second = second-heard r e.if-q-ge-REFUSED-2.left
 
   compared : c.same_bytes.result ≡ same_bytes (recording_message (k r) (b r) (xs r)) (recording_message (k r) (b r) (ys r))
   compared = c.same_bytes.ensures ∙ ap₂ same_bytes ((left r).0 ∙ first.message) ((left r).1 ∙ second.message)
 
-read-figures-requires : tie.Need-read-figures-requires
+read-figures-requires : tie.Need-read_figures-p-requires
 read-figures-requires c κs = search rules
 
-read-figures-requires-2 : tie.Need-read-figures-requires-2
+read-figures-requires-2 : tie.Need-read_figures-q-requires
 read-figures-requires-2 c κs = search rules
 
-cast-number : tie.Need-overflow-cast-number
+cast-number : tie.Need-overflow_cast-number
 cast-number c =
     let r = c.before.before in
-    record { fits = omega (arith, (first-turned-down r c.before.if1.true).low, (second-turned-down r (omega (arith, c.if2.true))).low) }
+    record { fits = omega (arith, (first-turned-down r c.before.if-p-ge-REFUSED.true).low, (second-turned-down r (omega (arith, c.if-q-ge-REFUSED.true))).low) }
 
-same_length : tie.Need-same-length
+same_length : tie.Need-shape_of-one-then-q-ge-REFUSED
 same_length c = search rules
 
-same-length-2 : tie.Need-same-length-2
+same-length-2 : tie.Need-shape_of-two-then-q-ge-REFUSED
 same-length-2 c = search rules
 
-returns : tie.Need-returns
+returns : tie.Need-returns-then-q-ge-REFUSED
 returns c =
     let r = c.before.before in
-    let t = first-turned-down r c.before.if1.true in
-    (ap Neither t.number ∙ both-refused (k r) (b r) (xs r) (ys r) t.some (second-turned-down r (omega (arith, c.if2.true))).some, left r)
+    let t = first-turned-down r c.before.if-p-ge-REFUSED.true in
+    (ap Neither t.number ∙ both-refused (k r) (b r) (xs r) (ys r) t.some (second-turned-down r (omega (arith, c.if-q-ge-REFUSED.true))).some, left r)
 
-same-length-3 : tie.Need-same-length-3
+same-length-3 : tie.Need-shape_of-one-then-p-ge-REFUSED
 same-length-3 c = search rules
 
-same-length-4 : tie.Need-same-length-4
+same-length-4 : tie.Need-shape_of-two-then-p-ge-REFUSED
 same-length-4 c = search rules
 
-returns-2 : tie.Need-returns-2
+returns-2 : tie.Need-returns-then-p-ge-REFUSED
 returns-2 c =
     let r = c.before.before in
-    (first-refused (k r) (b r) (xs r) (ys r) (first-turned-down r c.before.if1.true).some (second-heard r c.if2.false).number, left r)
+    (first-refused (k r) (b r) (xs r) (ys r) (first-turned-down r c.before.if-p-ge-REFUSED.true).some (second-heard r c.if-q-ge-REFUSED.false).number, left r)
 
-same-length-5 : tie.Need-same-length-5
+same-length-5 : tie.Need-shape_of-one-then-q-ge-REFUSED-2
 same-length-5 c = search rules
 
-same-length-6 : tie.Need-same-length-6
+same-length-6 : tie.Need-shape_of-two-then-q-ge-REFUSED-2
 same-length-6 c = search rules
 
-returns-3 : tie.Need-returns-3
+returns-3 : tie.Need-returns-then-q-ge-REFUSED-2
 returns-3 c =
     let r = c.before.before in
-    (second-refused (k r) (b r) (xs r) (ys r) (first-heard r c.before.if1.false).number (second-turned-down r c.if3.true).some, left r)
+    (second-refused (k r) (b r) (xs r) (ys r) (first-heard r c.before.if-p-ge-REFUSED.false).number (second-turned-down r c.if-q-ge-REFUSED-2.true).some, left r)
 
-same-bytes-requires : tie.Need-same-bytes-requires
+same-bytes-requires : tie.Need-same_bytes-requires
 same-bytes-requires c κs = search rules
 
-same-length-7 : tie.Need-same-length-7
+same-length-7 : tie.Need-shape_of-one-then-not-same_bytes
 same-length-7 c = search rules
 
-same-length-8 : tie.Need-same-length-8
+same-length-8 : tie.Need-shape_of-two-then-not-same_bytes
 same-length-8 c = search rules
 
-returns-4 : tie.Need-returns-4
+returns-4 : tie.Need-returns-then-not-same_bytes
 returns-4 c =
     let a = c.before in
     let x = r a in (
-      at-odds (k x) (b x) (xs x) (ys x) (first a).number (second a).number (sym (compared a) ∙ not-true a.same_bytes.result c.if4.true),
+      at-odds (k x) (b x) (xs x) (ys x) (first a).number (second a).number (sym (compared a) ∙ not-true a.same_bytes.result c.if-not-same_bytes.true),
       left x,
     )
 
-same-length-9 : tie.Need-same-length-9
+same-length-9 : tie.Need-shape_of-one-then-q-p
 same-length-9 c = search rules
 
-same-length-10 : tie.Need-same-length-10
+same-length-10 : tie.Need-shape_of-two-then-q-p
 same-length-10 c = search rules
 
-returns-5 : tie.Need-returns-5
+returns-5 : tie.Need-returns-then-q-p
 returns-5 c =
     let f = c.before in
     let a = f.before in
     let x = r a in (
-      second-closer (k x) (b x) (xs x) (ys x) (first a).number (second a).number (sym (compared a) ∙ not-false a.same_bytes.result f.if4.false)
-          (omega (arith, (first a).distance, (second a).distance, c.if5.true)),
+      second-closer (k x) (b x) (xs x) (ys x) (first a).number (second a).number (sym (compared a) ∙ not-false a.same_bytes.result f.if-not-same_bytes.false)
+          (omega (arith, (first a).distance, (second a).distance, c.if-q-p.true)),
       left x,
     )
 
-same-length-11 : tie.Need-same-length-11
+same-length-11 : tie.Need-shape_of-one-else-q-p
 same-length-11 c = search rules
 
-same-length-12 : tie.Need-same-length-12
+same-length-12 : tie.Need-shape_of-two-else-q-p
 same-length-12 c = search rules
 
-returns-6 : tie.Need-returns-6
+returns-6 : tie.Need-returns-else-q-p
 returns-6 c =
     let f = c.before in
     let a = f.before in
     let x = r a in (
-      first-closer (k x) (b x) (xs x) (ys x) (first a).number (second a).number (sym (compared a) ∙ not-false a.same_bytes.result f.if4.false)
-          (omega (arith, (first a).distance, (second a).distance, c.if5.false)),
+      first-closer (k x) (b x) (xs x) (ys x) (first a).number (second a).number (sym (compared a) ∙ not-false a.same_bytes.result f.if-not-same_bytes.false)
+          (omega (arith, (first a).distance, (second a).distance, c.if-q-p.false)),
       left x,
     )
 
-pub decide-spec : {M : Type 1} → statement M
-decide-spec =
+pub decide_spec : {M : Type 1} → statement M
+decide_spec =
     tie.close
     (tie.spec
     read-figures-requires
