@@ -1,4 +1,6 @@
 // The line of a message in a listing: that of the frame that is sent for it.
+#![tactic(auto)]
+
 ghost use Rattle.std.specs.Prelude.{◌≡◌, true, ◌≤◌, ◌^◌, length};
 ghost use Rattle.frames.specs.Kind.{is_kind};
 ghost use Rattle.frames.specs.Sending.{send_refusal};
