@@ -1,4 +1,6 @@
 // The listing of a sheet, line by line into a lent buffer.
+#![tactic(auto)]
+
 ghost use Rattle.std.specs.Prelude.{◌≡◌, ◌<◌, ◌≤◌, length};
 ghost use Rattle.text.specs.Text.{Put};
 ghost use Rattle.listing.specs.Places.{beginning, start_of, line_on, next_on, line_into, next_into, beginning_into, start_into, ended};

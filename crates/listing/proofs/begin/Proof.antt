@@ -9,31 +9,31 @@ use Rattle.listing.proofs.begin.Tie as tie
 nothing-requires : tie.Need-nothing-requires
 nothing-requires c κs = search rules
 
-returns : tie.Need-returns
+returns : tie.Need-returns-then-out-lt-ROOM
 returns c =
     let s = c.before.before.before.before.args in
     let o = s.out.now in
-    let r = no-beginning (length o) s.sheet.now (omega (arith, c.before.if1.true)) in
+    let r = no-beginning (length o) s.sheet.now (omega (arith, c.before.if-out-lt-ROOM.true)) in
     let e = c.nothing.ensures in
     (nothing_put o r.0 e.0, (omega (arith, e.0), e.1 ∙ r.1))
 
 header-requires : tie.Need-header-requires
 header-requires c κs = search rules
 
-same_length : tie.Need-same-length
+same_length : tie.Need-shape_of-out
 same_length c = search rules
 
-returns-2 : tie.Need-returns-2
+returns-2 : tie.Need-returns
 returns-2 c =
     let l = c.before.before in
     let d = l.before.before in
     let s = d.before.before.before.args in
     let o = s.out.now in
-    let r = a-beginning (length o) s.sheet.now d.if1.false in
+    let r = a-beginning (length o) s.sheet.now d.if-out-lt-ROOM.false in
     let e = l.header.ensures in
     let n = l.header.result.length in
-    let w = l.header.new.1.0 in
-    (subst (λ (x : List ℕ). Put o 0 x n w) r.0 e.0.0, (omega (arith, e.0.1, d.if1.false), e.1 ∙ r.1))
+    let w = l.header.new.out in
+    (subst (λ (x : List ℕ). Put o 0 x n w) r.0 e.0.0, (omega (arith, e.0.1, d.if-out-lt-ROOM.false), e.1 ∙ r.1))
 
-pub begin-spec : {M : Type 1} → statement M
-begin-spec = tie.close (tie.spec nothing-requires returns header-requires same_length returns-2)
+pub begin_spec : {M : Type 1} → statement M
+begin_spec = tie.close (tie.spec nothing-requires returns header-requires same_length returns-2)

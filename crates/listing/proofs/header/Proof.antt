@@ -8,49 +8,49 @@ use Rattle.listing.proofs.header.Statement.{statement}
 use Rattle.listing.proofs.header.Tie as tie
 
 -- the header is put
-header : (c : tie.After-put-header) → Within c.before.before.before.before.args.out.now 0 24 header_text c.put-header.result
-    c.put-header.new.0
+header : (c : tie.After-put_header-a) → Within c.before.before.before.before.args.out.now 0 24 header_text c.put_header-a.result
+    c.put_header-a.new.out
 header c =
     let s = c.before.before.before.before in
-    within_more 24 (within_none s.args.out.now 0) c.put-header.ensures (omega (arith, header-length)) (omega (arith, s.requires))
+    within_more 24 (within_none s.args.out.now 0) c.put_header-a.ensures (omega (arith, header-length)) (omega (arith, s.requires))
 
-put-header-requires : tie.Need-put-header-requires
+put-header-requires : tie.Need-put_header-a-requires
 put-header-requires c κs = search rules
 
-put-refused-requires : tie.Need-put-refused-requires
+put-refused-requires : tie.Need-put_refused-requires
 put-refused-requires c κs =
     let h = c.before.before.before.before in let s = h.before.before.before.before in omega (arith, (header h).most, (header h).same, s.requires)
 
-same_length : tie.Need-same-length
+same_length : tie.Need-shape_of-out-then-sheet-gt32768
 same_length c = search rules
 
-returns : tie.Need-returns
+returns : tie.Need-returns-then-sheet-gt32768
 returns c =
     let h = c.before.before.before.before.before.before.before in
     let s = h.before.before.before.before in
-    let b = begins-long s.args.sheet.now c.before.before.before.before.if1.true in
-    let e = c.before.before.Put-refused.ensures in
+    let b = begins-long s.args.sheet.now c.before.before.before.before.if-sheet-gt32768.true in
+    let e = c.before.before.put_refused.ensures in
     let w = header h in (
       (
-        subst (λ (t : List ℕ). Put s.args.out.now 0 t c.before.before.Put-refused.result c.before.before.Put-refused.new.0) b.0
+        subst (λ (t : List ℕ). Put s.args.out.now 0 t c.before.before.put_refused.result c.before.before.put_refused.new.out) b.0
             (put-more w.put e.0 (omega (arith, w.most, s.requires))),
         omega (arith, w.most, e.1),
       ),
       b.1,
     )
 
-same-length-2 : tie.Need-same-length-2
+same-length-2 : tie.Need-shape_of-out
 same-length-2 c = search rules
 
-returns-2 : tie.Need-returns-2
+returns-2 : tie.Need-returns
 returns-2 c =
     let h = c.before.before.before in
     let s = h.before.before.before.before in
-    let b = begins s.args.sheet.now c.if1.false in
+    let b = begins s.args.sheet.now c.if-sheet-gt32768.false in
     let w = header h in
-    ((subst (λ (t : List ℕ). Put s.args.out.now 0 t h.put-header.result h.put-header.new.0) b.0 w.put, omega (arith, w.most)), b.1)
+    ((subst (λ (t : List ℕ). Put s.args.out.now 0 t h.put_header-a.result h.put_header-a.new.out) b.0 w.put, omega (arith, w.most)), b.1)
 
-pub header-spec : {M : Type 1} → statement M
-header-spec =
+pub header_spec : {M : Type 1} → statement M
+header_spec =
     tie.close
     (tie.spec put-header-requires put-refused-requires same_length returns same-length-2 returns-2)
