@@ -5,7 +5,6 @@ use mathlib.Core.List.{List}
 use native.Mathlib.Omega.{arith}
 use lib.Ieee.{Float}
 use borrow.Author.Rules.{rules}
-use borrow.Author.Tests.{not-true, not-false}
 use Rattle.octets.specs.Same.{same_bytes}
 use Rattle.near_reading.specs.Answer.{near_message}
 use Rattle.recordings.specs.declared.Chosen.TheVariants.{Neither}
@@ -63,22 +62,22 @@ module _ (c : tie.After-slice_known-4-1) where
   second-turned-down h = refused k b ys two q s.requires.1 h2.read_figures-q.ensures.0 h
 
   -- the bytes afterwards
-  left : (h1.read_figures-p.last.message ≡ near_message k b xs one) × (h2.read_figures-q.last.message ≡ near_message k b ys two)
+  left : (h1.read_figures-p.new.message ≡ near_message k b xs one) × (h2.read_figures-q.new.message ≡ near_message k b ys two)
   left = (h1.read_figures-p.ensures.1, h2.read_figures-q.ensures.1)
 
 -- both are near, and their messages compared
 module _ (c : tie.After-same_bytes) where
   abbrev e : tie.Else-q-ge-REFUSED-2
-  e = c.before.before.before
+  e = c.before
 
   abbrev r : tie.After-slice_known-4-1
   r = e.before.before
 
   first : Heard (k r) (b r) (xs r) (one r) (p r)
-  first = first-heard r e.before.if-p-ge-REFUSED.left
+  first = first-heard r e.before.if-p-ge-REFUSED.false
 
   second : Heard (k r) (b r) (ys r) (two r) (q r)
-  second = second-heard r e.if-q-ge-REFUSED-2.left
+  second = second-heard r e.if-q-ge-REFUSED-2.false
 
   compared : c.same_bytes.result ≡ same_bytes (recording_message (k r) (b r) (xs r)) (recording_message (k r) (b r) (ys r))
   compared = c.same_bytes.ensures ∙ ap₂ same_bytes ((left r).0 ∙ first.message) ((left r).1 ∙ second.message)
@@ -141,7 +140,7 @@ returns-4 : tie.Need-returns-then-not-same_bytes
 returns-4 c =
     let a = c.before in
     let x = r a in (
-      at-odds (k x) (b x) (xs x) (ys x) (first a).number (second a).number (sym (compared a) ∙ not-true a.same_bytes.result c.if-not-same_bytes.true),
+      at-odds (k x) (b x) (xs x) (ys x) (first a).number (second a).number (sym (compared a) ∙ c.if-not-same_bytes.true),
       left x,
     )
 
@@ -156,7 +155,7 @@ returns-5 c =
     let f = c.before in
     let a = f.before in
     let x = r a in (
-      second-closer (k x) (b x) (xs x) (ys x) (first a).number (second a).number (sym (compared a) ∙ not-false a.same_bytes.result f.if-not-same_bytes.false)
+      second-closer (k x) (b x) (xs x) (ys x) (first a).number (second a).number (sym (compared a) ∙ f.if-not-same_bytes.false)
           (omega (arith, (first a).distance, (second a).distance, c.if-q-p.true)),
       left x,
     )
@@ -172,7 +171,7 @@ returns-6 c =
     let f = c.before in
     let a = f.before in
     let x = r a in (
-      first-closer (k x) (b x) (xs x) (ys x) (first a).number (second a).number (sym (compared a) ∙ not-false a.same_bytes.result f.if-not-same_bytes.false)
+      first-closer (k x) (b x) (xs x) (ys x) (first a).number (second a).number (sym (compared a) ∙ f.if-not-same_bytes.false)
           (omega (arith, (first a).distance, (second a).distance, c.if-q-p.false)),
       left x,
     )
