@@ -1,4 +1,6 @@
 // The listing of a sheet, from one file into another. What the system answers is not known; what is made of its answers is.
+#![tactic(auto)]
+
 ghost use Rattle.std.specs.Prelude.{◌≡◌, true, ◌+◌, ◌^◌, ◌<◌, length};
 ghost use Rattle.listing.specs.Listing.{listing_of};
 ghost use Rattle.listing.specs.Places.{place_after, listed_to};

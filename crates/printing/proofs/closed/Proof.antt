@@ -16,5 +16,5 @@ not-below (negsuc n) = refl
 returns : tie.Need-returns
 returns c = rw (to_z-of_z c.ranges.answer) (not-below c.args.answer)
 
-pub closed-spec : {M : Type 1} → statement M
-closed-spec = tie.close (tie.spec returns)
+pub closed_spec : {M : Type 1} → statement M
+closed_spec = tie.close (tie.spec returns)

@@ -4,11 +4,11 @@ use borrow.Author.Tests.{not-true, not-false}
 use Rattle.printing.proofs.goes_on.Statement.{statement}
 use Rattle.printing.proofs.goes_on.Tie as tie
 
-returns : tie.Need-returns
-returns c = let p = c.before.before.before.args.printed in simp (not-true p.whole c.if1.true)
+returns : tie.Need-returns-then-not-printed
+returns c = let p = c.before.before.before.args.printed in simp (not-true p.whole c.if-not-printed.true)
 
-returns-2 : tie.Need-returns-2
-returns-2 c = let p = c.before.before.before.before.args.printed in simp (not-false p.whole c.before.if1.false)
+returns-2 : tie.Need-returns
+returns-2 c = let p = c.before.before.before.before.args.printed in simp (not-false p.whole c.before.if-not-printed.false)
 
-pub goes-on-spec : {M : Type 1} → statement M
-goes-on-spec = tie.close (tie.spec returns returns-2)
+pub goes_on_spec : {M : Type 1} → statement M
+goes_on_spec = tie.close (tie.spec returns returns-2)
