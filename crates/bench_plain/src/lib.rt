@@ -1,6 +1,8 @@
 // Sending by document 01's mask test at every position, as other languages call it: the old way, which request E3 compares sending by whole words of
 // the levels with. Only the leader is made another way than in `sending`. A slice passes as a pointer and a length; `plain.h` says what a caller has to
 // see to.
+#![tactic(auto)]
+
 ghost use Rattle.std.specs.Prelude.{◌≡◌, true, ◌+◌, ◌*◌, ◌^◌, ◌<◌, ◌≤◌, length, get_or, pos};
 ghost use Rattle.bits.specs.Message.{message_bit};
 ghost use Rattle.e8.specs.Energy.{energy as energyOf};

@@ -1,4 +1,6 @@
 // The reader of records (request E11): the record at a place of a buffer, its frame tested strictly under the record's number.
+#![tactic(auto)]
+
 ghost use Rattle.std.specs.Prelude.{◌≡◌, true, ◌+◌, ◌*◌, ◌^◌, ◌≤◌, length, drop};
 ghost use Rattle.frames.specs.Kind.{is_kind};
 ghost use Rattle.frames.specs.Reading.{strict_refusal, message_after, energy_read};

@@ -14,75 +14,75 @@ use Rattle.bench_plain.proofs.number_at.Statement.{statement}
 use Rattle.bench_plain.proofs.number_at.Tie as tie
 
 -- the width is small, and the number lies among the block's bits
-record Fit (c : tie.After-width) : Type 0 where
-  narrow : c.width.result ≤ 5
-  inside : total (take c.before.before.args.o (widths c.before.before.args.grade)) + c.width.result ≤ 8 * c.before.before.args.grade
+record Fit (c : tie.After-width-w) : Type 0 where
+  narrow : c.width-w.result ≤ 5
+  inside : total (take c.before.before.args.o (widths c.before.before.args.grade)) + c.width-w.result ≤ 8 * c.before.before.args.grade
 
-fit : (c : tie.After-width) → Fit c
+fit : (c : tie.After-width-w) → Fit c
 fit c =
     let s = c.before.before in
     let b = s.args.grade in
     let o = s.args.o in
-    let e = c.width.ensures in record {
+    let e = c.width-w.ensures in record {
       narrow = omega (arith, e, width_small b o s.requires.1 s.requires.2);
       inside = omega (arith, e, total-suc (widths b) o s.requires.2, total-le (widths b) (suc o), total-widths b s.requires.0);
     }
 
-width-requires : tie.Need-width-requires
+width-requires : tie.Need-width-w-requires
 width-requires c κs = search rules
 
-bits-at-requires : tie.Need-bits-at-requires
+bits-at-requires : tie.Need-bits_at-requires
 bits-at-requires c κs =
     let f = fit c.before in
     let s = c.before.before.before in
     (omega (arith, f.narrow), omega (arith, f.narrow), omega (arith, f.inside, s.requires.4))
 
-returns : tie.Need-returns
+returns : tie.Need-returns-then-o-eq0
 returns c =
     let t = c.before in
     let s = t.before.before.before in
-    let z : s.args.from ≡ s.args.from + total (take s.args.o (widths s.args.grade)) = rw t.if1.true (omega arith) in
+    let z : s.args.from ≡ s.args.from + total (take s.args.o (widths s.args.grade)) = rw t.if-o-eq0.true (omega arith) in
     c.bits_at.ensures
-    ∙ number_is (message_bit s.args.message.now) s.args.from s.args.grade s.args.o _ _ s.requires.2 t.before.width.ensures z
+    ∙ number_is (message_bit s.args.message.now) s.args.from s.args.grade s.args.o _ _ s.requires.2 t.before.width-w.ensures z
 
 -- where the number begins, behind the first
-later : (c : tie.Else1) → let s = c.before.before.before in total (take s.args.o (widths s.args.grade)) ≡ s.args.grade * s.args.o - 1
-later c = let s = c.before.before.before in begins s.args.grade s.args.o s.requires.0 (omega (arith, c.if1.false)) s.requires.2
+later : (c : tie.Else-o-eq0) → let s = c.before.before.before in total (take s.args.o (widths s.args.grade)) ≡ s.args.grade * s.args.o - 1
+later c = let s = c.before.before.before in begins s.args.grade s.args.o s.requires.0 (omega (arith, c.if-o-eq0.false)) s.requires.2
 
 -- and that is small
-small : (c : tie.Else1) → let s = c.before.before.before in (1 ≤ s.args.grade * s.args.o) × (s.args.grade * s.args.o ≤ 32)
+small : (c : tie.Else-o-eq0) → let s = c.before.before.before in (1 ≤ s.args.grade * s.args.o) × (s.args.grade * s.args.o ≤ 32)
 small c =
     let s = c.before.before.before in
     let b = s.args.grade in
     let o = s.args.o in (
-      mul-le-mul {n₁ = 1} {m₁ = 1} {n₂ = b} {m₂ = o} s.requires.0 (omega (arith, c.if1.false)),
+      mul-le-mul {n₁ = 1} {m₁ = 1} {n₂ = b} {m₂ = o} s.requires.0 (omega (arith, c.if-o-eq0.false)),
       mul-le-mul {n₁ = b} {m₁ = o} {n₂ = 4} {m₂ = 8} s.requires.1 (omega (arith, s.requires.2)),
     )
 
-mul-bits-at : tie.Need-overflow-mul-bits-at
+mul-bits-at : tie.Need-overflow_mul-grade
 mul-bits-at c = record { fits = omega (arith, (small c).1) }
 
-add-bits-at : tie.Need-overflow-add-bits-at
+add-bits-at : tie.Need-overflow_add-from
 add-bits-at c = record { fits = omega (arith, (small c).1, c.before.before.before.requires.3) }
 
-sub-bits-at : tie.Need-overflow-sub-bits-at
+sub-bits-at : tie.Need-overflow_sub-from
 sub-bits-at c = omega (arith, (small c).0)
 
-bits-at-requires-2 : tie.Need-bits-at-requires-2
+bits-at-requires-2 : tie.Need-bits_at-requires-2
 bits-at-requires-2 c κs =
     let f = fit c.before in
     (omega (arith, f.narrow), omega (arith, f.narrow), omega (arith, f.inside, later c, (small c).0, c.before.before.before.requires.4))
 
-returns-2 : tie.Need-returns-2
+returns-2 : tie.Need-returns
 returns-2 c =
     let t = c.before in
     let s = t.before.before.before in
-    c.bits-at2.ensures
-    ∙ number_is (message_bit s.args.message.now) s.args.from s.args.grade s.args.o _ _ s.requires.2 t.before.width.ensures
+    c.bits_at-2.ensures
+    ∙ number_is (message_bit s.args.message.now) s.args.from s.args.grade s.args.o _ _ s.requires.2 t.before.width-w.ensures
     (omega (arith, later t, (small t).0))
 
-pub number-at-spec : {M : Type 1} → statement M
-number-at-spec =
+pub number_at_spec : {M : Type 1} → statement M
+number_at_spec =
     tie.close
     (tie.spec
     width-requires

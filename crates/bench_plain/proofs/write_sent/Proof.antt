@@ -6,17 +6,17 @@ use borrow.Author.Rules.{rules}
 use Rattle.bench_plain.proofs.write_sent.Statement.{statement}
 use Rattle.bench_plain.proofs.write_sent.Tie as tie
 
-write-leader-requires : tie.Need-write-leader-requires
+write-leader-requires : tie.Need-write_leader-requires
 write-leader-requires c κs = search rules
 
-shape-leader-requires : tie.Need-shape-leader-requires
+shape-leader-requires : tie.Need-shape_leader-sent-requires
 shape-leader-requires c κs =
     let l = c.before.before in
     let s = l.before.before.before in
-    let t = leader-takes s.args.kind s.args.grade s.args.message.now _ l.write-leader.ensures s.requires.0 s.requires.2 in
+    let t = leader-takes s.args.kind s.args.grade s.args.message.now _ l.write_leader.ensures s.requires.0 s.requires.2 in
     (s.requires.0, s.requires.1, s.requires.2, t.0, t.1)
 
-same_length : tie.Need-same-length
+same_length : tie.Need-shape_of-frame
 same_length c = search rules
 
 returns : tie.Need-returns
@@ -24,9 +24,9 @@ returns c =
     let h = c.before in
     let l = h.before.before.before in
     let s = l.before.before.before in
-    let e = h.shape-leader.ensures in
-    let is = sent_is s.args.kind s.args.grade s.args.message.now _ l.write-leader.ensures s.args.number in
+    let e = h.shape_leader-sent.ensures in
+    let is = sent_is s.args.kind s.args.grade s.args.message.now _ l.write_leader.ensures s.args.number in
     (e.0 ∙ is, e.1.0 ∙ ap energy is)
 
-pub write-sent-spec : {M : Type 1} → statement M
-write-sent-spec = tie.close (tie.spec write-leader-requires shape-leader-requires same_length returns)
+pub write_sent_spec : {M : Type 1} → statement M
+write_sent_spec = tie.close (tie.spec write-leader-requires shape-leader-requires same_length returns)

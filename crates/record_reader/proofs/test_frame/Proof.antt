@@ -12,35 +12,35 @@ use Rattle.four_bytes.specs.FourBytes.{coordinates_from}
 use Rattle.record_reader.proofs.test_frame.Statement.{statement}
 use Rattle.record_reader.proofs.test_frame.Tie as tie
 
-abbrev start : tie.After-take-coordinates → tie.Start
+abbrev start : tie.After-take_coordinates → tie.Start
 start t = t.before.before.before.before
 
 -- what is taken
-taken : (t : tie.After-take-coordinates)
-    → let a = (start t).args in t.take-coordinates.new.1.1.0 ≡ coordinates_from (2 ^ a.kind) (drop a.p a.s.now)
+taken : (t : tie.After-take_coordinates)
+    → let a = (start t).args in t.take_coordinates.new.frame ≡ coordinates_from (2 ^ a.kind) (drop a.p a.s.now)
 taken t =
     let s = start t in
     let a = s.args in
-    t.take-coordinates.ensures ∙ ap (λ (n : ℕ). coordinates_from n (drop a.p a.s.now)) s.pre.1
+    t.take_coordinates.ensures ∙ ap (λ (n : ℕ). coordinates_from n (drop a.p a.s.now)) s.requires.1
 
-take-coordinates-requires : tie.Need-take-coordinates-requires
+take-coordinates-requires : tie.Need-take_coordinates-requires
 take-coordinates-requires c κs =
     let s = c.before.before.before in
     (omega (arith, s.requires.1, whole-blocks s.args.kind s.requires.0), s.requires.2)
 
-read-whole-requires : tie.Need-read-whole-requires
+read-whole-requires : tie.Need-read_whole-requires
 read-whole-requires c κs = search rules
 
-same_length : tie.Need-same-length
+same_length : tie.Need-shape_of-copy
 same_length c = search rules
 
-same-length-2 : tie.Need-same-length-2
+same-length-2 : tie.Need-shape_of-message
 same-length-2 c = search rules
 
 returns : tie.Need-returns
 returns c =
     let r = c.before.before in
-    let t = r.before.before.before.before in
+    let t = r.before.before.before in
     let a = (start t).args in
     let e = r.read_whole.ensures in (
       e.0 ∙ ap (λ (f : List ℤ). strict_refusal a.kind a.grade 0 a.number f (length a.message.now)) (taken t),
@@ -53,7 +53,7 @@ returns c =
       ),
     )
 
-pub test-frame-spec : {M : Type 1} → statement M
-test-frame-spec =
+pub test_frame_spec : {M : Type 1} → statement M
+test_frame_spec =
     tie.close
     (tie.spec take-coordinates-requires read-whole-requires same_length same-length-2 returns)
