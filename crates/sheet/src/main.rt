@@ -1,4 +1,6 @@
 // The sheet program: the listing of the sheet on standard input.
+#![tactic(auto)]
+
 const STDOUT: i32 = 1;
 
 fn main(rt: HostRuntime) {

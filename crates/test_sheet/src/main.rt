@@ -1,6 +1,8 @@
 // Prints the listings of the sheets in data/sheets.bin, by the loop that the sheet program runs, each after a line with its number.
 // What it prints is held to what a coder that was written apart lists (tools/second-coder, which writes the sheets and stdout). Before,
 // it lists an empty sheet and two long ones from files of their own, as the sheet program does.
+#![tactic(auto)]
+
 ghost use Rattle.std.specs.Prelude.{◌≤◌};
 
 use std::os::fd::AsRawFd;
