@@ -2,6 +2,8 @@
 // writes data/vectors.bin). Each vector is sent under its number, read back openly and strictly, strictly too under the number beside its
 // own, which has the other parity, and read again with a lattice point added, for which the other coder has the energy too, and with a
 // coordinate moved out of the coding set. It prints how many passed each check, after a line for each that did not.
+#![tactic(auto)]
+
 mod checks;
 mod record;
 

@@ -12,87 +12,87 @@ use borrow.Author.Rules.{rules}
 use Rattle.test_vectors.proofs.checks.answers.Statement.{statement}
 use Rattle.test_vectors.proofs.checks.answers.Tie as tie
 
-mark-bytes-requires : tie.Need-mark-bytes-requires
+mark-bytes-requires : tie.Need-mark_bytes-out-requires
 mark-bytes-requires c κs = search rules
 
-mark-bytes-requires-2 : tie.Need-mark-bytes-requires-2
+mark-bytes-requires-2 : tie.Need-mark_bytes-as_lent-requires
 mark-bytes-requires-2 c κs = search rules
 
-number_is : (t : tie.After-read) → (let s = t.before.before.before.before.before.args in
-    t.read.result.number ≡ read_refusal s.strict s.u s.frame.now s.n)
+number_is : (t : tie.After-read-r) → (let s = t.args in
+    t.read-r.result.number ≡ read_refusal s.strict s.u s.frame.now s.n)
 number_is t =
-    let s = t.before.before.before.before.before.args in
-    let o = t.before.before.before.before in
+    let s = t.args in
+    let o = t in
     let e : s.n - 0 ≡ s.n = omega arith in
-    t.read.ensures.0
-    ∙ ap (read_refusal s.strict s.u s.frame.now) (mid_len 0 s.n o.mark-bytes.result (omega (arith, o.mark-bytes.ensures.1)) ∙ e)
+    t.read-r.ensures.0
+    ∙ ap (read_refusal s.strict s.u s.frame.now) (mid_len 0 s.n o.mark_bytes-out.result (omega (arith, o.mark_bytes-out.ensures.1)) ∙ e)
 
-returns : tie.Need-returns
-returns c = let s = c.before.before.before.args in no_room s.strict s.u s.frame.now s.n s.number c.if1.true
+returns : tie.Need-returns-then-n-gt48
+returns c = let s = c.args in no_room s.strict s.u s.frame.now s.n s.number c.if-n-gt48.true
 
-sub_read : tie.Need-overflow-sub-read
+sub_read : tie.Need-slice_bounds-read-count
 sub_read c = search rules
 
-part-out-start : tie.Need-slice-bounds-out-start
+part-out-start : tie.Need-slice_bounds-out-start
 part-out-start c = search rules
 
-part-out-end : tie.Need-slice-bounds-out-end
+part-out-end : tie.Need-slice_bounds-out-end
 part-out-end c = search rules
 
-read-requires : tie.Need-read-requires
+read-requires : tie.Need-read-r-requires
 read-requires c κs = search rules
 
-returns-2 : tie.Need-returns-2
+returns-2 : tie.Need-returns-then-r-number
 returns-2 c =
     let t = c.before.before.before in
-    let s = t.before.before.before.before.before.args in
-    other-number s.strict s.u s.frame.now s.n s.number t.before.before.if1.false t.read.result.number (number_is t) c.if2.true
+    let s = t.args in
+    other-number s.strict s.u s.frame.now s.n s.number t.if-n-gt48.false t.read-r.result.number (number_is t) c.if-r-number.true
 
-returns-3 : tie.Need-returns-3
+returns-3 : tie.Need-returns-then-number-eq0
 returns-3 c =
     let t = c.before.before.before.before in
-    let s = t.before.before.before.before.before.args in
-    that-number s.strict s.u s.frame.now s.n s.number t.before.before.if1.false t.read.result.number (number_is t)
-    c.before.if2.false
+    let s = t.args in
+    that-number s.strict s.u s.frame.now s.n s.number t.if-n-gt48.false t.read-r.result.number (number_is t)
+    c.if-r-number.false
 
-returns-4 : tie.Need-returns-4
+returns-4 : tie.Need-returns-then-r-ne0
 returns-4 c =
-    let e = c.before.before in
-    let t = e.before.before.before.before in
-    let s = t.before.before.before.before.before.args in
-    let r = t.read.result in
-    absurd (c.if4.true (t.read.ensures.1.1 ∙ no-energy r.number s.frame.now (λ z. e.if3.false (sym e.before.if2.false ∙ z))))
+    let e = c in
+    let t = e in
+    let s = t.args in
+    let r = t.read-r.result in
+    absurd (c.if-r-ne0.true (t.read-r.ensures.1.1 ∙ no-energy r.number s.frame.now (λ z. e.if-number-eq0.false (sym e.if-r-number.false ∙ z))))
 
-slice-aggregate-same-bytes : tie.Need-slice-aggregate-same-bytes
+slice-aggregate-same-bytes : tie.Need-slice_bounds-same_bytes-end
 slice-aggregate-same-bytes c =
-    let t = c.before.before.before.before.before.before.before in
-    let o = t.before.before.before.before in
-    let n = t.before.before.before.before.before.args.n in
-    sym (same_len_mid 0 (n - 0) o.mark-bytes.result t.read.new.1.1.1.0 t.read.auto.1.1.1.0 ∙ o.mark-bytes.ensures.1)
+    let t = c in
+    let o = t in
+    let n = t.args.n in
+    sym (same_len_mid 0 (n - 0) o.mark_bytes-out.result t.read-r.new.message t.read-r.auto.message ∙ o.mark_bytes-out.ensures.1)
 
-slice-aggregate-same-bytes-2 : tie.Need-slice-aggregate-same-bytes-2
+slice-aggregate-same-bytes-2 : tie.Need-slice_bounds-same_bytes-end-2
 slice-aggregate-same-bytes-2 c = search rules
 
-same-bytes-requires : tie.Need-same-bytes-requires
+same-bytes-requires : tie.Need-same_bytes-requires
 same-bytes-requires c κs = search rules
 
-returns-5 : tie.Need-returns-5
+returns-5 : tie.Need-returns
 returns-5 c =
-    let e = c.before.before.before.before.before in
+    let e = c in
     let t = e.before.before.before.before in
-    let s = t.before.before.before.before.before.args in
-    let r = t.read.result in
-    let a = t.before.before.before in
-    let out = a.before.mark-bytes.result in
-    let x = t.read.new.1.1.1.0 in
-    let refuses : r.number ≡ 0 → ⊥ = λ z. e.if3.false (sym e.before.if2.false ∙ z) in
-    let stays = t.read.ensures.1.0 ∙ as_lent r.number s.u.kind s.u.grade 0 s.frame.now (take (s.n - 0) out) refuses in
-    let all = ap (put_mid 0 (s.n - 0) out) stays ∙ put_same 0 (s.n - 0) out ∙ a.before.mark-bytes.ensures.0 ∙ sym a.mark-bytes2.ensures.0 in
+    let s = t.args in
+    let r = t.read-r.result in
+    let a = t in
+    let out = a.mark_bytes-out.result in
+    let x = t.read-r.new.message in
+    let refuses : r.number ≡ 0 → ⊥ = λ z. e.if-number-eq0.false (sym e.if-r-number.false ∙ z) in
+    let stays = t.read-r.ensures.1.0 ∙ as_lent r.number s.u.kind s.u.grade 0 s.frame.now (take (s.n - 0) out) refuses in
+    let all = ap (put_mid 0 (s.n - 0) out) stays ∙ put_same 0 (s.n - 0) out ∙ a.mark_bytes-out.ensures.0 ∙ sym a.mark_bytes-as_lent.ensures.0 in
     c.same_bytes.ensures ∙ sym (bytes-equal all)
-    ∙ that-number s.strict s.u s.frame.now s.n s.number t.before.before.if1.false r.number (number_is t) e.before.if2.false
+    ∙ that-number s.strict s.u s.frame.now s.n s.number t.if-n-gt48.false r.number (number_is t.before.before.before.before.before) e.if-r-number.false
 
-pub answers-spec : {M : Type 1} → statement M
-answers-spec =
+pub answers_spec : {M : Type 1} → statement M
+answers_spec =
     tie.close
     (tie.spec
     mark-bytes-requires

@@ -9,18 +9,18 @@ use Rattle.test_vectors.proofs.checks.equivalent.Tie as tie
 reads-requires : tie.Need-reads-requires
 reads-requires c κs = search rules
 
-returns : tie.Need-returns
+returns : tie.Need-returns-then-not-reads
 unfolding is_equivalent
-returns c = rw (sym c.before.reads.ensures ∙ not-true c.before.reads.result c.if1.true) refl
+returns c = rw (sym c.reads.ensures ∙ c.if-not-reads.true) refl
 
 answers-requires : tie.Need-answers-requires
 answers-requires c κs = search rules
 
-returns-2 : tie.Need-returns-2
+returns-2 : tie.Need-returns
 unfolding is_equivalent
 returns-2 c =
-    let t = c.before.before in
-    rw (sym t.reads.ensures ∙ not-false t.reads.result c.before.if1.false) c.answers.ensures
+    let t = c in
+    rw (sym t.reads.ensures ∙ c.if-not-reads.false) c.answers.ensures
 
-pub equivalent-spec : {M : Type 1} → statement M
-equivalent-spec = tie.close (tie.spec reads-requires returns answers-requires returns-2)
+pub equivalent_spec : {M : Type 1} → statement M
+equivalent_spec = tie.close (tie.spec reads-requires returns answers-requires returns-2)

@@ -22,49 +22,49 @@ reads-requires-2 c κs = search rules
 judge-requires-3 : tie.Need-judge-requires-3
 judge-requires-3 c κs = search rules
 
-hold-other-requires : tie.Need-hold-other-requires
+hold-other-requires : tie.Need-hold_other-requires
 hold-other-requires c κs = search rules
 
-returns : tie.Need-returns
+returns : tie.Need-returns-then-frame-lt8
 returns c =
-    let d = c.before in
-    let c₃ = d.before.before in
-    let c₂ = c₃.before.before.before in
-    let c₁ = c₂.before.before.before in
-    let s = c₁.before.before.before.before.args in
-    too_short s.u s.message.now s.frame.now s.energies s.tally.now c₁.judge.ensures c₁.before.sends.ensures c₂.judge2.ensures
-    c₂.before.reads.ensures c₃.judge3.ensures c₃.before.reads2.ensures d.hold-other.ensures c.if1.true
+    let d = c in
+    let c₃ = d in
+    let c₂ = c₃ in
+    let c₁ = c₂ in
+    let s = c₁.args in
+    too_short s.u s.message.now s.frame.now s.energies s.tally.now c₁.judge.ensures c₁.sends.ensures c₂.judge-2.ensures
+    c₂.reads.ensures c₃.judge-3.ensures c₃.reads-2.ensures d.hold_other.ensures c.if-frame-lt8.true
 
-returns-2 : tie.Need-returns-2
+returns-2 : tie.Need-returns-then-frame-gt64
 returns-2 c =
-    let d = c.before.before in
-    let c₃ = d.before.before in
-    let c₂ = c₃.before.before.before in
-    let c₁ = c₂.before.before.before in
-    let s = c₁.before.before.before.before.args in
-    too_long s.u s.message.now s.frame.now s.energies s.tally.now c₁.judge.ensures c₁.before.sends.ensures c₂.judge2.ensures
-    c₂.before.reads.ensures c₃.judge3.ensures c₃.before.reads2.ensures d.hold-other.ensures c.before.if1.false c.if2.true
+    let d = c in
+    let c₃ = d in
+    let c₂ = c₃ in
+    let c₁ = c₂ in
+    let s = c₁.args in
+    too_long s.u s.message.now s.frame.now s.energies s.tally.now c₁.judge.ensures c₁.sends.ensures c₂.judge-2.ensures
+    c₂.reads.ensures c₃.judge-3.ensures c₃.reads-2.ensures d.hold_other.ensures c.if-frame-lt8.false c.if-frame-gt64.true
 
-hold-points-requires : tie.Need-hold-points-requires
+hold-points-requires : tie.Need-hold_points-requires
 hold-points-requires c κs = search rules
 
-hold-broken-requires : tie.Need-hold-broken-requires
+hold-broken-requires : tie.Need-hold_broken-requires
 hold-broken-requires c κs = search rules
 
-returns-3 : tie.Need-returns-3
+returns-3 : tie.Need-returns
 returns-3 c =
-    let p = c.before.before in
-    let o = p.before.before in
-    let d = o.before.before in
-    let c₃ = d.before.before in
-    let c₂ = c₃.before.before.before in
-    let c₁ = c₂.before.before.before in
-    let s = c₁.before.before.before.before.args in
-    with_blocks s.u s.message.now s.frame.now s.energies s.tally.now c₁.judge.ensures c₁.before.sends.ensures c₂.judge2.ensures
-    c₂.before.reads.ensures c₃.judge3.ensures c₃.before.reads2.ensures d.hold-other.ensures o.before.if1.false o.if2.false p.hold-points.ensures c.hold-broken.ensures
+    let p = c in
+    let o = p in
+    let d = o in
+    let c₃ = d in
+    let c₂ = c₃ in
+    let c₁ = c₂ in
+    let s = c₁.args in
+    with_blocks s.u s.message.now s.frame.now s.energies s.tally.now c₁.judge.ensures c₁.sends.ensures c₂.judge-2.ensures
+    c₂.reads.ensures c₃.judge-3.ensures c₃.reads-2.ensures d.hold_other.ensures o.if-frame-lt8.false o.if-frame-gt64.false p.hold_points.ensures c.hold_broken.ensures
 
-pub hold-spec : {M : Type 1} → statement M
-hold-spec =
+pub hold_spec : {M : Type 1} → statement M
+hold_spec =
     tie.close
     (tie.spec
     sends-requires

@@ -10,11 +10,11 @@ breaks-requires c κs = search rules
 judge-requires : tie.Need-judge-requires
 judge-requires c κs = search rules
 
-returns : tie.Need-returns
+returns : tie.Need-returns-then-u-eq3
 returns c =
-    let j = c.before.before in
-    let s = j.before.before.before.before.args in
-    broken-one s.u s.message.now s.frame.now s.tally.now j.judge.ensures j.before.breaks.ensures c.if1.true
+    let j = c in
+    let s = j.args in
+    broken-one s.u s.message.now s.frame.now s.tally.now j.judge.ensures j.breaks.ensures c.if-u-eq3.true
 
 breaks-requires-2 : tie.Need-breaks-requires-2
 breaks-requires-2 c κs = search rules
@@ -22,14 +22,14 @@ breaks-requires-2 c κs = search rules
 judge-requires-2 : tie.Need-judge-requires-2
 judge-requires-2 c κs = search rules
 
-returns-2 : tie.Need-returns-2
+returns-2 : tie.Need-returns-then-u-ne6
 returns-2 c =
-    let k = c.before.before in
-    let o = k.before.before.before in
-    let j = o.before.before in
-    let s = j.before.before.before.before.args in
-    broken-two s.u s.message.now s.frame.now s.tally.now j.judge.ensures j.before.breaks.ensures o.if1.false
-    k.judge2.ensures k.before.breaks2.ensures c.if2.true
+    let k = c in
+    let o = k in
+    let j = o in
+    let s = j.args in
+    broken-two s.u s.message.now s.frame.now s.tally.now j.judge.ensures j.breaks.ensures o.if-u-eq3.false
+    k.judge-2.ensures k.breaks-2.ensures c.if-u-ne6.true
 
 breaks-requires-3 : tie.Need-breaks-requires-3
 breaks-requires-3 c κs = search rules
@@ -37,18 +37,18 @@ breaks-requires-3 c κs = search rules
 judge-requires-3 : tie.Need-judge-requires-3
 judge-requires-3 c κs = search rules
 
-returns-3 : tie.Need-returns-3
+returns-3 : tie.Need-returns
 returns-3 c =
-    let p = c.before.before.before in
-    let k = p.before.before in
-    let o = k.before.before.before in
-    let j = o.before.before in
-    let s = j.before.before.before.before.args in
-    broken-three s.u s.message.now s.frame.now s.tally.now j.judge.ensures j.before.breaks.ensures o.if1.false
-    k.judge2.ensures k.before.breaks2.ensures p.if2.false c.judge3.ensures c.before.breaks3.ensures
+    let p = c in
+    let k = p in
+    let o = k in
+    let j = o in
+    let s = j.args in
+    broken-three s.u s.message.now s.frame.now s.tally.now j.judge.ensures j.breaks.ensures o.if-u-eq3.false
+    k.judge-2.ensures k.breaks-2.ensures p.if-u-ne6.false c.judge-3.ensures c.breaks-3.ensures
 
-pub hold-broken-spec : {M : Type 1} → statement M
-hold-broken-spec =
+pub hold_broken_spec : {M : Type 1} → statement M
+hold_broken_spec =
     tie.close
     (tie.spec
     breaks-requires

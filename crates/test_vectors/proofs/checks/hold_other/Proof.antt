@@ -18,14 +18,14 @@ reads-requires c κs = search rules
 judge-requires : tie.Need-judge-requires
 judge-requires c κs = search rules
 
-returns : tie.Need-returns
+returns : tie.Need-returns-then-u-eq0
 returns c =
-    let t = c.before in
-    let b = t.before in
-    let s = b.before.before.before.before.before.args in
+    let t = c in
+    let b = t in
+    let s = b.args in
     let f = s.frame.now in
     let m = s.message.now in
-    other-passed s.u m f s.energy s.tally.now b.before.before.if1.true c.judge.ensures
+    other-passed s.u m f s.energy s.tally.now b.if-u-eq0.true c.judge.ensures
     (t.reads.ensures ∙ ap (λ (u : Under). is_read_as true u f m s.energy) b.beside.ensures)
 
 beside-requires-2 : tie.Need-beside-requires-2
@@ -37,18 +37,18 @@ answers-requires c κs = search rules
 judge-requires-2 : tie.Need-judge-requires-2
 judge-requires-2 c κs = search rules
 
-returns-2 : tie.Need-returns-2
+returns-2 : tie.Need-returns
 returns-2 c =
-    let t = c.before in
-    let b = t.before in
-    let s = b.before.before.before.before.before.args in
+    let t = c in
+    let b = t in
+    let s = b.args in
     let f = s.frame.now in
     let m = s.message.now in
-    other-refused s.u m f s.energy s.tally.now b.before.before.if1.false c.judge2.ensures
-    (t.answers.ensures ∙ ap (λ (u : Under). is_answered true u f (length m) s.u.other) b.beside2.ensures)
+    other-refused s.u m f s.energy s.tally.now b.if-u-eq0.false c.judge-2.ensures
+    (t.answers.ensures ∙ ap (λ (u : Under). is_answered true u f (length m) s.u.other) b.beside-2.ensures)
 
-pub hold-other-spec : {M : Type 1} → statement M
-hold-other-spec =
+pub hold_other_spec : {M : Type 1} → statement M
+hold_other_spec =
     tie.close
     (tie.spec
     beside-requires

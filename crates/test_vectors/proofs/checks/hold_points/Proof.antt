@@ -8,19 +8,19 @@ use borrow.Author.Rules.{rules}
 use Rattle.test_vectors.proofs.checks.hold_points.Statement.{statement}
 use Rattle.test_vectors.proofs.checks.hold_points.Tie as tie
 
-scale-requires : tie.Need-scale-requires
+scale-requires : tie.Need-scale-m-requires
 scale-requires c κs = search rules
 
-moved-requires : tie.Need-moved-requires
+moved-requires : tie.Need-moved-whole-requires
 moved-requires c κs = search rules
 
-sub-equivalent : tie.Need-overflow-sub-equivalent
+sub-equivalent : tie.Need-slice_bounds-equivalent-count
 sub-equivalent c = search rules
 
-part-equivalent-start : tie.Need-slice-bounds-equivalent-start
+part-equivalent-start : tie.Need-slice_bounds-equivalent-start
 part-equivalent-start c = search rules
 
-part-equivalent-end : tie.Need-slice-bounds-equivalent-end
+part-equivalent-end : tie.Need-slice_bounds-equivalent-end
 part-equivalent-end c = search rules
 
 equivalent-requires : tie.Need-equivalent-requires
@@ -29,19 +29,19 @@ equivalent-requires c κs = search rules
 judge-requires : tie.Need-judge-requires
 judge-requires c κs = search rules
 
-sub-moved : tie.Need-overflow-sub-moved
+sub-moved : tie.Need-overflow_sub-n
 sub-moved c = search rules
 
-moved-requires-2 : tie.Need-moved-requires-2
+moved-requires-2 : tie.Need-moved-half-requires
 moved-requires-2 c κs = search rules
 
-sub-equivalent-2 : tie.Need-overflow-sub-equivalent-2
+sub-equivalent-2 : tie.Need-slice_bounds-equivalent-count-2
 sub-equivalent-2 c = search rules
 
-part-equivalent-start-2 : tie.Need-slice-bounds-equivalent-start-2
+part-equivalent-start-2 : tie.Need-slice_bounds-equivalent-start-2
 part-equivalent-start-2 c = search rules
 
-part-equivalent-end-2 : tie.Need-slice-bounds-equivalent-end-2
+part-equivalent-end-2 : tie.Need-slice_bounds-equivalent-end-2
 part-equivalent-end-2 c = search rules
 
 equivalent-requires-2 : tie.Need-equivalent-requires-2
@@ -52,21 +52,21 @@ judge-requires-2 c κs = search rules
 
 returns : tie.Need-returns
 returns c =
-    let q = c.before in
-    let half = q.before.before.before.before in
-    let j = half.before in
-    let p = j.before in
-    let whole = p.before.before.before.before in
-    let s = whole.before.before.before.args in
+    let q = c in
+    let half = q in
+    let j = half in
+    let p = j in
+    let whole = p in
+    let s = whole.args in
     let f = s.frame.now in
-    let m = whole.before.scale.result in
-    both-points s.u s.message.now f s.energies s.tally.now whole.before.scale.ensures
-    (first-moved 0 2 m f marked_frame whole.moved.result whole.moved.ensures.0)
-    (first-moved (length f - 8) (length f) (m / 2) f marked_frame half.moved2.result half.moved2.ensures.0)
-    j.judge.ensures p.equivalent.ensures c.judge2.ensures q.equivalent2.ensures
+    let m = whole.scale-m.result in
+    both-points s.u s.message.now f s.energies s.tally.now whole.scale-m.ensures
+    (first-moved 0 2 m f marked_frame whole.moved-whole.result whole.moved-whole.ensures.0)
+    (first-moved (length f - 8) (length f) (m / 2) f marked_frame half.moved-half.result half.moved-half.ensures.0)
+    j.judge.ensures p.equivalent.ensures c.judge-2.ensures q.equivalent-2.ensures
 
-pub hold-points-spec : {M : Type 1} → statement M
-hold-points-spec =
+pub hold_points_spec : {M : Type 1} → statement M
+hold_points_spec =
     tie.close
     (tie.spec
     scale-requires

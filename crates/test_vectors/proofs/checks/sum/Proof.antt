@@ -27,29 +27,29 @@ near : (by : ℕ) (z : ℤ) → lt_z (pos 1073741824) z ≡ false → moved_by b
 unfolding moved_by
 near by z h = rw h refl
 
-returns : tie.Need-returns
+returns : tie.Need-returns-then-z-gt1073741824
 returns c =
-    let s = c.before in
+    let s = c in
     let f = s.ranges.z in
-    to_z-of_z f ∙ sym (far s.args.by s.args.z (rw (to_z-of_z f) at c.if1.true))
+    to_z-of_z f ∙ sym (far s.args.by s.args.z (rw (to_z-of_z f) at c.if-z-gt1073741824.true))
 
-cast-result : tie.Need-overflow-cast-result
+cast-result : tie.Need-overflow_cast-result
 cast-result c = search rules
 
-add-result : tie.Need-overflow-add-result
+add-result : tie.Need-overflow_add-result
 add-result c =
-    let s = c.before in
+    let s = c in
     let f = s.ranges.z in
     let h : s.args.by < 256 = omega arith in
-    rw (to_z-of_z f, to_z_pos w32 {n = s.args.by} (omega arith)) (sum_fits s.args.z s.args.by f (rw (to_z-of_z f) at c.if1.false) h)
+    rw (to_z-of_z f, to_z_pos w32 {n = s.args.by} (omega arith)) (sum_fits s.args.z s.args.by f (rw (to_z-of_z f) at c.if-z-gt1073741824.false) h)
 
-returns-2 : tie.Need-returns-2
+returns-2 : tie.Need-returns
 returns-2 c =
-    let s = c.before in
+    let s = c in
     let f = s.ranges.z in
     let h : s.args.by < 256 = omega arith in
-    let l = rw (to_z-of_z f) at c.if1.false in
+    let l = rw (to_z-of_z f) at c.if-z-gt1073741824.false in
     rw (to_z-of_z f, to_z_pos w32 {n = s.args.by} (omega arith)) (to_z-of_z (sum_fits s.args.z s.args.by f l h) ∙ sym (near s.args.by s.args.z l))
 
-pub sum-spec : {M : Type 1} → statement M
-sum-spec = tie.close (tie.spec returns cast-result add-result returns-2)
+pub sum_spec : {M : Type 1} → statement M
+sum_spec = tie.close (tie.spec returns cast-result add-result returns-2)

@@ -4,56 +4,56 @@ use borrow.Author.Rules.{rules}
 use Rattle.test_vectors.proofs.record.take.Statement.{statement}
 use Rattle.test_vectors.proofs.record.take.Tie as tie
 
-slice-aggregate-read-full : tie.Need-slice-aggregate-read-full
+slice-aggregate-read-full : tie.Need-slice_bounds-read_full-end
 slice-aggregate-read-full c = search rules
 
-read-full-requires : tie.Need-read-full-requires
+read-full-requires : tie.Need-read_full-got-requires
 read-full-requires c κs = search rules
 
-returns : tie.Need-returns
+returns : tie.Need-returns-then-got-eq0
 returns c = as_it_was _
 
 judge-requires : tie.Need-judge-requires
 judge-requires c κs = search rules
 
-returns-2 : tie.Need-returns-2
+returns-2 : tie.Need-returns-then-got-lt8
 returns-2 c = by_one _ _ c.judge.ensures
 
-array-read-size : tie.Need-array-read-size
+array-read-size : tie.Need-bounds-head-0
 array-read-size c = search rules
 
-array-read-t18 : tie.Need-array-read-t18
+array-read-t18 : tie.Need-bounds-head-1
 array-read-t18 c = search rules
 
-sub-count : tie.Need-overflow-sub-count
+sub-count : tie.Need-slice_bounds-count-count
 sub-count c = search rules
 
-part-count-start : tie.Need-slice-bounds-count-start
+part-count-start : tie.Need-slice_bounds-count-start
 part-count-start c = search rules
 
-part-count-end : tie.Need-slice-bounds-count-end
+part-count-end : tie.Need-slice_bounds-count-end
 part-count-end c = search rules
 
 count-requires : tie.Need-count-requires
 count-requires c κs = search rules
 
-array-read-t27 : tie.Need-array-read-t27
+array-read-t27 : tie.Need-bounds-head-7
 array-read-t27 c = search rules
 
-array-read-size-2 : tie.Need-array-read-size-2
+array-read-size-2 : tie.Need-bounds-head-2
 array-read-size-2 c = search rules
 
 size-requires : tie.Need-size-requires
 size-requires c κs = search rules
 
-take-rest-requires : tie.Need-take-rest-requires
+take-rest-requires : tie.Need-take_rest-whole-requires
 take-rest-requires c κs = search rules
 
 judge-requires-2 : tie.Need-judge-requires-2
 judge-requires-2 c κs = search rules
 
-returns-3 : tie.Need-returns-3
-returns-3 c = grown-more c.before.before.take_rest.ensures (by_one _ _ c.judge2.ensures)
+returns-3 : tie.Need-returns
+returns-3 c = grown-more c.take_rest-whole.ensures (by_one _ _ c.judge-2.ensures)
 
 pub take_spec : {M : Type 1} → statement M
 take_spec =
