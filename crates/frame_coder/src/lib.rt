@@ -1,5 +1,7 @@
 // The library as other languages call it, by the exports of the crate frame_coder_c: a slice passes as a pointer and a length. `frame_coder.h` says what a
 // caller has to see to.
+#![tactic(auto)]
+
 ghost use Rattle.std.specs.Prelude.{◌≡◌, ℕ, pos, length};
 ghost use Rattle.frames.specs.Sending.{LeastOfFillings};
 ghost use Rattle.answers.specs.Answer.{send_answer, send_frame, open_answer, open_bytes, strict_answer, strict_bytes};

@@ -1,5 +1,7 @@
 // Writing and reading records in the form in which other languages call it: one number is answered, and the figures go to lent numbers, which are stored to on
 // success only. `frame_coder` exports these two; they are proved here, so that a wrong answer rechecks them alone.
+#![tactic(auto)]
+
 ghost use Rattle.std.specs.Prelude.{◌≡◌, length};
 ghost use Rattle.records.specs.Writing.{buffer_after};
 ghost use Rattle.records.specs.Reading.{frame_read};

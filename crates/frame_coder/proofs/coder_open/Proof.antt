@@ -18,7 +18,7 @@ returns : tie.Need-returns
 unfolding opening_answer opened_with
 returns c =
     let e = c.before.before.«open».ensures in
-    (to_z-of_z (record { sfits = c.answer.type-inv }) ∙ c.answer.ensures ∙ ap (λ (o : Opened). answer_of o.number 0) e, ap (λ (o : Opened). o.account) e)
+    (to_z-of_z (record { sfits = c.answer.type_inv }) ∙ c.answer.ensures ∙ ap (λ (o : Opened). answer_of o.number 0) e, ap (λ (o : Opened). o.account) e)
 
 pub coder-open-spec : {M : Type 1} → statement M
 coder-open-spec = tie.close (tie.spec open-requires answer-requires returns)

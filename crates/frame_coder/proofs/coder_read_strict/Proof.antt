@@ -29,7 +29,7 @@ returns c =
     let r = c.before.before.before.read-strict.result.number in
     let e = c.before.before.before.read-strict.ensures in
     let l = strict-answer r s.kind s.grade s.free s.number s.frame.now (length s.message.now) e.0 in (
-      to_z-of_z (record { sfits = c.answer.type-inv }) ∙ c.answer.ensures ∙ ap (answer_of r) e.1.1 ∙ l,
+      to_z-of_z (record { sfits = c.answer.type_inv }) ∙ c.answer.ensures ∙ ap (answer_of r) e.1.1 ∙ l,
       e.1.0 ∙ ap (λ (n : ℕ). message_after n s.kind s.grade s.free s.frame.now s.message.now) e.0,
     )
 

@@ -28,7 +28,7 @@ returns c =
     let s = c.before.before.before.before.before.args in
     let r = c.before.before.send.result.number in
     let e = c.before.before.send.ensures in
-    let a = to_z-of_z (record { sfits = c.answer.type-inv }) ∙ c.answer.ensures in
+    let a = to_z-of_z (record { sfits = c.answer.type_inv }) ∙ c.answer.ensures in
     let l = send-answer r s.kind s.grade s.free s.number s.message.now (length s.frame.now) e.0 in (
       a ∙ ap (answer_of r) e.1.1.0 ∙ l,
       (
