@@ -2,6 +2,7 @@
 use mathlib.Core.Path.{sym, ap, ◌∙◌}
 use mir.Facts.{to_z-of_z}
 use borrow.Author.Rules.{rules}
+use mir.Syntax.{w64}
 use Rattle.answers.specs.Answer.{chosen_code, closer_code}
 use Rattle.frame_coder.proofs.coder_closer.Statement.{statement}
 use Rattle.frame_coder.proofs.coder_closer.Tie as tie
@@ -30,19 +31,19 @@ answer-requires-3 c κs = search rules
 returns : tie.Need-returns
 unfolding closer_code
 returns c =
-    to_z-of_z (record { sfits = c.answer.type_inv }) ∙ c.answer.ensures
+    to_z-of_z {w = w64} (record { sfits = c.answer.type_inv }) ∙ c.answer.ensures
     ∙ ap chosen_code (sym c.before.enum_told.given.1 ∙ c.before.before.before.choose.ensures)
 
 returns-2 : tie.Need-returns-2
 unfolding closer_code
 returns-2 c =
-    to_z-of_z (record { sfits = c.answer2.type_inv }) ∙ c.answer2.ensures
+    to_z-of_z {w = w64} (record { sfits = c.answer2.type_inv }) ∙ c.answer2.ensures
     ∙ ap chosen_code (sym c.before.enum-told2.given.1 ∙ c.before.before.before.choose.ensures)
 
 returns-3 : tie.Need-returns-3
 unfolding closer_code
 returns-3 c =
-    to_z-of_z (record { sfits = c.answer3.type_inv }) ∙ c.answer3.ensures
+    to_z-of_z {w = w64} (record { sfits = c.answer3.type_inv }) ∙ c.answer3.ensures
     ∙ ap chosen_code (sym c.before.before.c.given.1 ∙ c.before.before.before.before.choose.ensures)
 
 pub coder-closer-spec : {M : Type 1} → statement M

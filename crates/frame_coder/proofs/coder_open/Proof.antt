@@ -2,6 +2,7 @@
 use mathlib.Core.Path.{ap, ◌∙◌}
 use mir.Facts.{to_z-of_z}
 use borrow.Author.Rules.{rules}
+use mir.Syntax.{w64}
 use Rattle.power_account.specs.declared.Opened.{Opened}
 use Rattle.power_account.specs.Opening.{opened_with}
 use Rattle.answers.specs.Answer.{answer_of, opening_answer}
@@ -18,7 +19,7 @@ returns : tie.Need-returns
 unfolding opening_answer opened_with
 returns c =
     let e = c.before.before.«open».ensures in
-    (to_z-of_z (record { sfits = c.answer.type_inv }) ∙ c.answer.ensures ∙ ap (λ (o : Opened). answer_of o.number 0) e, ap (λ (o : Opened). o.account) e)
+    (to_z-of_z {w = w64} (record { sfits = c.answer.type_inv }) ∙ c.answer.ensures ∙ ap (λ (o : Opened). answer_of o.number 0) e, ap (λ (o : Opened). o.account) e)
 
 pub coder-open-spec : {M : Type 1} → statement M
 coder-open-spec = tie.close (tie.spec open-requires answer-requires returns)

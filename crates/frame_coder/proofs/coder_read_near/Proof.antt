@@ -4,6 +4,7 @@ use native.Mathlib.Omega.{arith}
 use lib.ListN.{length}
 use mir.Facts.{to_z-of_z}
 use borrow.Author.Rules.{rules}
+use mir.Syntax.{w64}
 use Rattle.near_reading.specs.Answer.{near_number, number_of, distance_of}
 use Rattle.answers.proofs.Bounds.{near-code, near-stored, near-left, refused-number}
 use Rattle.frame_coder.proofs.coder_read_near.Statement.{statement}
@@ -40,7 +41,7 @@ returns c =
     let e = c.before.before.before.before.before.before.read-near.ensures in
     let is = c.before.before.r.given.1 in
     let z : 0 ≡ near_number s.kind s.grade s.samples.now (length s.message.now) = ap number_of (sym is) ∙ e.1.0 in (
-      to_z-of_z (record { sfits = c.answer.type_inv }) ∙ c.answer.ensures ∙ near-code _ _ _ _ 0 z,
+      to_z-of_z {w = w64} (record { sfits = c.answer.type_inv }) ∙ c.answer.ensures ∙ near-code _ _ _ _ 0 z,
       (e.1.1.1, ap distance_of (sym is) ∙ e.1.1.0 ∙ near-stored _ _ _ _ s.distance.now (sym z)),
     )
 
@@ -53,7 +54,7 @@ returns-2 c =
     let s = c.before.before.before.before.before.before.before.before.before.args in
     let e = c.before.before.before.before.before.read-near.ensures in
     let z : 16 ≡ near_number s.kind s.grade s.samples.now (length s.message.now) = ap number_of (sym c.before.enum_told.given.1) ∙ e.1.0 in (
-      to_z-of_z (record { sfits = c.answer2.type_inv }) ∙ c.answer2.ensures ∙ near-code _ _ _ _ 16 z,
+      to_z-of_z {w = w64} (record { sfits = c.answer2.type_inv }) ∙ c.answer2.ensures ∙ near-code _ _ _ _ 16 z,
       (e.1.1.1, near-left _ _ _ _ s.distance.now (λ o. omega (arith, o, z))),
     )
 
@@ -67,7 +68,7 @@ returns-3 c =
     let e = c.before.before.before.before.before.before.read-near.ensures in
     let m = c.before.before.r2.given.0.0 in
     let is = c.before.before.r2.given.1 in (
-      to_z-of_z (record { sfits = c.answer3.type_inv }) ∙ c.answer3.ensures ∙ near-code _ _ _ _ m (ap number_of (sym is) ∙ e.1.0),
+      to_z-of_z {w = w64} (record { sfits = c.answer3.type_inv }) ∙ c.answer3.ensures ∙ near-code _ _ _ _ m (ap number_of (sym is) ∙ e.1.0),
       (e.1.1.1, near-left _ _ _ _ s.distance.now (refused-number _ _ _ _ m (sym is ∙ e.0))),
     )
 

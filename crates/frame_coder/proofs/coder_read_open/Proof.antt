@@ -5,6 +5,7 @@ use native.Mathlib.Omega.{arith}
 use lib.ListN.{length}
 use mir.Facts.{to_z-of_z}
 use borrow.Author.Rules.{rules}
+use mir.Syntax.{w64}
 use Rattle.frames.specs.Reading.{message_after}
 use Rattle.answers.specs.Answer.{answer_of}
 use Rattle.answers.proofs.Bounds.{open-fits, open-answer}
@@ -29,7 +30,7 @@ returns c =
     let r = c.before.before.before.read-open.result.number in
     let e = c.before.before.before.read-open.ensures in
     let l = open-answer r s.kind s.grade s.free s.frame.now (length s.message.now) e.0 in (
-      to_z-of_z (record { sfits = c.answer.type_inv }) ∙ c.answer.ensures ∙ ap (answer_of r) e.1.1 ∙ l,
+      to_z-of_z {w = w64} (record { sfits = c.answer.type_inv }) ∙ c.answer.ensures ∙ ap (answer_of r) e.1.1 ∙ l,
       e.1.0 ∙ ap (λ (n : ℕ). message_after n s.kind s.grade s.free s.frame.now s.message.now) e.0,
     )
 

@@ -5,6 +5,7 @@ use native.Mathlib.Omega.{arith}
 use lib.ListN.{length}
 use mir.Facts.{to_z-of_z}
 use borrow.Author.Rules.{rules}
+use mir.Syntax.{w64}
 use Rattle.frames.specs.Sending.{frame_after}
 use Rattle.answers.specs.Answer.{answer_of}
 use Rattle.answers.proofs.Bounds.{sent-fits, send-answer, least-answer}
@@ -28,7 +29,7 @@ returns c =
     let s = c.before.before.before.before.before.args in
     let r = c.before.before.send.result.number in
     let e = c.before.before.send.ensures in
-    let a = to_z-of_z (record { sfits = c.answer.type_inv }) ∙ c.answer.ensures in
+    let a = to_z-of_z {w = w64} (record { sfits = c.answer.type_inv }) ∙ c.answer.ensures in
     let l = send-answer r s.kind s.grade s.free s.number s.message.now (length s.frame.now) e.0 in (
       a ∙ ap (answer_of r) e.1.1.0 ∙ l,
       (

@@ -5,6 +5,7 @@ use native.Mathlib.Omega.{arith}
 use lib.ListN.{length}
 use mir.Facts.{to_z-of_z}
 use borrow.Author.Rules.{rules}
+use mir.Syntax.{w64}
 use Rattle.power_account.specs.declared.Account.{Account}
 use Rattle.frames.specs.Sending.{frame_after}
 use Rattle.frames.proofs.Accepted.{refused-leaves}
@@ -63,7 +64,7 @@ returns c =
     let r = w.send-counted.result.number in
     let l = counted-answer s.kind s.grade s.free s.message.now (length s.frame.now) (held w) r e.0 in
     let z = refused-leaves r s.kind s.grade s.free (number_for (held w)) s.message.now s.frame.now t.if1.true in
-    let a = to_z-of_z (record { sfits = c.answer.type_inv }) ∙ c.answer.ensures in (
+    let a = to_z-of_z {w = w64} (record { sfits = c.answer.type_inv }) ∙ c.answer.ensures in (
       a ∙ ap (answer_of r) (sym z.1) ∙ l,
       (
         frame_is w,
@@ -91,7 +92,7 @@ returns-2 c =
     let s = (start w).args in
     let e = w.send-counted.ensures in
     let l = counted-answer s.kind s.grade s.free s.message.now (length s.frame.now) (held w) w.send-counted.result.number e.0 in
-    let a = to_z-of_z (record { sfits = c.answer2.type_inv }) ∙ c.answer2.ensures in (
+    let a = to_z-of_z {w = w64} (record { sfits = c.answer2.type_inv }) ∙ c.answer2.ensures in (
       a ∙ ap₂ answer_of (sym t.if1.false) e.1.1.0 ∙ l,
       (
         frame_is w,

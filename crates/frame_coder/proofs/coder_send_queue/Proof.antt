@@ -2,6 +2,7 @@
 use mathlib.Core.Path.{ap, ◌∙◌}
 use mir.Facts.{to_z-of_z}
 use borrow.Author.Rules.{rules}
+use mir.Syntax.{w64}
 use Rattle.power_account.specs.declared.Account.{Account}
 use Rattle.queue_turns.specs.declared.Queued.{Queued}
 use Rattle.queue_turns.proofs.InOrder.{queue-changeover}
@@ -27,7 +28,7 @@ returns c =
     let e = w.send-queue.ensures in
     let a = ap (λ (q : Queued). q.account) e.0 in
     let stays = queue-changeover s.kind s.grade s.messages.now s.frames.now (account_of s.count.now s.sum.now s.largest.now s.changeover) in (
-      to_z-of_z (record { sfits = c.answer.type_inv }) ∙ c.answer.ensures ∙ ap (λ (q : Queued). answer_of q.number 0) e.0,
+      to_z-of_z {w = w64} (record { sfits = c.answer.type_inv }) ∙ c.answer.ensures ∙ ap (λ (q : Queued). answer_of q.number 0) e.0,
       (e.1.0, (account-of w.send-queue.result.account s.changeover (ap (λ (x : Account). x.changeover) a ∙ stays) ∙ a, (ap (λ (q : Queued). q.sent) e.0, e.1.1))),
     )
 

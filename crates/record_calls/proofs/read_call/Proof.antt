@@ -5,6 +5,7 @@ use native.Mathlib.Omega.{arith}
 use lib.ListN.{length}
 use mir.Facts.{to_z-of_z}
 use borrow.Author.Rules.{rules}
+use mir.Syntax.{w64}
 use Rattle.answers.specs.Answer.{answer_of, figures_of}
 use Rattle.answers.proofs.Records.{refusal-alone, read-code, read_left, read-stored, read_fits}
 use Rattle.record_calls.proofs.read_call.Statement.{statement}
@@ -30,7 +31,7 @@ returns c =
     let n = length s.frame.now in
     let r = w.read_record-r.result in
     let e = w.read_record-r.ensures in (
-      to_z-of_z (record { sfits = c.answer.type_inv }) ∙ c.answer.ensures ∙ refusal-alone r.refusal r.energy t.if-r-ne0.true
+      to_z-of_z {w = w64} (record { sfits = c.answer.type_inv }) ∙ c.answer.ensures ∙ refusal-alone r.refusal r.energy t.if-r-ne0.true
           ∙ read-code s.buffer.now s.place n r e.0,
       (
         e.1,
@@ -55,7 +56,7 @@ returns-2 c =
     let n = length s.frame.now in
     let r = w.read_record-r.result in
     let e = w.read_record-r.ensures in (
-      to_z-of_z (record { sfits = c.answer-2.type_inv }) ∙ c.answer-2.ensures ∙ ap (λ (m : ℕ). answer_of m r.energy) (sym t.if-r-ne0.false)
+      to_z-of_z {w = w64} (record { sfits = c.answer-2.type_inv }) ∙ c.answer-2.ensures ∙ ap (λ (m : ℕ). answer_of m r.energy) (sym t.if-r-ne0.false)
           ∙ read-code s.buffer.now s.place n r e.0,
       (
         e.1,

@@ -4,6 +4,7 @@ use mathlib.Core.Path.{ap, sym, ◌∙◌}
 use lib.ListN.{length}
 use mir.Facts.{to_z-of_z}
 use borrow.Author.Rules.{rules}
+use mir.Syntax.{w64}
 use Rattle.answers.specs.Answer.{answer_of}
 use Rattle.answers.proofs.Records.{write-code, write-left, write-stored}
 use Rattle.record_calls.proofs.write_call.Statement.{statement}
@@ -29,7 +30,7 @@ returns c =
     let l = length s.buffer.now in
     let r = w.write_record-r.result in
     let e = w.write_record-r.ensures in (
-      to_z-of_z (record { sfits = c.answer.type_inv }) ∙ c.answer.ensures ∙ write-code s.kind s.grade s.message.now s.place l r e.0,
+      to_z-of_z {w = w64} (record { sfits = c.answer.type_inv }) ∙ c.answer.ensures ∙ write-code s.kind s.grade s.message.now s.place l r e.0,
       (e.1, write-left s.kind s.grade s.message.now s.place l r e.0 s.next.now t.if-r-ne0.true),
     )
 
@@ -47,7 +48,7 @@ returns-2 c =
     let l = length s.buffer.now in
     let r = w.write_record-r.result in
     let e = w.write_record-r.ensures in (
-      to_z-of_z (record { sfits = c.answer-2.type_inv }) ∙ c.answer-2.ensures
+      to_z-of_z {w = w64} (record { sfits = c.answer-2.type_inv }) ∙ c.answer-2.ensures
           ∙ ap (λ (n : ℕ). answer_of n 0) (sym t.if-r-ne0.false) ∙ write-code s.kind s.grade s.message.now s.place l r e.0,
       (e.1, write-stored s.kind s.grade s.message.now s.place l r e.0 s.next.now t.if-r-ne0.false),
     )
