@@ -7,47 +7,47 @@ use Rattle.answers.specs.Answer.{chosen_code, closer_code}
 use Rattle.frame_coder.proofs.coder_closer.Statement.{statement}
 use Rattle.frame_coder.proofs.coder_closer.Tie as tie
 
-choose-requires : tie.Need-choose-requires
+choose-requires : tie.Need-choose-c-requires
 choose-requires c κs = search rules
 
-enum_told : tie.Need-enum-told
+enum_told : tie.Need-enum_told-1
 enum_told c = search rules
 
 answer-requires : tie.Need-answer-requires
 answer-requires c κs = search rules
 
-enum-told-2 : tie.Need-enum-told-2
+enum-told-2 : tie.Need-enum_told-in-Second
 enum-told-2 c = search rules
 
-answer-requires-2 : tie.Need-answer-requires-2
+answer-requires-2 : tie.Need-answer-requires-in-Second
 answer-requires-2 c κs = search rules
 
-enum-known-c : tie.Need-enum-known-c
+enum-known-c : tie.Need-enum_known-c
 enum-known-c c = search rules
 
-answer-requires-3 : tie.Need-answer-requires-3
+answer-requires-3 : tie.Need-answer-requires-in-Neither
 answer-requires-3 c κs = search rules
 
-returns : tie.Need-returns
+returns : tie.Need-returns-in-First
 unfolding closer_code
 returns c =
     to_z-of_z {w = w64} (record { sfits = c.answer.type_inv }) ∙ c.answer.ensures
-    ∙ ap chosen_code (sym c.before.enum_told.given.1 ∙ c.before.before.before.choose.ensures)
+    ∙ ap chosen_code (sym c.in-First.is ∙ c.choose-c.ensures)
 
-returns-2 : tie.Need-returns-2
+returns-2 : tie.Need-returns-in-Second
 unfolding closer_code
 returns-2 c =
-    to_z-of_z {w = w64} (record { sfits = c.answer2.type_inv }) ∙ c.answer2.ensures
-    ∙ ap chosen_code (sym c.before.enum-told2.given.1 ∙ c.before.before.before.choose.ensures)
+    to_z-of_z {w = w64} (record { sfits = c.answer-in-Second.type_inv }) ∙ c.answer-in-Second.ensures
+    ∙ ap chosen_code (sym c.in-Second.is ∙ c.choose-c.ensures)
 
-returns-3 : tie.Need-returns-3
+returns-3 : tie.Need-returns-in-Neither
 unfolding closer_code
 returns-3 c =
-    to_z-of_z {w = w64} (record { sfits = c.answer3.type_inv }) ∙ c.answer3.ensures
-    ∙ ap chosen_code (sym c.before.before.c.given.1 ∙ c.before.before.before.before.choose.ensures)
+    to_z-of_z {w = w64} (record { sfits = c.answer-in-Neither.type_inv }) ∙ c.answer-in-Neither.ensures
+    ∙ ap chosen_code (sym c.in-Neither.is ∙ c.choose-c.ensures)
 
-pub coder-closer-spec : {M : Type 1} → statement M
-coder-closer-spec =
+pub coder_closer_spec : {M : Type 1} → statement M
+coder_closer_spec =
     tie.close
     (tie.spec
     choose-requires

@@ -12,27 +12,27 @@ use Rattle.answers.proofs.Bounds.{open-fits, open-answer}
 use Rattle.frame_coder.proofs.coder_read_open.Statement.{statement}
 use Rattle.frame_coder.proofs.coder_read_open.Tie as tie
 
-read-open-requires : tie.Need-read-open-requires
+read-open-requires : tie.Need-read_open-r-requires
 read-open-requires c κs = search rules
 
 answer-requires : tie.Need-answer-requires
 answer-requires c κs =
-    let e = c.before.before.read-open.ensures in
+    let e = c.before.before.read_open-r.ensures in
     let f = open-fits _ _ _ _ _ _ e.0 in
     omega (arith, e.1.1, f)
 
-same_length : tie.Need-same-length
+same_length : tie.Need-shape_of-message
 same_length c = search rules
 
 returns : tie.Need-returns
 returns c =
     let s = c.before.before.before.before.before.before.args in
-    let r = c.before.before.before.read-open.result.number in
-    let e = c.before.before.before.read-open.ensures in
+    let r = c.before.before.before.read_open-r.result.number in
+    let e = c.before.before.before.read_open-r.ensures in
     let l = open-answer r s.kind s.grade s.free s.frame.now (length s.message.now) e.0 in (
       to_z-of_z {w = w64} (record { sfits = c.answer.type_inv }) ∙ c.answer.ensures ∙ ap (answer_of r) e.1.1 ∙ l,
       e.1.0 ∙ ap (λ (n : ℕ). message_after n s.kind s.grade s.free s.frame.now s.message.now) e.0,
     )
 
-pub coder-read-open-spec : {M : Type 1} → statement M
-coder-read-open-spec = tie.close (tie.spec read-open-requires answer-requires same_length returns)
+pub coder_read_open_spec : {M : Type 1} → statement M
+coder_read_open_spec = tie.close (tie.spec read-open-requires answer-requires same_length returns)

@@ -11,13 +11,13 @@ use Rattle.answers.proofs.Bounds.{account-of}
 use Rattle.frame_coder.proofs.coder_send_queue.Statement.{statement}
 use Rattle.frame_coder.proofs.coder_send_queue.Tie as tie
 
-send-queue-requires : tie.Need-send-queue-requires
+send-queue-requires : tie.Need-send_queue-r-requires
 send-queue-requires c κs = search rules
 
 answer-requires : tie.Need-answer-requires
 answer-requires c κs = search rules
 
-same_length : tie.Need-same-length
+same_length : tie.Need-shape_of-frames
 same_length c = search rules
 
 returns : tie.Need-returns
@@ -25,12 +25,12 @@ unfolding queue_answer
 returns c =
     let w = c.before.before.before in
     let s = w.before.before.before.before.before.args in
-    let e = w.send-queue.ensures in
+    let e = w.send_queue-r.ensures in
     let a = ap (λ (q : Queued). q.account) e.0 in
     let stays = queue-changeover s.kind s.grade s.messages.now s.frames.now (account_of s.count.now s.sum.now s.largest.now s.changeover) in (
       to_z-of_z {w = w64} (record { sfits = c.answer.type_inv }) ∙ c.answer.ensures ∙ ap (λ (q : Queued). answer_of q.number 0) e.0,
-      (e.1.0, (account-of w.send-queue.result.account s.changeover (ap (λ (x : Account). x.changeover) a ∙ stays) ∙ a, (ap (λ (q : Queued). q.sent) e.0, e.1.1))),
+      (e.1.0, (account-of w.send_queue-r.result.account s.changeover (ap (λ (x : Account). x.changeover) a ∙ stays) ∙ a, (ap (λ (q : Queued). q.sent) e.0, e.1.1))),
     )
 
-pub coder-send-queue-spec : {M : Type 1} → statement M
-coder-send-queue-spec = tie.close (tie.spec send-queue-requires answer-requires same_length returns)
+pub coder_send_queue_spec : {M : Type 1} → statement M
+coder_send_queue_spec = tie.close (tie.spec send-queue-requires answer-requires same_length returns)
