@@ -1,6 +1,8 @@
 // Chooses from the pairs of recordings of a coder that was written apart (tools/second-coder, which writes data/pairs.bin), by the library's
 // functions and by the exported one. The part that is handed back is held to the recording that stands there, every sample by its bits, and
 // the numbers to those that stand there. It prints how many checks passed, after a line for each that did not.
+#![tactic(auto)]
+
 mod compared;
 mod judging;
 mod record;

@@ -8,15 +8,15 @@ use Rattle.test_data.proofs.Patterns.{no_nan}
 use Rattle.test_recordings.proofs.compared.bits_of.Statement.{statement}
 use Rattle.test_recordings.proofs.compared.bits_of.Tie as tie
 
-returns : tie.Need-returns
+returns : tie.Need-returns-then-x
 unfolding to_bits
-returns c = sym (ap (to_bits binary32) (differs_from_itself c.before.args.x (subst T (sym c.if1.true) tt)))
+returns c = sym (ap (to_bits binary32) (differs_from_itself c.before.args.x (subst T (sym c.if-x.true) tt)))
 
-float-to-bits-result : tie.Need-float-to-bits-result
-float-to-bits-result c = no_nan c.before.args.x c.if1.false
+float-to-bits-result : tie.Need-float_to_bits-result
+float-to-bits-result c = no_nan c.before.args.x c.if-x.false
 
-returns-2 : tie.Need-returns-2
+returns-2 : tie.Need-returns
 returns-2 c = search rules
 
-pub bits-of-spec : {M : Type 1} → statement M
-bits-of-spec = tie.close (tie.spec returns float-to-bits-result returns-2)
+pub bits_of_spec : {M : Type 1} → statement M
+bits_of_spec = tie.close (tie.spec returns float-to-bits-result returns-2)

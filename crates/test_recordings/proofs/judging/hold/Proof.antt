@@ -32,14 +32,14 @@ returns c =
     let one = second.before.before in
     let first = one.before in
     let t = first.before.before.before.before.args.tally.now in
-    c.judge3.ensures
+    c.judge-3.ensures
     ∙ ap₂ (judged 2) third.exported.ensures
-    (two.judge2.ensures
+    (two.judge-2.ensures
     ∙ ap₂ (judged 1) second.number.ensures
     (one.judge.ensures ∙ ap (λ (p : Bool). judged 0 p t) first.slice.ensures))
 
-pub hold-spec : {M : Type 1} → statement M
-hold-spec =
+pub hold_spec : {M : Type 1} → statement M
+hold_spec =
     tie.close
     (tie.spec
     slice-requires

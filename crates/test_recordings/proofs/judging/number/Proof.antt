@@ -4,12 +4,12 @@ use borrow.Author.Rules.{rules}
 use Rattle.test_recordings.proofs.judging.number.Statement.{statement}
 use Rattle.test_recordings.proofs.judging.number.Tie as tie
 
-closer-number-requires : tie.Need-closer-number-requires
+closer-number-requires : tie.Need-closer_number-requires
 closer-number-requires c κs = search rules
 
 returns : tie.Need-returns
 unfolding number_right
-returns c = rw c.before.closer-number.ensures
+returns c = rw c.before.closer_number.ensures
 
-pub number-spec : {M : Type 1} → statement M
-number-spec = tie.close (tie.spec closer-number-requires returns)
+pub number_spec : {M : Type 1} → statement M
+number_spec = tie.close (tie.spec closer-number-requires returns)
