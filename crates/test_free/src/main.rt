@@ -1,6 +1,8 @@
 // Holds sending, sending with an account and both readings, with free bits, of the library and of the exported functions, to the records of a coder
 // that was written apart (tools/second-coder, which writes data/free.bin). A message is sent each of the four ways, and what is sent has to be the first of
 // the frames that stand there; each of these frames is read each of the four ways. It prints how many passed each check, after a line for each that did not.
+#![tactic(auto)]
+
 mod calls;
 mod checks;
 mod record;

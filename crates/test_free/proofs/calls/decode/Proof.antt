@@ -47,32 +47,32 @@ wide (pos n) f = omega (arith, f.sfits)
 wide (negsuc n) f = omega (arith, f.sfits)
 
 -- what the test says
-less : (c : tie.Then1) → Below c.before.args.r
-less c = let s = c.before in below s.args.r s.ranges.r (simp (to_z-of_z s.ranges.r) at c.if1.true)
+less : (c : tie.Then-r-lt0) → Below c.args.r
+less c = let s = c in below s.args.r s.ranges.r (simp (to_z-of_z s.ranges.r) at c.if-r-lt0.true)
 
-sub-t3 : tie.Need-overflow-sub-t3
-sub-t3 c = let b = less c in rw (to_z-of_z c.before.ranges.r, b.is) b.fits
+sub-t3 : tie.Need-overflow_sub-result
+sub-t3 c = let b = less c in rw (to_z-of_z c.ranges.r, b.is) b.fits
 
-cast-t4 : tie.Need-overflow-cast-t4
-cast-t4 c = let b = less c in rw (to_z-of_z c.before.ranges.r, b.is, to_z-of_z b.fits) (tt, record { fits = omega (arith, b.small.fits) })
+cast-t4 : tie.Need-overflow_cast-result
+cast-t4 c = let b = less c in rw (to_z-of_z c.ranges.r, b.is, to_z-of_z b.fits) (tt, record { fits = omega (arith, b.small.fits) })
 
-add-t5 : tie.Need-overflow-add-t5
-add-t5 c = let b = less c in rw (to_z-of_z c.before.ranges.r, b.is, to_z-of_z b.fits) b.small
+add-t5 : tie.Need-overflow_add-result
+add-t5 c = let b = less c in rw (to_z-of_z c.ranges.r, b.is, to_z-of_z b.fits) b.small
 
-returns : tie.Need-returns
-returns c = let b = less c in rw (to_z-of_z c.before.ranges.r, b.is, to_z-of_z b.fits) b.number
+returns : tie.Need-returns-then-r-lt0
+returns c = let b = less c in rw (to_z-of_z c.ranges.r, b.is, to_z-of_z b.fits) b.number
 
-cast-t6 : tie.Need-overflow-cast-t6
+cast-t6 : tie.Need-overflow_cast-result-2
 cast-t6 c =
-    let s = c.before in
+    let s = c in
     let f = s.ranges.r in
-    simp (to_z-of_z f) (pos-sign s.args.r (simp (to_z-of_z f) at c.if1.false), wide s.args.r f)
+    simp (to_z-of_z f) (pos-sign s.args.r (simp (to_z-of_z f) at c.if-r-lt0.false), wide s.args.r f)
 
-returns-2 : tie.Need-returns-2
+returns-2 : tie.Need-returns
 returns-2 c =
-    let s = c.before in
+    let s = c in
     let f = s.ranges.r in
-    simp (to_z-of_z f) (from_zero s.args.r (simp (to_z-of_z f) at c.if1.false))
+    simp (to_z-of_z f) (from_zero s.args.r (simp (to_z-of_z f) at c.if-r-lt0.false))
 
-pub decode-spec : {M : Type 1} → statement M
-decode-spec = tie.close (tie.spec sub-t3 cast-t4 add-t5 returns cast-t6 returns-2)
+pub decode_spec : {M : Type 1} → statement M
+decode_spec = tie.close (tie.spec sub-t3 cast-t4 add-t5 returns cast-t6 returns-2)

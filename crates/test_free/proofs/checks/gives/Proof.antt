@@ -10,39 +10,39 @@ use borrow.Author.Rules.{rules}
 use Rattle.test_free.proofs.checks.gives.Statement.{statement}
 use Rattle.test_free.proofs.checks.gives.Tie as tie
 
-read-requires : tie.Need-read-requires
+read-requires : tie.Need-read-r-requires
 read-requires c κs = search rules
 
-same-answer-requires : tie.Need-same-answer-requires
+same-answer-requires : tie.Need-same_answer-requires
 same-answer-requires c κs = search rules
 
-same_length : tie.Need-same-length
+same_length : tie.Need-shape_of-message-then-not-same_answer
 same_length c = search rules
 
-returns : tie.Need-returns
+returns : tie.Need-returns-then-not-same_answer
 returns c =
-    let t = c.before in
-    let d = t.before.before.before in
-    let s = d.before.before.before.before.args in
-    rw (ap (λ (a : Answer). same_answer a s.answer) (sym d.read.ensures.0) ∙ sym t.same_answer.ensures ∙ not-true t.same_answer.result c.if1.true) refl
+    let t = c in
+    let d = t in
+    let s = d.args in
+    rw (ap (λ (a : Answer). same_answer a s.answer) (sym d.read-r.ensures.0) ∙ sym t.same_answer.ensures ∙ c.if-not-same_answer.true) refl
 
-same-bytes-requires : tie.Need-same-bytes-requires
+same-bytes-requires : tie.Need-same_bytes-requires
 same-bytes-requires c κs = search rules
 
-same-length-2 : tie.Need-same-length-2
+same-length-2 : tie.Need-shape_of-message
 same-length-2 c = search rules
 
-returns-2 : tie.Need-returns-2
+returns-2 : tie.Need-returns
 returns-2 c =
-    let f = c.before.before in
-    let t = f.before in
-    let d = t.before.before.before in
-    let s = d.before.before.before.before.args in
-    rw (ap (λ (a : Answer). same_answer a s.answer) (sym d.read.ensures.0) ∙ sym t.same_answer.ensures ∙ not-false t.same_answer.result f.if1.false)
-    (c.same_bytes.ensures ∙ ap (λ (l : List ℕ). same_bytes l s.left.now) d.read.ensures.1)
+    let f = c in
+    let t = f in
+    let d = t in
+    let s = d.args in
+    rw (ap (λ (a : Answer). same_answer a s.answer) (sym d.read-r.ensures.0) ∙ sym t.same_answer.ensures ∙ f.if-not-same_answer.false)
+    (c.same_bytes.ensures ∙ ap (λ (l : List ℕ). same_bytes l s.left.now) d.read-r.ensures.1)
 
-pub gives-spec : {M : Type 1} → statement M
-gives-spec =
+pub gives_spec : {M : Type 1} → statement M
+gives_spec =
     tie.close
     (tie.spec
     read-requires

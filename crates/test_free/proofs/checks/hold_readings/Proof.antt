@@ -30,15 +30,15 @@ judge-requires-4 c κs = search rules
 
 returns : tie.Need-returns
 returns c =
-    let j₃ = c.before.before.before in
-    let j₂ = j₃.before.before.before in
-    let j₁ = j₂.before.before.before in
-    let s = j₁.before.before.before.before.args in
-    four-readings s.u s.message.now s.frame.now s.«open» s.strict s.tally.now j₁.judge.ensures j₁.before.reads.ensures
-    j₂.judge2.ensures j₂.before.reads2.ensures j₃.judge3.ensures j₃.before.reads3.ensures c.judge4.ensures c.before.reads4.ensures
+    let j₃ = c in
+    let j₂ = j₃ in
+    let j₁ = j₂ in
+    let s = j₁.args in
+    four-readings s.u s.message.now s.frame.now s.«open» s.strict s.tally.now j₁.judge.ensures j₁.reads.ensures
+    j₂.judge-2.ensures j₂.reads-2.ensures j₃.judge-3.ensures j₃.reads-3.ensures c.judge-4.ensures c.reads-4.ensures
 
-pub hold-readings-spec : {M : Type 1} → statement M
-hold-readings-spec =
+pub hold_readings_spec : {M : Type 1} → statement M
+hold_readings_spec =
     tie.close
     (tie.spec
     reads-requires

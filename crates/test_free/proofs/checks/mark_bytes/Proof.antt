@@ -8,5 +8,5 @@ returns : tie.Need-returns
 unfolding marked_bytes
 returns c = (refl, refl)
 
-pub mark-bytes-spec : {M : Type 1} → statement M
-mark-bytes-spec = tie.close (tie.spec returns)
+pub mark_bytes_spec : {M : Type 1} → statement M
+mark_bytes_spec = tie.close (tie.spec returns)

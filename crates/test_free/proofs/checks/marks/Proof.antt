@@ -8,5 +8,5 @@ returns : tie.Need-returns
 unfolding marked_frame
 returns c = (refl, refl)
 
-pub marks-spec : {M : Type 1} → statement M
-marks-spec = tie.close (tie.spec returns)
+pub marks_spec : {M : Type 1} → statement M
+marks_spec = tie.close (tie.spec returns)

@@ -10,71 +10,71 @@ use borrow.Author.Rules.{rules}
 use Rattle.test_free.proofs.checks.reads.Statement.{statement}
 use Rattle.test_free.proofs.checks.reads.Tie as tie
 
-mark-bytes-requires : tie.Need-mark-bytes-requires
+mark-bytes-requires : tie.Need-mark_bytes-out-requires
 mark-bytes-requires c κs = search rules
 
-mark-bytes-requires-2 : tie.Need-mark-bytes-requires-2
+mark-bytes-requires-2 : tie.Need-mark_bytes-lent-requires
 mark-bytes-requires-2 c κs = search rules
 
-sub-gives : tie.Need-overflow-sub-gives
+sub-gives : tie.Need-slice_bounds-gives-count
 sub-gives c = search rules
 
-part-out-start : tie.Need-slice-bounds-out-start
+part-out-start : tie.Need-slice_bounds-out-start
 part-out-start c = search rules
 
-part-out-end : tie.Need-slice-bounds-out-end
+part-out-end : tie.Need-slice_bounds-out-end
 part-out-end c = search rules
 
 gives-requires : tie.Need-gives-requires
 gives-requires c κs = search rules
 
-returns : tie.Need-returns
+returns : tie.Need-returns-then-expected-eq0
 returns c =
-    let g = c.before in
+    let g = c in
     let t = g.before.before in
-    let o = t.before.before.before in
-    let s = o.before.before in
+    let o = t in
+    let s = o in
     let m = s.args.message.now in
     g.gives.ensures
-    ∙ read-passed s.args.strict s.args.u s.args.frame.now m s.args.expected (take (length m - 0) o.mark-bytes.result)
-    (mid_len 0 (length m) o.mark-bytes.result (omega (arith, o.mark-bytes.ensures.1)) ∙ sub-zero (length m)) t.if1.true
+    ∙ read-passed s.args.strict s.args.u s.args.frame.now m s.args.expected (take (length m - 0) o.mark_bytes-out.result)
+    (mid_len 0 (length m) o.mark_bytes-out.result (omega (arith, o.mark_bytes-out.ensures.1)) ∙ sub-zero (length m)) t.if-expected-eq0.true
 
-sub-gives-2 : tie.Need-overflow-sub-gives-2
+sub-gives-2 : tie.Need-slice_bounds-gives-count-2
 sub-gives-2 c = search rules
 
-part-out-start-2 : tie.Need-slice-bounds-out-start-2
+part-out-start-2 : tie.Need-slice_bounds-out-start-2
 part-out-start-2 c = search rules
 
-part-out-end-2 : tie.Need-slice-bounds-out-end-2
+part-out-end-2 : tie.Need-slice_bounds-out-end-2
 part-out-end-2 c = search rules
 
-sub-gives-3 : tie.Need-overflow-sub-gives-3
+sub-gives-3 : tie.Need-slice_bounds-gives-count-3
 sub-gives-3 c = search rules
 
-part-gives-start : tie.Need-slice-bounds-gives-start
+part-gives-start : tie.Need-slice_bounds-gives-start
 part-gives-start c = search rules
 
-part-gives-end : tie.Need-slice-bounds-gives-end
+part-gives-end : tie.Need-slice_bounds-gives-end
 part-gives-end c = search rules
 
 gives-requires-2 : tie.Need-gives-requires-2
 gives-requires-2 c κs = search rules
 
-returns-2 : tie.Need-returns-2
+returns-2 : tie.Need-returns
 returns-2 c =
-    let g = c.before in
+    let g = c in
     let t = g.before.before.before.before in
-    let l = t.before.before in
-    let o = l.before in
-    let s = o.before.before in
+    let l = t in
+    let o = l in
+    let s = o in
     let m = s.args.message.now in
-    g.gives2.ensures
-    ∙ read-refused s.args.strict s.args.u s.args.frame.now m s.args.expected (take (length m - 0) o.mark-bytes.result)
-    (mid_len 0 (length m) o.mark-bytes.result (omega (arith, o.mark-bytes.ensures.1)) ∙ sub-zero (length m))
-    (ap (take (length m - 0)) (l.mark-bytes2.ensures.0 ∙ sym o.mark-bytes.ensures.0)) t.if1.false
+    g.gives-2.ensures
+    ∙ read-refused s.args.strict s.args.u s.args.frame.now m s.args.expected (take (length m - 0) o.mark_bytes-out.result)
+    (mid_len 0 (length m) o.mark_bytes-out.result (omega (arith, o.mark_bytes-out.ensures.1)) ∙ sub-zero (length m))
+    (ap (take (length m - 0)) (l.mark_bytes-lent.ensures.0 ∙ sym o.mark_bytes-out.ensures.0)) t.if-expected-eq0.false
 
-pub reads-spec : {M : Type 1} → statement M
-reads-spec =
+pub reads_spec : {M : Type 1} → statement M
+reads_spec =
     tie.close
     (tie.spec
     mark-bytes-requires

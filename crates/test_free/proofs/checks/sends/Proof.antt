@@ -9,28 +9,28 @@ use borrow.Author.Rules.{rules}
 use Rattle.test_free.proofs.checks.sends.Statement.{statement}
 use Rattle.test_free.proofs.checks.sends.Tie as tie
 
-marks-requires : tie.Need-marks-requires
+marks-requires : tie.Need-marks-out-requires
 marks-requires c κs = search rules
 
-marks-requires-2 : tie.Need-marks-requires-2
+marks-requires-2 : tie.Need-marks-lent-requires
 marks-requires-2 c κs = search rules
 
-sub-leaves : tie.Need-overflow-sub-leaves
+sub-leaves : tie.Need-slice_bounds-leaves-count
 sub-leaves c = search rules
 
-part-out-start : tie.Need-slice-bounds-out-start
+part-out-start : tie.Need-slice_bounds-out-start
 part-out-start c = search rules
 
-part-out-end : tie.Need-slice-bounds-out-end
+part-out-end : tie.Need-slice_bounds-out-end
 part-out-end c = search rules
 
-sub-leaves-2 : tie.Need-overflow-sub-leaves-2
+sub-leaves-2 : tie.Need-slice_bounds-leaves-count-2
 sub-leaves-2 c = search rules
 
-part-leaves-start : tie.Need-slice-bounds-leaves-start
+part-leaves-start : tie.Need-slice_bounds-leaves-start
 part-leaves-start c = search rules
 
-part-leaves-end : tie.Need-slice-bounds-leaves-end
+part-leaves-end : tie.Need-slice_bounds-leaves-end
 part-leaves-end c = search rules
 
 leaves-requires : tie.Need-leaves-requires
@@ -38,17 +38,17 @@ leaves-requires c κs = search rules
 
 returns : tie.Need-returns
 returns c =
-    let g = c.before in
-    let l = g.before.before.before.before in
-    let o = l.before in
-    let s = o.before.before.before.args in
+    let g = c in
+    let l = g in
+    let o = l in
+    let s = o.args in
     let n = s.n in
     passes s.counted s.u s.message.now n s.account s.expected s.frames.now
-    (ap₂ take (sub-zero n) o.marks.ensures.0) (ap₂ take (sub-zero n) l.marks2.ensures.0)
-    (mid_len 0 n o.marks.result (omega (arith, o.marks.ensures.1)) ∙ sub-zero n) g.leaves.ensures.0
+    (ap₂ take (sub-zero n) o.marks-out.ensures.0) (ap₂ take (sub-zero n) l.marks-lent.ensures.0)
+    (mid_len 0 n o.marks-out.result (omega (arith, o.marks-out.ensures.1)) ∙ sub-zero n) g.leaves.ensures.0
 
-pub sends-spec : {M : Type 1} → statement M
-sends-spec =
+pub sends_spec : {M : Type 1} → statement M
+sends_spec =
     tie.close
     (tie.spec
     marks-requires

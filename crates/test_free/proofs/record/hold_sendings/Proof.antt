@@ -30,16 +30,16 @@ judge-requires-4 c κs = search rules
 
 returns : tie.Need-returns
 returns c =
-    let j₃ = c.before.before.before in
-    let j₂ = j₃.before.before.before in
-    let j₁ = j₂.before.before.before in
-    let s = j₁.before.before.before.before.before.args in
+    let j₃ = c in
+    let j₂ = j₃ in
+    let j₁ = j₂ in
+    let s = j₁.args in
     four-sendings s.u s.message.now s.n s.account s.sent s.counted s.frames.now s.tally.now
-    j₁.judge.ensures j₁.before.sends.ensures j₂.judge2.ensures j₂.before.sends2.ensures
-    j₃.judge3.ensures j₃.before.sends3.ensures c.judge4.ensures c.before.sends4.ensures
+    j₁.judge.ensures j₁.sends.ensures j₂.judge-2.ensures j₂.sends-2.ensures
+    j₃.judge-3.ensures j₃.sends-3.ensures c.judge-4.ensures c.sends-4.ensures
 
-pub hold-sendings-spec : {M : Type 1} → statement M
-hold-sendings-spec =
+pub hold_sendings_spec : {M : Type 1} → statement M
+hold_sendings_spec =
     tie.close
     (tie.spec
     sends-requires

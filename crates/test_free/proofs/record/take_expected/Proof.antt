@@ -5,19 +5,19 @@ use borrow.Author.Rules.{rules}
 use Rattle.test_free.proofs.record.take_expected.Statement.{statement}
 use Rattle.test_free.proofs.record.take_expected.Tie as tie
 
-slice-aggregate-fill : tie.Need-slice-aggregate-fill
+slice-aggregate-fill : tie.Need-slice_bounds-fill-end
 slice-aggregate-fill c = search rules
 
-fill-requires : tie.Need-fill-requires
+fill-requires : tie.Need-fill-whole-requires
 fill-requires c κs = search rules
 
-sub_number : tie.Need-overflow-sub-number
+sub_number : tie.Need-slice_bounds-number-count
 sub_number c = search rules
 
-part-number-start : tie.Need-slice-bounds-number-start
+part-number-start : tie.Need-slice_bounds-number-start
 part-number-start c = search rules
 
-part-number-end : tie.Need-slice-bounds-number-end
+part-number-end : tie.Need-slice_bounds-number-end
 part-number-end c = search rules
 
 number-requires : tie.Need-number-requires
@@ -26,13 +26,13 @@ number-requires c κs = search rules
 given-requires : tie.Need-given-requires
 given-requires c κs = search rules
 
-sub-number-2 : tie.Need-overflow-sub-number-2
+sub-number-2 : tie.Need-slice_bounds-number-count-2
 sub-number-2 c = search rules
 
-part-number-start-2 : tie.Need-slice-bounds-number-start-2
+part-number-start-2 : tie.Need-slice_bounds-number-start-2
 part-number-start-2 c = search rules
 
-part-number-end-2 : tie.Need-slice-bounds-number-end-2
+part-number-end-2 : tie.Need-slice_bounds-number-end-2
 part-number-end-2 c = search rules
 
 number-requires-2 : tie.Need-number-requires-2
@@ -41,25 +41,25 @@ number-requires-2 c κs = search rules
 given-requires-2 : tie.Need-given-requires-2
 given-requires-2 c κs = search rules
 
-sub-account-in : tie.Need-overflow-sub-account-in
+sub-account-in : tie.Need-slice_bounds-account_in-count
 sub-account-in c = search rules
 
-part-account-in-start : tie.Need-slice-bounds-account-in-start
+part-account-in-start : tie.Need-slice_bounds-account_in-start
 part-account-in-start c = search rules
 
-part-account-in-end : tie.Need-slice-bounds-account-in-end
+part-account-in-end : tie.Need-slice_bounds-account_in-end
 part-account-in-end c = search rules
 
-account-in-requires : tie.Need-account-in-requires
+account-in-requires : tie.Need-account_in-requires
 account-in-requires c κs = search rules
 
 returns : tie.Need-returns
 returns c =
-    let b = c.before.before.before in
-    (ap (λ (a : Answer). a.number) b.before.before.before.before.given.ensures, ap (λ (a : Answer). a.number) b.given2.ensures, refl)
+    let b = c in
+    (ap (λ (a : Answer). a.number) b.given.ensures, ap (λ (a : Answer). a.number) b.given-2.ensures, refl)
 
-pub take-expected-spec : {M : Type 1} → statement M
-take-expected-spec =
+pub take_expected_spec : {M : Type 1} → statement M
+take_expected_spec =
     tie.close
     (tie.spec
     slice-aggregate-fill
