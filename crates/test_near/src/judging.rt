@@ -5,8 +5,8 @@ ghost use Rattle.test_tally.specs.Tally.{judged};
 ghost use Rattle.test_near.specs.Judged.{is_answer, library_answers, exported_answers, answers_by, bytes_left, passes};
 
 use super::{EXPORTED, LIBRARY, judge};
-use octets::same_bytes;
 use near_reading::NearReading;
+use octets::same_bytes;
 use test_data::{same_answer, same_float};
 
 // A reading without its samples and its bytes: the distance before the call, and the number and the distance that it has to give.

@@ -1,6 +1,8 @@
 // Reads the noisy samples of a coder that was written apart (tools/second-coder, which writes data/noisy.bin), by the library's near
 // reading and by the exported one. Each is held to the answer that stands there, to the distance by its bits, and to every byte of the
 // message. It prints how many readings passed, after a line for each that did not.
+#![tactic(auto)]
+
 mod judging;
 mod record;
 

@@ -1,6 +1,7 @@
 -- `exported`: its number, and the distance that it leaves. Assumes nothing.
 use mathlib.Core.Path.{◌≡◌, refl, sym, ap, ap₂, ◌∙◌}
 use lib.ListN.{length}
+use mir.Syntax.{w64}
 use mir.Facts.{to_z-of_z}
 use borrow.Author.Tests.{not-true, not-false}
 use Rattle.frames.specs.Reading.{same_number}
@@ -12,8 +13,8 @@ use Rattle.test_near.proofs.judging.exported.Statement.{statement}
 use Rattle.test_near.proofs.judging.exported.Tie as tie
 
 -- the number is compared with that of the data
-module _ (c : tie.After-same-answer) where
-  abbrev called : tie.After-coder-read-near
+module _ (c : tie.After-same_answer) where
+  abbrev called : tie.After-coder_read_near-r
   called = c.before.before.before.before
 
   abbrev s : tie.Start
@@ -24,42 +25,42 @@ module _ (c : tie.After-same-answer) where
   number_is =
       c.same_answer.ensures
       ∙ ap₂ same_number
-      (to_z-of_z (record { sfits = called.coder-read-near.ok }) ∙ called.coder-read-near.ensures.0)
-      (to_z-of_z (record { sfits = c.before.answer.type-inv }) ∙ c.before.answer.ensures)
+      (to_z-of_z {w = w64} (record { sfits = called.coder_read_near-r.type_inv }) ∙ called.coder_read_near-r.ensures.0)
+      (to_z-of_z {w = w64} (record { sfits = c.before.answer.type_inv }) ∙ c.before.answer.ensures)
 
-coder-read-near-requires : tie.Need-coder-read-near-requires
+coder-read-near-requires : tie.Need-coder_read_near-r-requires
 coder-read-near-requires c κs = search rules
 
 answer-requires : tie.Need-answer-requires
 answer-requires c κs = search rules
 
-same-answer-requires : tie.Need-same-answer-requires
+same-answer-requires : tie.Need-same_answer-requires
 same-answer-requires c κs = search rules
 
-same_length : tie.Need-same-length
+same_length : tie.Need-shape_of-message-then-not-same_answer
 same_length c = search rules
 
-returns : tie.Need-returns
+returns : tie.Need-returns-then-not-same_answer
 unfolding exported_answers
 returns c =
     let a = c.before in
-    (rw (sym (number_is a) ∙ not-true _ c.if1.true) refl, (called a).coder-read-near.ensures.1.0)
+    (rw (sym (number_is a) ∙ c.if-not-same_answer.true) refl, (called a).coder_read_near-r.ensures.1.0)
 
-same-float-requires : tie.Need-same-float-requires
+same-float-requires : tie.Need-same_float-requires
 same-float-requires c κs = search rules
 
-same-length-2 : tie.Need-same-length-2
+same-length-2 : tie.Need-shape_of-message
 same-length-2 c = search rules
 
-returns-2 : tie.Need-returns-2
+returns-2 : tie.Need-returns
 unfolding exported_answers
 returns-2 c =
     let a = c.before.before in
-    let e = (called a).coder-read-near.ensures in
-    (rw (sym (number_is a) ∙ not-false _ c.before.if1.false) (c.same_float.ensures ∙ ap (λ d. same_float d (s a).args.q.distance) e.1.1), e.1.0)
+    let e = (called a).coder_read_near-r.ensures in
+    (rw (sym (number_is a) ∙ c.before.if-not-same_answer.false) (c.same_float.ensures ∙ ap (λ d. same_float d (s a).args.q.distance) e.1.1), e.1.0)
 
-pub exported-spec : {M : Type 1} → statement M
-exported-spec =
+pub exported_spec : {M : Type 1} → statement M
+exported_spec =
     tie.close
     (tie.spec
     coder-read-near-requires
