@@ -126,7 +126,8 @@
  *
  * FOR FIRMWARE. The archive is for x86-64, ELF and the System V calling convention (Linux); there is none for other processors
  *     today. It needs nothing beyond the base of x86-64 (SSE2), and links into fixed and position-independent programs. It calls
- *     nothing (no libc, no allocation, no system call) and has no data that is written, so it is reentrant and safe in threads.
+ *     nothing but memset, which the compiler puts in for setting a buffer to zeros and which C libraries and firmware have (no
+ *     allocation, no system call), and has no data that is written, so it is reentrant and safe in threads.
  *     Only coder_send_counted, coder_send_queue (double), coder_read_near and coder_closer (float and double) compute in floating
  *     point; but every function save coder_open and coder_record_length uses the vector registers (xmm), which whoever interrupts a
  *     thread must save. The mode of rounding does not matter to the last two of the four; where mxcsr takes denormals for zero, as
@@ -135,21 +136,19 @@
  *     noise.
  *     Measured on the archive of this version, A=target/staticlib/libframe_coder.a:
  *
- *       nm -u $A        no undefined symbols: it prints the name of the member and nothing more
- *       size $A         text 25511 (code and constants), data 0, bss 0
- *       size -A $A      a section for each function, so that -Wl,--gc-sections leaves out what is not called: of 24651 bytes of
- *                       code coder_send alone needs 10927, the open and the strict reading 12770, coder_read_near alone 13194,
- *                       coder_closer alone 13450, coder_write_record alone 11258, coder_read_record alone 11443
+ *       nm -u $A        one undefined symbol: memset
+ *       size $A         text 26622 (code and constants), data 0, bss 0
+ *       size -A $A      a section for each function, so that -Wl,--gc-sections leaves out what is not called: of 25503 bytes of
+ *                       code coder_send alone needs 12703, the open and the strict reading 13088, coder_read_near alone 12234,
+ *                       coder_closer alone 12477, coder_write_record alone 13024, coder_read_record alone 10819
  *       cc -I crates/frame_coder tools/c/stack.c $A -o target/stack && target/stack
  *                       the most stack that a call used, in bytes, with its return address and the arguments on the stack:
- *                       coder_open 8, coder_send 1696, coder_send_counted 1760, coder_send_queue 1008, coder_read_open 624,
- *                       coder_read_strict 1632, coder_read_near 1608, coder_closer 1736, coder_write_record 1168,
- *                       coder_read_record 1520, coder_record_length 8
+ *                       coder_open 8, coder_send 2320, coder_send_counted 2352, coder_send_queue 1248, coder_read_open 576,
+ *                       coder_read_strict 2256, coder_read_near 1536, coder_closer 1664, coder_write_record 1424,
+ *                       coder_read_record 1792, coder_record_length 8
  *       objdump -dr $A | grep -E '>:$|push|sub .*,%rsp|-0x[0-9a-f]*\(%rsp\)|PLT32'
- *                       where it goes: the frames on the way down add up to the same (of coder_read_near and coder_closer to 8
- *                       more, which nothing is stored to), nothing recurs, and 128 of the bytes of sending, of the strict reading
- *                       and of both calls of records, and 8 of those of the open reading, lie below the stack pointer, in the red
- *                       zone of the calling convention: an interrupt on the same stack must leave out 128 bytes there
+ *                       where it goes. Nothing recurs, and some of the bytes, 128 at most, lie below the stack pointer, in the
+ *                       red zone of the calling convention: an interrupt on the same stack must leave out 128 bytes there
  *
  * Every function of the archive is proved to answer, and to leave in what it is lent, what crates/frame_coder/src/lib.rt says.
  * The functions that are written out in this header (lengths, limits, names, account, recording) are plain C and tested only, by
