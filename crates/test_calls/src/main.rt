@@ -1,6 +1,8 @@
 // Makes the calls of a coder that was written apart (tools/second-coder, which writes data/calls.bin), of the library's
 // functions and of the exported ones, and holds each to the answer that stands there and to all that it leaves in what it is lent. It
 // prints how many calls of each function passed, after a line for each that did not.
+#![tactic(auto)]
+
 mod exported;
 mod library;
 mod record;

@@ -27,46 +27,46 @@ wide (pos n) f = omega (arith, f.sfits)
 wide (negsuc n) f = omega (arith, f.sfits)
 
 -- an answer that is minus a number: what the two tests say
-minus : (c : tie.Then2) → nat_abs c.before.before.args.r < 256
+minus : (c : tie.Then-r-lt0) → nat_abs c.args.r < 256
 minus c =
-    let s = c.before.before in
+    let s = c in
     let f = s.ranges.r in
-    small s.args.r (simp (to_z-of_z f) at c.before.if1.false) (simp (to_z-of_z f) at c.if2.true)
+    small s.args.r (simp (to_z-of_z f) at c.if-r-ltminus255.false) (simp (to_z-of_z f) at c.if-r-lt0.true)
 
-returns : tie.Need-returns
+returns : tie.Need-returns-then-r-ltminus255
 returns c =
-    let s = c.before in
-    below-bytes s.args.account s.args.r (simp (to_z-of_z s.ranges.r) at c.if1.true)
+    let s = c in
+    below-bytes s.args.account s.args.r (simp (to_z-of_z s.ranges.r) at c.if-r-ltminus255.true)
 
-sub-t4 : tie.Need-overflow-sub-t4
-sub-t4 c = let s = c.before.before in simp (to_z-of_z s.ranges.r) (minus-fits s.args.r (minus c))
+sub-t4 : tie.Need-overflow_sub-result
+sub-t4 c = let s = c in simp (to_z-of_z s.ranges.r) (minus-fits s.args.r (minus c))
 
-cast-t5 : tie.Need-overflow-cast-t5
+cast-t5 : tie.Need-overflow_cast-result
 cast-t5 c =
-    let s = c.before.before in
+    let s = c in
     let z = s.args.r in
     let f = s.ranges.r in
-    let n = neg-sign z (simp (to_z-of_z f) at c.if2.true) in
+    let n = neg-sign z (simp (to_z-of_z f) at c.if-r-lt0.true) in
     simp (to_z-of_z f, to_z-of_z (minus-fits z (minus c))) (n.0, rw n.1 (omega (arith, minus c)))
 
-returns-2 : tie.Need-returns-2
+returns-2 : tie.Need-returns-then-r-lt0
 returns-2 c =
-    let s = c.before.before in
+    let s = c in
     let z = s.args.r in
     let f = s.ranges.r in
-    simp (to_z-of_z f, to_z-of_z (minus-fits z (minus c))) (minus-byte s.args.account z (minus c) (simp (to_z-of_z f) at c.if2.true))
+    simp (to_z-of_z f, to_z-of_z (minus-fits z (minus c))) (minus-byte s.args.account z (minus c) (simp (to_z-of_z f) at c.if-r-lt0.true))
 
-cast-t6 : tie.Need-overflow-cast-t6
+cast-t6 : tie.Need-overflow_cast-result-2
 cast-t6 c =
-    let s = c.before.before in
+    let s = c in
     let f = s.ranges.r in
-    simp (to_z-of_z f) (pos-sign s.args.r (simp (to_z-of_z f) at c.if2.false), wide s.args.r f)
+    simp (to_z-of_z f) (pos-sign s.args.r (simp (to_z-of_z f) at c.if-r-lt0.false), wide s.args.r f)
 
-returns-3 : tie.Need-returns-3
+returns-3 : tie.Need-returns
 returns-3 c =
-    let s = c.before.before in
+    let s = c in
     let f = s.ranges.r in
-    simp (to_z-of_z f) (from_zero s.args.account s.args.r (simp (to_z-of_z f) at c.if2.false))
+    simp (to_z-of_z f) (from_zero s.args.account s.args.r (simp (to_z-of_z f) at c.if-r-lt0.false))
 
-pub answer-spec : {M : Type 1} → statement M
-answer-spec = tie.close (tie.spec returns sub-t4 cast-t5 returns-2 cast-t6 returns-3)
+pub answer_spec : {M : Type 1} → statement M
+answer_spec = tie.close (tie.spec returns sub-t4 cast-t5 returns-2 cast-t6 returns-3)

@@ -6,14 +6,14 @@ use borrow.Author.Rules.{rules}
 use Rattle.test_calls.proofs.library.open.Statement.{statement}
 use Rattle.test_calls.proofs.library.open.Tie as tie
 
-open-requires : tie.Need-open-requires
+open-requires : tie.Need-open-r-requires
 open-requires c κs = search rules
 
 answer-requires : tie.Need-answer-requires
 answer-requires c κs = search rules
 
 returns : tie.Need-returns
-returns c = c.answer.ensures ∙ ap (λ (o : Opened). answered o.number 0 o.account) c.before.«open».ensures
+returns c = c.answer.ensures ∙ ap (λ (o : Opened). answered o.number 0 o.account) c.open-r.ensures
 
 pub open_spec : {M : Type 1} → statement M
 open_spec = tie.close (tie.spec open-requires answer-requires returns)

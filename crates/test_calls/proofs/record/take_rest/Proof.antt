@@ -1,24 +1,24 @@
 -- `take_rest`: the tally grows by the two judgements, or by a difference. Assumes nothing.
-use Rattle.test_tally.proofs.Counted.{as_it_was, grown-more, by_one}
+use Rattle.test_tally.proofs.Counted.{grown-more, by_one}
 use mathlib.Core.Bool.{false}
 use borrow.Author.Rules.{rules}
 use Rattle.test_calls.proofs.record.take_rest.Statement.{statement}
 use Rattle.test_calls.proofs.record.take_rest.Tie as tie
 
-take-lent-requires : tie.Need-take-lent-requires
+take-lent-requires : tie.Need-take_lent-lent-requires
 take-lent-requires c κs = search rules
 
-take-answer-requires : tie.Need-take-answer-requires
+take-answer-requires : tie.Need-take_answer-answer-requires
 take-answer-requires c κs = search rules
 
-take-lent-requires-2 : tie.Need-take-lent-requires-2
+take-lent-requires-2 : tie.Need-take_lent-left-requires
 take-lent-requires-2 c κs = search rules
 
-file-differs-requires : tie.Need-file-differs-requires
+file-differs-requires : tie.Need-file_differs-requires
 file-differs-requires c κs = search rules
 
-returns : tie.Need-returns
-returns c = by_one 15 false c.file-differs.ensures
+returns : tie.Need-returns-then-not-left
+returns c = by_one 15 false c.file_differs.ensures
 
 holds-requires : tie.Need-holds-requires
 holds-requires c κs = search rules
@@ -32,13 +32,13 @@ holds-requires-2 c κs = search rules
 judge-requires-2 : tie.Need-judge-requires-2
 judge-requires-2 c κs = search rules
 
-returns-2 : tie.Need-returns-2
+returns-2 : tie.Need-returns
 returns-2 c =
-    let t = c.before.before.before in
-    grown-more (by_one _ _ t.judge.ensures) (by_one _ _ c.judge2.ensures)
+    let t = c in
+    grown-more (by_one _ _ t.judge.ensures) (by_one _ _ c.judge-2.ensures)
 
-pub take-rest-spec : {M : Type 1} → statement M
-take-rest-spec =
+pub take_rest_spec : {M : Type 1} → statement M
+take_rest_spec =
     tie.close
     (tie.spec
     take-lent-requires
