@@ -3,6 +3,8 @@
 // grade: each bit alone, sparse, dense, and such as have several frames of least energy, found by a coder that was written apart
 // (tools/second-coder, which writes data/ways.bin); and some calls that are refused. It prints how many of each sort came out equal, after a
 // line for each that did not.
+#![tactic(auto)]
+
 mod record;
 
 ghost use Rattle.std.specs.Prelude.{◌≡◌, false};

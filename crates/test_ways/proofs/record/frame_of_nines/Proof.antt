@@ -8,5 +8,5 @@ returns : tie.Need-returns
 unfolding nines
 returns c = (refl, refl)
 
-pub frame-of-nines-spec : {M : Type 1} → statement M
-frame-of-nines-spec = tie.close (tie.spec returns)
+pub frame_of_nines_spec : {M : Type 1} → statement M
+frame_of_nines_spec = tie.close (tie.spec returns)

@@ -5,31 +5,31 @@ use borrow.Author.Rules.{rules}
 use Rattle.test_ways.proofs.record.take.Statement.{statement}
 use Rattle.test_ways.proofs.record.take.Tie as tie
 
-slice-aggregate-read-full : tie.Need-slice-aggregate-read-full
+slice-aggregate-read-full : tie.Need-slice_bounds-read_full-end
 slice-aggregate-read-full c = search rules
 
-read-full-requires : tie.Need-read-full-requires
+read-full-requires : tie.Need-read_full-got-requires
 read-full-requires c κs = search rules
 
-returns : tie.Need-returns
+returns : tie.Need-returns-then-got-eq0
 returns c = as_it_was _
 
-file-differs-requires : tie.Need-file-differs-requires
+file-differs-requires : tie.Need-file_differs-requires
 file-differs-requires c κs = search rules
 
-returns-2 : tie.Need-returns-2
-returns-2 c = by_one 15 false c.file-differs.ensures
+returns-2 : tie.Need-returns-then-got-lt9
+returns-2 c = by_one 15 false c.file_differs.ensures
 
-take-rest-requires : tie.Need-take-rest-requires
+take-rest-requires : tie.Need-take_rest-requires
 take-rest-requires c κs = search rules
 
-file-differs-requires-2 : tie.Need-file-differs-requires-2
+file-differs-requires-2 : tie.Need-file_differs-requires-then-not-take_rest
 file-differs-requires-2 c κs = search rules
 
-returns-3 : tie.Need-returns-3
-returns-3 c = let t = c.before.before.before in grown-more t.take_rest.ensures (by_one 15 false c.file-differs2.ensures)
+returns-3 : tie.Need-returns-then-not-take_rest
+returns-3 c = let t = c.before.before.before in grown-more t.take_rest.ensures (by_one 15 false c.file_differs-then-not-take_rest.ensures)
 
-returns-4 : tie.Need-returns-4
+returns-4 : tie.Need-returns
 returns-4 c = search rules
 
 pub take_spec : {M : Type 1} → statement M
