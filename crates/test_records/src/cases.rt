@@ -11,7 +11,7 @@ use test_data::{coordinates, count, fill, number, size};
 
 // A case without its bytes and coordinates. Kind, grade and number are those that are given to the writer, or that the reader has to give; then the refusal
 // number, the place of the record, the place after it, or the length that is asked for, and the energy that the reader has to give.
-#[derive(Drop)]
+#[derive(Clone, Copy)]
 pub struct Case {
     pub kind: u8,
     pub grade: u8,

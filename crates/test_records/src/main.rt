@@ -1,6 +1,8 @@
 // Writes and reads the recorded frames of a coder that was written apart (tools/second-coder, which writes data/records.bin), by the
 // library's functions and by the exported ones. The answers, and every byte and coordinate that is lent, are held to those that stand there. It
 // prints how many checks passed, after a line for each that did not.
+#![tactic(auto)]
+
 mod cases;
 mod length;
 mod reader;

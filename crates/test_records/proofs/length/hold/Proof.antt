@@ -17,5 +17,5 @@ returns c =
     let t = c.before.before.before.args.tally.now in
     c.judge.ensures ∙ ap (λ (p : Bool). judged 4 p t) c.before.length.ensures
 
-pub hold-spec : {M : Type 1} → statement M
-hold-spec = tie.close (tie.spec length-requires judge-requires returns)
+pub hold_spec : {M : Type 1} → statement M
+hold_spec = tie.close (tie.spec length-requires judge-requires returns)

@@ -12,16 +12,16 @@ reader-requires c κs = search rules
 judge-requires : tie.Need-judge-requires
 judge-requires c κs = search rules
 
-exported-reader-requires : tie.Need-exported-reader-requires
+exported-reader-requires : tie.Need-exported_reader-requires
 exported-reader-requires c κs = search rules
 
 judge-requires-2 : tie.Need-judge-requires-2
 judge-requires-2 c κs = search rules
 
-same_length : tie.Need-same-length
+same_length : tie.Need-shape_of-first
 same_length c = search rules
 
-same-length-2 : tie.Need-same-length-2
+same-length-2 : tie.Need-shape_of-second
 same-length-2 c = search rules
 
 returns : tie.Need-returns
@@ -30,13 +30,13 @@ returns c =
     let j = x.before.before.before in
     let w = j.before.before in
     let t = w.before.before.before.before.args.tally.now in (
-      c.judge2.ensures
-          ∙ ap₂ (judged 3) x.exported-reader.ensures.0 (j.judge.ensures ∙ ap (λ (p : Bool). judged 2 p t) w.reader.ensures.0),
-      (w.reader.ensures.1, x.exported-reader.ensures.1),
+      c.judge-2.ensures
+          ∙ ap₂ (judged 3) x.exported_reader.ensures.0 (j.judge.ensures ∙ ap (λ (p : Bool). judged 2 p t) w.reader.ensures.0),
+      (w.reader.ensures.1, x.exported_reader.ensures.1),
     )
 
-pub hold-spec : {M : Type 1} → statement M
-hold-spec =
+pub hold_spec : {M : Type 1} → statement M
+hold_spec =
     tie.close
     (tie.spec
     reader-requires

@@ -41,37 +41,37 @@ module _ (n e : ℕ) (h : n ≡ 0) where
 answer-requires : tie.Need-answer-requires
 answer-requires c κs = search rules
 
-same-answer-requires : tie.Need-same-answer-requires
+same-answer-requires : tie.Need-same_answer-requires
 same-answer-requires c κs = search rules
 
-returns : tie.Need-returns
+returns : tie.Need-returns-then-q-ne0
 returns c =
     let a = c.before in
     let s = a.before.before.before in
     c.same_answer.ensures
     ∙ ap₂ same_number
-    (to_z-of_z s.ranges.r)
-    (to_z-of_z (record { sfits = a.answer.type-inv }) ∙ a.answer.ensures ∙ refused s.args.q.refusal s.args.q.energy a.before.if1.true)
+    (to_z-of_z {w = w64} s.ranges.r)
+    (to_z-of_z {w = w64} (record { sfits = a.answer.type_inv }) ∙ a.answer.ensures ∙ refused s.args.q.refusal s.args.q.energy a.before.if-q-ne0.true)
 
-returns-2 : tie.Need-returns-2
+returns-2 : tie.Need-returns-then-r-lt0
 returns-2 c =
     let s = c.before.before.before in
-    below s.args.q.refusal s.args.q.energy c.before.if1.false s.args.r (simp (to_z-of_z s.ranges.r) at c.if2.true)
+    below s.args.q.refusal s.args.q.energy c.before.if-q-ne0.false s.args.r (simp (to_z-of_z {w = w64} s.ranges.r) at c.if-r-lt0.true)
 
-cast-result : tie.Need-overflow-cast-result
+cast-result : tie.Need-overflow_cast-result
 cast-result c =
     let s = c.before.before.before in
     let f = s.ranges.r in
-    simp (to_z-of_z f) (pos-sign s.args.r (simp (to_z-of_z f) at c.if2.false), wide s.args.r f)
+    simp (to_z-of_z f) (pos-sign s.args.r (simp (to_z-of_z f) at c.if-r-lt0.false), wide s.args.r f)
 
-returns-3 : tie.Need-returns-3
+returns-3 : tie.Need-returns
 returns-3 c =
     let d = c.before in
     let s = d.before.before.before in
     let f = s.ranges.r in
-    simp (to_z-of_z f) (from_zero s.args.q.refusal s.args.q.energy d.before.if1.false s.args.r (simp (to_z-of_z f) at d.if2.false))
+    simp (to_z-of_z f) (from_zero s.args.q.refusal s.args.q.energy d.before.if-q-ne0.false s.args.r (simp (to_z-of_z f) at d.if-r-lt0.false))
 
-pub is-answer-spec : {M : Type 1} → statement M
-is-answer-spec =
+pub is_answer_spec : {M : Type 1} → statement M
+is_answer_spec =
     tie.close
     (tie.spec answer-requires same-answer-requires returns returns-2 cast-result returns-3)

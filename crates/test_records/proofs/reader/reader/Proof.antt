@@ -9,40 +9,40 @@ use borrow.Author.Rules.{rules}
 use Rattle.test_records.proofs.reader.reader.Statement.{statement}
 use Rattle.test_records.proofs.reader.reader.Tie as tie
 
-read-record-requires : tie.Need-read-record-requires
+read-record-requires : tie.Need-read_record-r-requires
 read-record-requires c κs = search rules
 
-same-read-requires : tie.Need-same-read-requires
+same-read-requires : tie.Need-same_read-requires
 same-read-requires c κs = search rules
 
-same_length : tie.Need-same-length
+same_length : tie.Need-shape_of-frame-then-not-same_read
 same_length c = search rules
 
-returns : tie.Need-returns
+returns : tie.Need-returns-then-not-same_read
 unfolding reader_right
 returns c =
-    let t = c.before in
-    let e = t.before.before.read-record.ensures in
-    (rw (sym e.0, sym t.same_read.ensures ∙ not-true _ c.if1.true) refl, e.1)
+    let t = c in
+    let e = t.read_record-r.ensures in
+    (rw (sym e.0, sym t.same_read.ensures ∙ c.if-not-same_read.true) refl, e.1)
 
-same-coordinates-requires : tie.Need-same-coordinates-requires
+same-coordinates-requires : tie.Need-same_coordinates-requires
 same-coordinates-requires c κs = search rules
 
-same-length-2 : tie.Need-same-length-2
+same-length-2 : tie.Need-shape_of-frame
 same-length-2 c = search rules
 
-returns-2 : tie.Need-returns-2
+returns-2 : tie.Need-returns
 unfolding reader_right
 returns-2 c =
-    let d = c.before.before in
-    let t = d.before in
-    let w = t.before.before in
-    let left = w.before.before.before.args.left.now in
-    let e = w.read-record.ensures in
-    (rw (sym e.0, sym t.same_read.ensures ∙ not-false _ d.if1.false) (c.same-coordinates.ensures ∙ ap (λ (f : List ℤ). same_frame f left) e.1), e.1)
+    let d = c in
+    let t = d in
+    let w = t in
+    let left = w.args.left.now in
+    let e = w.read_record-r.ensures in
+    (rw (sym e.0, sym t.same_read.ensures ∙ d.if-not-same_read.false) (c.same_coordinates.ensures ∙ ap (λ (f : List ℤ). same_frame f left) e.1), e.1)
 
-pub reader-spec : {M : Type 1} → statement M
-reader-spec =
+pub reader_spec : {M : Type 1} → statement M
+reader_spec =
     tie.close
     (tie.spec
     read-record-requires

@@ -5,41 +5,41 @@ use Rattle.test_records.specs.Judged.{same_read}
 use Rattle.test_records.proofs.reader.same_read.Statement.{statement}
 use Rattle.test_records.proofs.reader.same_read.Tie as tie
 
-returns : tie.Need-returns
+returns : tie.Need-returns-then-r-q
 unfolding same_read
-returns c = rw (ne_eqb _ _ c.if1.true) refl
+returns c = rw (ne_eqb _ _ c.if-r-q.true) refl
 
-returns-2 : tie.Need-returns-2
+returns-2 : tie.Need-returns-then-r-q-2
 unfolding same_read
 returns-2 c =
     let d1 = c.before.before.before in
-    rw (eq-eqb _ _ d1.if1.false, ne_eqb _ _ c.if2.true) refl
+    rw (eq-eqb _ _ d1.if-r-q.false, ne_eqb _ _ c.if-r-q-2.true) refl
 
-returns-3 : tie.Need-returns-3
+returns-3 : tie.Need-returns-then-r-q-3
 unfolding same_read
 returns-3 c =
     let d2 = c.before.before.before in
     let d1 = d2.before.before.before in
-    rw (eq-eqb _ _ d1.if1.false, eq-eqb _ _ d2.if2.false, ne_eqb _ _ c.if3.true) refl
+    rw (eq-eqb _ _ d1.if-r-q.false, eq-eqb _ _ d2.if-r-q-2.false, ne_eqb _ _ c.if-r-q-3.true) refl
 
-returns-4 : tie.Need-returns-4
+returns-4 : tie.Need-returns-then-r-q-4
 unfolding same_read
 returns-4 c =
     let d3 = c.before.before.before in
     let d2 = d3.before.before.before in
     let d1 = d2.before.before.before in
-    rw (eq-eqb _ _ d1.if1.false, eq-eqb _ _ d2.if2.false, eq-eqb _ _ d3.if3.false, ne_eqb _ _ c.if4.true) refl
+    rw (eq-eqb _ _ d1.if-r-q.false, eq-eqb _ _ d2.if-r-q-2.false, eq-eqb _ _ d3.if-r-q-3.false, ne_eqb _ _ c.if-r-q-4.true) refl
 
-returns-5 : tie.Need-returns-5
+returns-5 : tie.Need-returns-then-r-q-5
 unfolding same_read
 returns-5 c =
     let d4 = c.before.before.before in
     let d3 = d4.before.before.before in
     let d2 = d3.before.before.before in
     let d1 = d2.before.before.before in
-    rw (eq-eqb _ _ d1.if1.false, eq-eqb _ _ d2.if2.false, eq-eqb _ _ d3.if3.false, eq-eqb _ _ d4.if4.false, ne_eqb _ _ c.if5.true) refl
+    rw (eq-eqb _ _ d1.if-r-q.false, eq-eqb _ _ d2.if-r-q-2.false, eq-eqb _ _ d3.if-r-q-3.false, eq-eqb _ _ d4.if-r-q-4.false, ne_eqb _ _ c.if-r-q-5.true) refl
 
-returns-6 : tie.Need-returns-6
+returns-6 : tie.Need-returns
 unfolding same_read
 returns-6 c =
     let d5 = c.before.before in
@@ -47,7 +47,7 @@ returns-6 c =
     let d3 = d4.before.before.before in
     let d2 = d3.before.before.before in
     let d1 = d2.before.before.before in
-    rw (eq-eqb _ _ d1.if1.false, eq-eqb _ _ d2.if2.false, eq-eqb _ _ d3.if3.false, eq-eqb _ _ d4.if4.false, eq-eqb _ _ d5.if5.false) refl
+    rw (eq-eqb _ _ d1.if-r-q.false, eq-eqb _ _ d2.if-r-q-2.false, eq-eqb _ _ d3.if-r-q-3.false, eq-eqb _ _ d4.if-r-q-4.false, eq-eqb _ _ d5.if-r-q-5.false) refl
 
-pub same-read-spec : {M : Type 1} → statement M
-same-read-spec = tie.close (tie.spec returns returns-2 returns-3 returns-4 returns-5 returns-6)
+pub same_read_spec : {M : Type 1} → statement M
+same_read_spec = tie.close (tie.spec returns returns-2 returns-3 returns-4 returns-5 returns-6)

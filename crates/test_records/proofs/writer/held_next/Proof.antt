@@ -5,13 +5,13 @@ use Rattle.test_records.specs.Judged.{held_next}
 use Rattle.test_records.proofs.writer.held_next.Statement.{statement}
 use Rattle.test_records.proofs.writer.held_next.Tie as tie
 
-returns : tie.Need-returns
+returns : tie.Need-returns-then-q-eq0
 unfolding held_next
-returns c = rw (eq-eqb _ _ c.if1.true) refl
+returns c = rw (eq-eqb _ _ c.if-q-eq0.true) refl
 
-returns-2 : tie.Need-returns-2
+returns-2 : tie.Need-returns
 unfolding held_next
-returns-2 c = rw (ne_eqb _ _ c.if1.false) refl
+returns-2 c = rw (ne_eqb _ _ c.if-q-eq0.false) refl
 
-pub held-next-spec : {M : Type 1} → statement M
-held-next-spec = tie.close (tie.spec returns returns-2)
+pub held_next_spec : {M : Type 1} → statement M
+held_next_spec = tie.close (tie.spec returns returns-2)

@@ -5,13 +5,13 @@ use Rattle.test_records.specs.Judged.{same_written}
 use Rattle.test_records.proofs.writer.same_written.Statement.{statement}
 use Rattle.test_records.proofs.writer.same_written.Tie as tie
 
-returns : tie.Need-returns
+returns : tie.Need-returns-then-r-q
 unfolding same_written
-returns c = rw (ne_eqb _ _ c.if1.true) refl
+returns c = rw (ne_eqb _ _ c.if-r-q.true) refl
 
-returns-2 : tie.Need-returns-2
+returns-2 : tie.Need-returns
 unfolding same_written
-returns-2 c = rw (eq-eqb _ _ c.before.before.if1.false) refl
+returns-2 c = rw (eq-eqb _ _ c.before.before.if-r-q.false) refl
 
-pub same-written-spec : {M : Type 1} → statement M
-same-written-spec = tie.close (tie.spec returns returns-2)
+pub same_written_spec : {M : Type 1} → statement M
+same_written_spec = tie.close (tie.spec returns returns-2)
