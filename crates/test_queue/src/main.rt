@@ -1,6 +1,8 @@
 // Sends the queues of a coder that was written apart (tools/second-coder, which writes data/queues.bin) three ways: in one call of the
 // library, in one call of the exported function, and message by message with an account. Each way is held to the answer that stands there
 // and to every coordinate. It prints how many queues passed each way, after a line for each that did not.
+#![tactic(auto)]
+
 mod judging;
 mod one_by_one;
 mod record;

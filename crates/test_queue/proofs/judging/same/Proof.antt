@@ -6,20 +6,20 @@ use borrow.Author.Rules.{rules}
 use Rattle.test_queue.proofs.judging.same.Statement.{statement}
 use Rattle.test_queue.proofs.judging.same.Tie as tie
 
-returns : tie.Need-returns
+returns : tie.Need-returns-then-a-b
 unfolding same_queued
-returns c = rw (ne_eqb _ _ c.if1.true) refl
+returns c = rw (ne_eqb _ _ c.if-a-b.true) refl
 
-returns-2 : tie.Need-returns-2
+returns-2 : tie.Need-returns-then-a-b-2
 unfolding same_queued
-returns-2 c = rw (eq-eqb _ _ c.before.before.before.if1.false, ne_eqb _ _ c.if2.true) refl
+returns-2 c = rw (eq-eqb _ _ c.before.before.before.if-a-b.false, ne_eqb _ _ c.if-a-b-2.true) refl
 
-same-account-requires : tie.Need-same-account-requires
+same-account-requires : tie.Need-same_account-requires
 same-account-requires c κs = search rules
 
-returns-3 : tie.Need-returns-3
+returns-3 : tie.Need-returns
 unfolding same_queued
-returns-3 c = rw (eq-eqb _ _ c.before.before.before.before.if1.false, eq-eqb _ _ c.before.if2.false) c.same-account.ensures
+returns-3 c = rw (eq-eqb _ _ c.before.before.before.before.if-a-b.false, eq-eqb _ _ c.before.if-a-b-2.false) c.same_account.ensures
 
 pub same_spec : {M : Type 1} → statement M
 same_spec = tie.close (tie.spec returns returns-2 same-account-requires returns-3)

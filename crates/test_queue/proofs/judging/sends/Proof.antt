@@ -11,41 +11,41 @@ use borrow.Author.Rules.{rules}
 use Rattle.test_queue.proofs.judging.sends.Statement.{statement}
 use Rattle.test_queue.proofs.judging.sends.Tie as tie
 
-returns : tie.Need-returns
+returns : tie.Need-returns-then-n-gt384
 unfolding holds_by
-returns c = rw (lt-leb _ _ c.if1.true) refl
+returns c = rw (lt-leb _ _ c.if-n-gt384.true) refl
 
-laid-out-requires : tie.Need-laid-out-requires
+laid-out-requires : tie.Need-laid_out-frames-requires
 laid-out-requires c κs = search rules
 
-add-e : tie.Need-overflow-add-e
+add-e : tie.Need-overflow_add-e
 add-e c = search rules
 
-sub_holds : tie.Need-overflow-sub-holds
+sub_holds : tie.Need-slice_bounds-holds-count
 sub_holds c = search rules
 
-part-frames-start : tie.Need-slice-bounds-frames-start
+part-frames-start : tie.Need-slice_bounds-frames-start
 part-frames-start c = search rules
 
-part-frames-end : tie.Need-slice-bounds-frames-end
+part-frames-end : tie.Need-slice_bounds-frames-end
 part-frames-end c = search rules
 
 holds-requires : tie.Need-holds-requires
 holds-requires c κs = search rules
 
-returns-2 : tie.Need-returns-2
+returns-2 : tie.Need-returns
 unfolding holds_by
 returns-2 c =
     let h = c.before in
     let l = h.before.before in
     let s = l.before.before.before.args in
-    rw (le-leb _ _ l.before.if1.false)
+    rw (le-leb _ _ l.before.if-n-gt384.false)
     (h.holds.ensures.0
     ∙ ap (λ (f : List ℤ). passes s.way s.q s.messages.now s.n f s.left.now)
-    (ap (λ (i : ℕ). take i l.laid_out.result) (sub-zero (s.n + 8)) ∙ ap (take (s.n + 8)) l.laid_out.ensures))
+    (ap (λ (i : ℕ). take i l.laid_out-frames.result) (sub-zero (s.n + 8)) ∙ ap (take (s.n + 8)) l.laid_out-frames.ensures))
 
-pub sends-spec : {M : Type 1} → statement M
-sends-spec =
+pub sends_spec : {M : Type 1} → statement M
+sends_spec =
     tie.close
     (tie.spec
     returns
