@@ -3,7 +3,6 @@ use mathlib.Core.Path.{◌≡◌, refl, sym, ap, ap₂, ◌∙◌}
 use lib.ListN.{length}
 use mir.Syntax.{w64}
 use mir.Facts.{to_z-of_z}
-use borrow.Author.Tests.{not-true, not-false}
 use Rattle.frames.specs.Reading.{same_number}
 use Rattle.answers.specs.Answer.{answer_of, near_code}
 use Rattle.test_data.specs.Alike.{same_float}

@@ -1,5 +1,4 @@
 -- `holds`: the answer, and then the bytes. Assumes nothing.
-use borrow.Author.Tests.{not-true, not-false}
 use Rattle.test_near.proofs.Passing.{no_room, bytes-are, answer-wrong, answer-right}
 use borrow.Author.Rules.{rules}
 use Rattle.test_near.proofs.judging.holds.Statement.{statement}

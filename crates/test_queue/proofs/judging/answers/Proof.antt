@@ -1,6 +1,5 @@
 -- `answers`: one of the three ways. Assumes nothing.
-use mathlib.Core.Path.{◌≡◌, ap, ◌∙◌}
-use mathlib.Core.Bool.{Bool}
+use mathlib.Core.Path.{ap, ◌∙◌}
 use borrow.Author.Tests.{eq-eqb, ne_eqb}
 use Rattle.queue_turns.specs.declared.Queued.{Queued}
 use Rattle.test_queue.specs.Judged.{same_queued, answers_by}

@@ -3,12 +3,12 @@ use mathlib.Core.Path.{◌≡◌, refl, sym, ap, ap₂, ◌∙◌}
 use lib.ListN.{length}
 use mir.Syntax.{w64}
 use mir.Facts.{to_z-of_z}
-use borrow.Author.Tests.{not-true, not-false, eq-eqb, ne_eqb}
+use borrow.Author.Tests.{eq-eqb, ne_eqb}
 use Rattle.frames.specs.Reading.{same_number}
 use Rattle.power_account.specs.declared.Account.{Account}
 use Rattle.answers.specs.Answer.{answer_of, queue_answer}
 use Rattle.test_data.specs.Alike.{same_account}
-use Rattle.test_queue.specs.Judged.{outcome, exported_answers}
+use Rattle.test_queue.specs.Judged.{exported_answers}
 use borrow.Author.Rules.{rules}
 use Rattle.test_queue.proofs.judging.exported.Statement.{statement}
 use Rattle.test_queue.proofs.judging.exported.Tie as tie

@@ -1,7 +1,6 @@
 -- `hold`: one judgement after the other. Assumes nothing.
 use mathlib.Core.Path.{◌≡◌, sym, ap, ap₂, ◌∙◌}
-use mathlib.Core.Bool.{Bool, cond}
-use borrow.Author.Tests.{not-true, not-false}
+use mathlib.Core.Bool.{Bool}
 use Rattle.test_tally.specs.Tally.{judged}
 use Rattle.test_queue.specs.Judged.{holds_by, counted}
 use borrow.Author.Rules.{rules}

@@ -1,5 +1,4 @@
 -- `holds`: the answer, and then the coordinates. Assumes nothing.
-use borrow.Author.Tests.{not-true, not-false}
 use Rattle.test_queue.proofs.Passing.{no_room, frames-are, answer-wrong, answer-right}
 use borrow.Author.Rules.{rules}
 use Rattle.test_queue.proofs.judging.holds.Statement.{statement}

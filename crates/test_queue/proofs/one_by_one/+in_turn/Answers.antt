@@ -1,5 +1,4 @@
 -- `in_turn`: the first message, and then the rest, as the definition has it. Assumes nothing.
-use Prim.Native.Nat.{ℕ, ◌≤◌}
 use mathlib.Core.Path.{◌≡◌, ◌∙◌}
 use lib.ListN.{length}
 use borrow.Rule.Slice.PartMut.{mid_len}

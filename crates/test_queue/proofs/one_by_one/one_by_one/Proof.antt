@@ -1,10 +1,9 @@
 -- `one_by_one`: a test before anything is sent refuses, or each is sent in turn. Assumes nothing.
 use Prim.Native.Nat.{ℕ, ◌*◌, ◌/◌}
-use mathlib.Core.Path.{◌≡◌, sym, ap, ap₂, ◌∙◌}
+use mathlib.Core.Path.{sym, ap, ap₂, ◌∙◌}
 use native.Mathlib.Omega.{arith}
 use lib.ListN.{length}
 use Rattle.frames.proofs.Rows.{grade-high}
-use Rattle.frames.specs.Kind.{message_bytes}
 use Rattle.queue_turns.specs.Queue.{calls_for, in_turn, frames_in_turn}
 use Rattle.queue_turns.proofs.Tests.{Fits, fits, some_bytes}
 use Rattle.queue_turns.proofs.InOrder.{refused-queue, sent-queue}

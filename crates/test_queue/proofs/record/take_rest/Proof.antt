@@ -1,5 +1,5 @@
 -- `take_rest`: the tally grows by the judgements of the queue where the record is whole. Assumes nothing.
-use mathlib.Core.Path.{◌≡◌, sym, subst}
+use mathlib.Core.Path.{sym, subst}
 use Rattle.test_tally.specs.Tally.{GrownBy}
 use Rattle.test_tally.proofs.Counted.{as_it_was}
 use Rattle.test_queue.proofs.Passing.{counted-grown}
