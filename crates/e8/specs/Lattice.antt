@@ -31,7 +31,7 @@ moved H [] ws = []
 moved H (x ∷ xs) [] = []
 moved H (x ∷ xs) (w ∷ ws) = (x -ℤ pos H *ℤ w) ∷ moved H xs ws
 
--- the blocks xs and zs differ by a point of M-as-E8: it is H·ws, where ws is twice a point of E8
+-- the blocks xs and zs differ by a point of M·E8: it is H·ws, where ws is twice a point of E8
 pub record InBlock (H : ℕ) (xs zs : List ℤ) : Type 0 where
   pub ws : List ℤ
   pub long : length ws ≡ length xs
@@ -42,7 +42,7 @@ pub record InBlock (H : ℕ) (xs zs : List ℤ) : Type 0 where
 abbrev pub part : ℕ → List ℤ → List ℤ
 part i xs = take 8 (drop (8 * i) xs)
 
--- xs and zs are frames of n blocks and differ by a point of the shaping lattice, which is M-as-E8 on each block: they are of one class
+-- xs and zs are frames of n blocks and differ by a point of the shaping lattice, which is M·E8 on each block: they are of one class
 pub record Differ (H n : ℕ) (xs zs : List ℤ) : Type 0 where
   pub whole : length xs ≡ 8 * n
   pub long : length zs ≡ length xs

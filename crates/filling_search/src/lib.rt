@@ -89,7 +89,7 @@ fn quietest(a: usize, grade: usize, free: usize, x: [i32; 8]) -> usize
     requires { (1 ≤ a) × (a ≤ 3) × (1 ≤ grade) × (grade ≤ 4) × (free ≤ 4) × Within (2 ^ 9) x }
     ensures { result ≡ quiet_of a grade free x }
 {
-    // Filled with a number that the compiler does not know: of zeros it makes a call of memset, and the archive calls nothing.
+    // Filled with a number that the compiler does not know: of zeros it makes a call of memset. (Of the larger one today's toolchain makes one all the same.)
     let v = x[0];
     let n = 8usize << free;
     if free <= 2 {

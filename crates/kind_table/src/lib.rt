@@ -10,7 +10,7 @@ ghost use Rattle.frames.specs.Sending.{unless};
 ghost use Rattle.kind_table.specs.Table.{row_of};
 
 // A row of the table: the number of levels, the degrees of their codes (0 where there is no level), and their message bits together.
-#[derive(Drop)]
+#[derive(Clone, Copy)]
 pub struct Kind {
     pub levels: usize,
     pub degrees: [usize; 3],

@@ -13,7 +13,7 @@ ghost use Rattle.level_1_search.specs.Changes.{first_place, Changed, Searched};
 use bits::word::bit;
 
 // A word, or changes of one, and the squared distance; 0 each where there is none.
-#[derive(Drop)]
+#[derive(Clone, Copy)]
 pub struct Found {
     pub found: bool,
     pub word: u64,

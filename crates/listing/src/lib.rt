@@ -17,7 +17,7 @@ pub struct Place {
 
 // What was put at the start of the lent line: its length, and the place from which the listing goes on. At the sheet's end the
 // listing ends.
-#[derive(Drop)]
+#[derive(Clone, Copy)]
 pub struct Written {
     pub length: usize,
     pub next: Place,

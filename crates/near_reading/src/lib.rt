@@ -9,7 +9,7 @@ ghost use Rattle.near_frames.specs.Near.{near_kind, near_frame};
 ghost use Rattle.near_reading.specs.Answer.{near_refusal, in_parts, near_number, near_distance, near_figures, near_message, near_answer, number_of, distance_of};
 
 // What the near reading answers: the squared distance, too far, or the number of the first test that is not passed.
-#[derive(Drop)]
+#[derive(Clone, Copy)]
 pub enum NearReading {
     Near(f64),
     Far,

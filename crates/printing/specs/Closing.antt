@@ -1,4 +1,4 @@
--- What an answer of the system's close says: the file is closed (0), or it is not (below 0). Assumes nothing.
+-- What the answer at the end of the output says: the file is closed, with what was written to it (0), or it is not (below 0). Assumes nothing.
 use Rattle.std.specs.Prelude.{◌≡◌, Bool, true, false, ℤ, pos, negsuc}
 
 -- what a call that succeeds or fails may answer: 0, or -1

@@ -26,14 +26,14 @@ pub struct Printed {
 }
 
 // A text handed to the writes: its bytes, and whether they were written.
-#[derive(Drop)]
+#[derive(Clone, Copy)]
 struct Handed {
     bytes: usize,
     whole: bool,
 }
 
 // What was read, and what was printed of it.
-#[derive(Drop)]
+#[derive(Clone, Copy)]
 pub struct Listed {
     pub input: Input,
     pub printed: Printed,

@@ -15,7 +15,7 @@ use strict::read_quiet;
 pub use strict::read_whole;
 
 // What a reading answers: its number, 0 where the message is given, and the energy of the frame.
-#[derive(Drop)]
+#[derive(Clone, Copy)]
 pub struct Reading {
     pub number: u8,
     pub energy: u64,

@@ -9,7 +9,7 @@ use frame_range::in_range;
 use strict_test::is_least;
 
 // What the tests give: the number of the first one that is not passed, and where all are the frame's levels, taken backwards.
-#[derive(Drop)]
+#[derive(Clone, Copy)]
 pub struct Tested {
     pub number: u8,
     pub words: [u64; 3],

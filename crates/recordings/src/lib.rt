@@ -2,7 +2,7 @@
 #![tactic(auto)]
 
 // Which recording is chosen; neither, by a number.
-#[derive(Drop)]
+#[derive(Clone, Copy)]
 pub enum Chosen {
     First,
     Second,

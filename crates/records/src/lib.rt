@@ -5,7 +5,7 @@ ghost use Rattle.std.specs.Prelude.{◌≡◌};
 ghost use Rattle.records.specs.Record.{record_length};
 
 // What the writer answers: the refusal number, 0 for success, and the place after the record, 0 where nothing is written.
-#[derive(Drop)]
+#[derive(Clone, Copy)]
 pub struct RecordWritten {
     pub refusal: u8,
     pub next: usize,
@@ -13,7 +13,7 @@ pub struct RecordWritten {
 
 // What the reader answers: the refusal number, 0 for success, the record's kind, grade and frame number, the energy of its frame, and the place after it. All
 // but the first are 0 where the record is refused.
-#[derive(Drop)]
+#[derive(Clone, Copy)]
 pub struct RecordRead {
     pub refusal: u8,
     pub kind: u8,

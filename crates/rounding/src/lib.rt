@@ -73,7 +73,7 @@ fn smallest(r: [i16; 8]) -> i16
 }
 
 // A block with every coordinate rounded, and what is to be known of it to choose the one to change, in the whole part and in the half part.
-#[derive(Drop)]
+#[derive(Clone, Copy)]
 pub struct RoundedBlock {
     pub block: [i32; 8],
     pub sum: i32,

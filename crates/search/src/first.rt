@@ -9,7 +9,7 @@ use bits::word::bit;
 use level_1_search::second_level;
 
 // The words of both levels, and the squared distance of the frame that they make; 0 each where there is none.
-#[derive(Drop)]
+#[derive(Clone, Copy)]
 pub struct Pair {
     pub found: bool,
     pub a: u64,

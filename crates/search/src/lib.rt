@@ -11,7 +11,7 @@ ghost use Rattle.near_frames.specs.Near.{near_kind, some_near, near_frame, near_
 use first::find;
 
 // Whether there is a near frame, and its squared distance; 0 where there is none.
-#[derive(Drop)]
+#[derive(Clone, Copy)]
 pub struct Place {
     pub found: bool,
     pub cost: u32,

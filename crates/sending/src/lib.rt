@@ -11,14 +11,14 @@ ghost use Rattle.frames.specs.Free.{FreeMessage, quiet_frame};
 ghost use Rattle.frames.specs.Sending.{send_refusal, frame_after, energy_sent, LeastOfFillings};
 
 // What sending answers: the refusal number, 0 for success, and the energy of the frame sent.
-#[derive(Drop)]
+#[derive(Clone, Copy)]
 pub struct Outcome {
     pub number: u8,
     pub energy: u64,
 }
 
 // The energy of a frame, and the largest of its blocks'.
-#[derive(Drop)]
+#[derive(Clone, Copy)]
 pub struct Energies {
     pub energy: u64,
     pub largest: u64,

@@ -8,7 +8,7 @@ ghost use Rattle.sheet_input.specs.Reading.{Moved, after_read, ReadBy};
 use std::io::Read;
 
 // What was read so far: how many bytes stand at the start of the room, whether the reading is over, and whether a read failed.
-#[derive(Drop)]
+#[derive(Clone, Copy)]
 pub struct Input {
     pub length: usize,
     pub over: bool,

@@ -9,7 +9,7 @@ ghost use Rattle.text.specs.Line.{refused_text};
 ghost use Rattle.sheet_line.specs.Sent.{sent_line};
 
 // What putting the line of a message answers: the number of sending, and the length of the line.
-#[derive(Drop)]
+#[derive(Clone, Copy)]
 pub struct Answer {
     pub number: u8,
     pub length: usize,

@@ -1,4 +1,4 @@
--- When what a call left is what the data says: floats by their bits, accounts. For bytes it is same_bytes of bytes, for coordinates same_frame of frames.
+-- When what a call left is what the data says: floats by their bits, accounts. For bytes it is same_bytes of octets, for coordinates same_frame of frames.
 -- Assumes nothing.
 use Rattle.std.specs.Prelude.{ℕ, Bool, ◌&&◌, eqb, Float}
 use Rattle.std.specs.Float.{binary64}

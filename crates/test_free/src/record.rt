@@ -11,7 +11,7 @@ use account::Account;
 use test_data::{account_in, count, fill, number, size};
 
 // What sending without the account and with it has to answer; and whether the file had it.
-#[derive(Drop)]
+#[derive(Clone, Copy)]
 struct Expected {
     whole: bool,
     sent: Sent,

@@ -46,7 +46,7 @@ fn reader(q: Case, buffer: &[u8], frame: &mut [i32], left: &[i32]) -> bool
 }
 
 // The figures that the exported reader stores.
-#[derive(Drop)]
+#[derive(Clone, Copy)]
 struct Figures {
     kind: u8,
     grade: u8,

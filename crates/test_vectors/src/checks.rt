@@ -27,7 +27,7 @@ use octets::same_bytes;
 use test_data::same_coordinates;
 
 // The energies of a vector: of the sent frame, and of the frames that it becomes with a point of the lattice added.
-#[derive(Drop)]
+#[derive(Clone, Copy)]
 pub struct Energies {
     pub sent: u64,
     pub whole: u64,
