@@ -65,12 +65,6 @@ to-48 c = gathered_next (to-40 c.before.before.before) (omega arith) c.gather_ei
 add-b-5 : tie.Need-overflow_add-b-5
 add-b-5 c = omega (arith, gathered-sizes (to-40 c.before.before.before) c.gather_eight-5.ensures)
 
-low-bits-requires-2 : tie.Need-low_bits-requires-then-count-le48
-low-bits-requires-2 c κs = search rules
-
-returns-2 : tie.Need-returns-then-count-le48
-returns-2 c = c.low_bits-then-count-le48.ensures ∙ gathered-low right-64 (to-48 c.before.before) c.before.if-count-le48.true
-
 gather-eight-requires-7 : tie.Need-gather_eight-requires-6
 gather-eight-requires-7 c κs = (omega arith, below_64 refl)
 
@@ -112,8 +106,8 @@ gather_64_spec =
     add-b-4
     gather-eight-requires-6
     add-b-5
-    low-bits-requires-2
-    returns-2
+    (λ c κs. search rules)
+    (λ c. let held = gathered-low right-64 (to-48 c.before.before) {count = c.args.count} (omega arith) in cc held)
     gather-eight-requires-7
     add-c
     gather-eight-requires-8
