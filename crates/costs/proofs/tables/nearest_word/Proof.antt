@@ -115,65 +115,14 @@ mul-costs-2 c = record { fits = omega (arith, few (turn c.before)) }
 slice-write-costs : tie.Need-bounds-costs-p invariant-loop-p decreases-loop-p
 slice-write-costs c = omega (arith, room (turn c.before))
 
-mul-costs-3 : tie.Need-overflow_mul-costs-then-one-zero invariant-loop-p decreases-loop-p
-mul-costs-3 c = record { fits = omega (arith, few (turn c.before)) }
-
 add-costs : tie.Need-overflow_add-costs invariant-loop-p decreases-loop-p
 add-costs c = record { fits = omega (arith, few (turn c.before)) }
-
-mul-costs-4 : tie.Need-offset_bounds-costs-p-then-one-zero invariant-loop-p decreases-loop-p
-mul-costs-4 c = record { fits = omega (arith, few (turn c.before)) }
-
-slice-write-costs-2 : tie.Need-bounds-costs-p-then-one-zero invariant-loop-p decreases-loop-p
-slice-write-costs-2 c = rw length-set (room (turn c.before))
 
 mul-word : tie.Need-overflow_mul-word invariant-loop-p decreases-loop-p
 mul-word c = record { fits = omega (arith, half (turn c.before)) }
 
 add-word : tie.Need-overflow_add-word invariant-loop-p decreases-loop-p
 add-word c = record { fits = omega (arith, half (turn c.before)) }
-
-loop-less : tie.Need-loop-p-smaller-then-one-zero invariant-loop-p decreases-loop-p
-loop-less c = omega (arith, (turn c.before).loop-p-test.true)
-
-loop-again : tie.Need-loop-p-preserved-then-one-zero invariant-loop-p decreases-loop-p
-loop-again c =
-    let i = turn c.before in
-    chosen-one (ts i) (s i).args.a i.before.loop-p.costs i.before.loop-p.word i.before.loop-p.p (so i) i.loop-p-test.true
-    c.before.before.gap_of-zero.result c.before.gap_of-one.result (keep c.before) (change c.before) c.if-one-zero.true
-
-mul-costs-5 : tie.Need-overflow_mul-costs-else-one-zero invariant-loop-p decreases-loop-p
-mul-costs-5 c = record { fits = omega (arith, few (turn c.before)) }
-
-mul-costs-6 : tie.Need-offset_bounds-costs-p-else-one-zero invariant-loop-p decreases-loop-p
-mul-costs-6 c = record { fits = omega (arith, few (turn c.before)) }
-
-slice-write-costs-3 : tie.Need-bounds-costs-p-else-one-zero invariant-loop-p decreases-loop-p
-slice-write-costs-3 c = omega (arith, room (turn c.before))
-
-mul-costs-7 : tie.Need-overflow_mul-costs-else-one-zero-2 invariant-loop-p decreases-loop-p
-mul-costs-7 c = record { fits = omega (arith, few (turn c.before)) }
-
-add-costs-2 : tie.Need-overflow_add-costs-else-one-zero invariant-loop-p decreases-loop-p
-add-costs-2 c = record { fits = omega (arith, few (turn c.before)) }
-
-mul-costs-8 : tie.Need-offset_bounds-costs-p-else-one-zero-2 invariant-loop-p decreases-loop-p
-mul-costs-8 c = record { fits = omega (arith, few (turn c.before)) }
-
-slice-write-costs-4 : tie.Need-bounds-costs-p-else-one-zero-2 invariant-loop-p decreases-loop-p
-slice-write-costs-4 c = rw length-set (room (turn c.before))
-
-mul-word-2 : tie.Need-overflow_mul-word-else-one-zero invariant-loop-p decreases-loop-p
-mul-word-2 c = record { fits = omega (arith, half (turn c.before)) }
-
-loop-less-2 : tie.Need-loop-p-smaller invariant-loop-p decreases-loop-p
-loop-less-2 c = omega (arith, (turn c.before).loop-p-test.true)
-
-loop-again-2 : tie.Need-loop-p-preserved invariant-loop-p decreases-loop-p
-loop-again-2 c =
-    let i = turn c.before in
-    chosen-zero (ts i) (s i).args.a i.before.loop-p.costs i.before.loop-p.word i.before.loop-p.p (so i) i.loop-p-test.true
-    c.before.before.gap_of-zero.result c.before.gap_of-one.result (keep c.before) (change c.before) c.if-one-zero.false
 
 same_length : tie.Need-shape_of-costs invariant-loop-p decreases-loop-p
 same_length c = c.before.loop-p.invariant.long ∙ sym c.before.before.before.requires.0
@@ -203,23 +152,27 @@ nearest_word_spec =
     mul-costs
     mul-costs-2
     slice-write-costs
-    mul-costs-3
+    (λ c. record { fits = omega (arith, few (turn c.before)) })
     add-costs
-    mul-costs-4
-    slice-write-costs-2
+    (λ c. record { fits = omega (arith, few (turn c.before)) })
+    (λ c. rw length-set (room (turn c.before)))
     mul-word
     add-word
-    loop-less
-    loop-again
-    mul-costs-5
-    mul-costs-6
-    slice-write-costs-3
-    mul-costs-7
-    add-costs-2
-    mul-costs-8
-    slice-write-costs-4
-    mul-word-2
-    loop-less-2
-    loop-again-2
+    (λ c. omega (arith, (turn c.before).loop-p-test.true))
+    (λ c. let i = turn c.before in
+    chosen-one (ts i) (s i).args.a i.before.loop-p.costs i.before.loop-p.word i.before.loop-p.p (so i) i.loop-p-test.true
+    c.before.before.gap_of-zero.result c.before.gap_of-one.result (keep c.before) (change c.before) (omega arith))
+    (λ c. record { fits = omega (arith, few (turn c.before)) })
+    (λ c. record { fits = omega (arith, few (turn c.before)) })
+    (λ c. omega (arith, room (turn c.before)))
+    (λ c. record { fits = omega (arith, few (turn c.before)) })
+    (λ c. record { fits = omega (arith, few (turn c.before)) })
+    (λ c. record { fits = omega (arith, few (turn c.before)) })
+    (λ c. rw length-set (room (turn c.before)))
+    (λ c. record { fits = omega (arith, half (turn c.before)) })
+    (λ c. omega (arith, (turn c.before).loop-p-test.true))
+    (λ c. let i = turn c.before in
+    chosen-zero (ts i) (s i).args.a i.before.loop-p.costs i.before.loop-p.word i.before.loop-p.p (so i) i.loop-p-test.true
+    c.before.before.gap_of-zero.result c.before.gap_of-one.result (keep c.before) (change c.before) (omega arith))
     same_length
     returns)
