@@ -28,38 +28,38 @@ send_counted_spec =
     refused-requires
     -- a refusal leaves all as it was
     (λ c.
-      let s = c.args in
-      let e = c.refused.ensures in
-      let no : c.refused.result.number ≡ 0 → ⊥ = λ z. omega (arith, z, e.0) in
-      let n = refused-leaves c.refused.result.number s.kind s.grade s.free (number_for s.account) s.message.now s.frame.now no in
-      let a = account-refused c.refused.result.number s.kind s.grade s.free s.message.now s.account no in
-      (e.0 ∙ c.refusal-number.ensures, (sym n.0, (e.1 ∙ sym n.1, (e.2 ∙ sym a, λ z. absurd (no z))))))
+    let s = c.args in
+    let e = c.refused.ensures in
+    let no : c.refused.result.number ≡ 0 → ⊥ = λ z. omega (arith, z, e.0) in
+    let n = refused-leaves c.refused.result.number s.kind s.grade s.free (number_for s.account) s.message.now s.frame.now no in
+    let a = account-refused c.refused.result.number s.kind s.grade s.free s.message.now s.account no in
+    (e.0 ∙ c.refusal-number.ensures, (sym n.0, (e.1 ∙ sym n.1, (e.2 ∙ sym a, λ z. absurd (no z))))))
     -- past the test the number is 0
     (λ c κs.
-      let zero : c.refusal-number.result ≡ 0 = omega arith in
-      sym c.refusal-number.ensures ∙ zero)
+    let zero : c.refusal-number.result ≡ 0 = omega arith in
+    sym c.refusal-number.ensures ∙ zero)
     same_length
     (λ c.
-      let s = c.args in
-      let zero : c.refusal-number.result ≡ 0 = omega arith in
-      let accepted = sym c.refusal-number.ensures ∙ zero in
-      let number = c.write_counted.result.number in
-      let e = c.write_counted.ensures in
-      let z : number ≡ 0 = e.1.0.0 in
-      let p = all-passed s.kind s.grade s.free s.message.now (length s.frame.now)
-        (passed s.kind s.grade s.free s.message.now (length s.frame.now) s.account accepted) in
-      let low = grade-low s.grade p.grade in
-      let t = sent-leaves number s.kind s.grade s.free (number_for s.account) s.message.now s.frame.now z in
-      let q = account-sent number s.kind s.grade s.free s.message.now s.account z in (
-        z ∙ sym accepted,
+    let s = c.args in
+    let zero : c.refusal-number.result ≡ 0 = omega arith in
+    let accepted = sym c.refusal-number.ensures ∙ zero in
+    let number = c.write_counted.result.number in
+    let e = c.write_counted.ensures in
+    let z : number ≡ 0 = e.1.0.0 in
+    let p = all-passed s.kind s.grade s.free s.message.now (length s.frame.now)
+    (passed s.kind s.grade s.free s.message.now (length s.frame.now) s.account accepted) in
+    let low = grade-low s.grade p.grade in
+    let t = sent-leaves number s.kind s.grade s.free (number_for s.account) s.message.now s.frame.now z in
+    let q = account-sent number s.kind s.grade s.free s.message.now s.account z in (
+      z ∙ sym accepted,
+      (
+        e.0 ∙ sym t.0,
         (
-          e.0 ∙ sym t.0,
+          e.1.0.1 ∙ sym t.1,
           (
-            e.1.0.1 ∙ sym t.1,
-            (
-              e.1.1 ∙ sym q,
-              λ _. quiet-least s.kind s.grade s.free (number_for s.account) p.kind low s.message.now e.0 e.1.0.1,
-            ),
+            e.1.1 ∙ sym q,
+            λ _. quiet-least s.kind s.grade s.free (number_for s.account) p.kind low s.message.now e.0 e.1.0.1,
           ),
         ),
-      )))
+      ),
+    )))
