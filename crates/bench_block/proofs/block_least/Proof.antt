@@ -58,11 +58,6 @@ returns c = let s = c.before in refused s (by-scale (k s) (x s) (length (lent s)
 returns-2 : tie.Need-returns-then-block-ne8
 returns-2 c = let s = c.before.before in refused s (by-block (k s) (x s) (length (lent s)) c.before.if-k-gt6.false c.if-block-ne8.true)
 
-returns-3 : tie.Need-returns-then-least-ne8
-returns-3 c =
-    let s = c.before.before.before in
-    refused s (by-lent (k s) (x s) (length (lent s)) c.before.before.if-k-gt6.false c.before.if-block-ne8.false c.if-least-ne8.true)
-
 within-requires : tie.Need-within-requires
 within-requires c κs = omega arith
 
@@ -73,7 +68,7 @@ start c = c.before.before.before.before
 range-decides : (c : tie.After-within) → answer (start c) ≡ is_within (2 ^ 24) (x (start c))
 range-decides c =
     let s = start c in
-    by-range (k s) (x s) (length (lent s)) c.before.before.before.if-k-gt6.false c.before.before.if-block-ne8.false c.before.if-least-ne8.false
+    by-range (k s) (x s) (length (lent s)) c.before.before.before.if-k-gt6.false c.before.before.if-block-ne8.false (omega arith)
 
 returns-4 : tie.Need-returns-then-not-within
 returns-4 c = let n = c.before in refused (start n) (range-decides n ∙ sym n.within.ensures ∙ c.if-not-within.true)
@@ -110,7 +105,8 @@ block_least_spec =
     (tie.spec
     returns
     returns-2
-    returns-3
+    (λ c. let s = c.before.before.before in
+    refused s (by-lent (k s) (x s) (length (lent s)) c.before.before.if-k-gt6.false c.before.if-block-ne8.false (λ e. omega arith)))
     within-requires
     returns-4
     load-requires
