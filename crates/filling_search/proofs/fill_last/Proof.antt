@@ -20,14 +20,6 @@ lent s = s.args.leader.now
 x-is : (c : tie.After-load-x) → let l = lent c.before.before.before in c.load-x.result ≡ drop (length l - 8) l
 x-is c = let s = c.before.before.before in c.load-x.ensures ∙ last_block (lent s) s.requires.5
 
--- where no bit is free, the filling is 0, and changes nothing
-returns : tie.Need-returns-then-free-eq0
-returns c =
-    let s = c.before in
-    let g = s.args in
-    let none : g.free ≡ 0 = omega (arith, c.if-free-eq0.true) in
-    sym (ap (λ (f : ℕ). quiet_last g.a g.grade f (lent s)) none ∙ none_last g.a g.grade (lent s) s.requires.5)
-
 sub-s : tie.Need-overflow_sub-s
 sub-s c = search rules
 
@@ -99,11 +91,15 @@ returns-2 c =
     ∙ ap (λ (φ : ℕ). filled_block g.a g.grade g.free φ q.before.load-x.result) q.quietest-phi.ensures
     ∙ ap (λ (x : List ℤ). filled_block g.a g.grade g.free (quiet_of g.a g.grade g.free x) x) (x-is q.before))
 
+-- where no bit is free, the filling is 0, and changes nothing: the first answer
 pub fill_last_spec : {M : Type 1} → statement M
 fill_last_spec =
     tie.close
     (tie.spec
-    returns
+    (λ c. let s = c.before in
+    let g = s.args in
+    let none : g.free ≡ 0 = omega arith in
+    sym (ap (λ (f : ℕ). quiet_last g.a g.grade f (lent s)) none ∙ none_last g.a g.grade (lent s) s.requires.5))
     sub-s
     add-e
     mul-load
