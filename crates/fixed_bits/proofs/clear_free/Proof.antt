@@ -43,13 +43,6 @@ module _ (c : tie.After-message_bits) where
   unfolding free_from
   end = omega (arith, (last start).begin, start.requires.2)
 
-returns : tie.Need-returns-then-free-eq0
-returns c =
-    let s = c.before.before in
-    let g = s.args in
-    let none : g.free ≡ 0 = omega (arith, c.if-free-eq0.true) in
-    sym (ap (λ (f : ℕ). filled g.kind g.grade f 0 g.message.now) none ∙ filled_none g.kind g.grade 0 g.message.now s.requires.3.each)
-
 sub-last : tie.Need-overflow_sub-last
 sub-last c = (last c.before.before).some
 
@@ -72,10 +65,10 @@ cast-message : tie.Need-overflow_cast-message
 cast-message c = omega (arith, within c.before)
 
 shl-message : tie.Need-overflow_shl-message
-shl-message c = let m = c.before in omega (arith, within m, m.before.if-free-eq0.false)
+shl-message c = let m = c.before in omega (arith, within m)
 
 rem-message : tie.Need-nonzero_rem-message
-rem-message c = let m = c.before in shifted-pos _ (omega (arith, within m, m.before.if-free-eq0.false))
+rem-message c = let m = c.before in shifted-pos _ (omega (arith, within m))
 
 slice-write-message : tie.Need-bounds-message-last-2
 slice-write-message c = omega (arith, (last (start c.before)).some)
@@ -90,13 +83,16 @@ returns-2 c =
     let s = start m in
     let g = s.args in
     cleared g.kind g.grade g.free _ (bytes m) s.requires.3 (last s).some
-    (omega (arith, begin m, m.message_bits.ensures, s.requires.2)) (end m) (omega (arith, within m, m.before.if-free-eq0.false))
+    (omega (arith, begin m, m.message_bits.ensures, s.requires.2)) (end m) (omega (arith, within m))
 
 pub clear_free_spec : {M : Type 1} → statement M
 clear_free_spec =
     tie.close
     (tie.spec
-    returns
+    (λ c. let s = c.before.before in
+    let g = s.args in
+    let none : g.free ≡ 0 = omega arith in
+    sym (ap (λ (f : ℕ). filled g.kind g.grade f 0 g.message.now) none ∙ filled_none g.kind g.grade 0 g.message.now s.requires.3.each))
     sub-last
     message-bits-requires
     sub_at
