@@ -92,10 +92,6 @@ answer-is r =
     r.refusal-number.ensures
     ∙ ap₂ (λ (m : List ℕ) (n : ℕ). counted_refusal s.kind s.grade 0 m n a.loop-i.grown) (part-is a.loop-i.i s.messages.now t.message) t.frame
 
--- past the test it is accepted
-accepted : (d : tie.Else-number-ne0 invariant-loop-i decreases-loop-i) → d.before.refusal-number.result ≡ 0
-accepted d = omega (arith, d.if-number-ne0.false)
-
 message-bytes-requires : tie.Need-message_bytes-m-requires invariant-loop-i decreases-loop-i
 message-bytes-requires c κs = let f = fit c.before in (f.kind, grade-high _ f.grade)
 
@@ -135,22 +131,6 @@ part-refusal-end c = omega (arith, (turn c).bytes)
 refusal-requires : tie.Need-refusal-number-requires invariant-loop-i decreases-loop-i
 refusal-requires c κs = tt
 
-same_length : tie.Need-shape_of-frames-then-number-ne0 invariant-loop-i decreases-loop-i
-same_length c = let e = c.before.before.before.before.loop-i.invariant.long in search (rules, e)
-
-returns : tie.Need-returns-then-number-ne0 invariant-loop-i decreases-loop-i
-returns c =
-    let r = c.before in
-    let l = r.before.before in
-    let a = l.before in
-    let s = (at-start a).args in
-    let no : answer a.loop-i.grown (the_call a) ≡ 0 → ⊥ = λ z. omega (arith, c.if-number-ne0.true, answer-is r ∙ z) in
-    let h = (turn l).inside in (
-      ap (λ (n : ℕ). record { number = n; sent = a.loop-i.i; account = a.loop-i.grown }) (answer-is r)
-          ∙ stop-answer s.kind s.grade s.messages.now a.loop-i.invariant h no,
-      stop-frames s.kind s.grade s.messages.now a.loop-i.invariant h no,
-    )
-
 sub-write-counted : tie.Need-slice_bounds-write_counted-count invariant-loop-i decreases-loop-i
 sub-write-counted c = omega arith
 
@@ -174,14 +154,14 @@ part-write-counted-end-2 c = omega (arith, (turn c.before.before.before.before).
 
 write-counted-requires : tie.Need-write_counted-w-requires invariant-loop-i decreases-loop-i
 write-counted-requires c κs =
-    let d = c.before.before in
-    let r = d.before in
+    let r = c.before.before.before in
     let a = r.before.before.before in
     let s = (at-start a).args in
+    let accepted : r.refusal-number.result ≡ 0 = omega arith in
     let m = (at-bytes a).message_bytes-m.result in
     let message = take (m * a.loop-i.i + m - m * a.loop-i.i) (drop (m * a.loop-i.i) s.messages.now) in
     ap (λ (x : ℕ). counted_refusal s.kind s.grade 0 message x a.loop-i.grown)
-    (part-long a.before.positions-n.result a.loop-i.i a.loop-i.frames (turn r.before.before).coordinates) ∙ sym r.refusal-number.ensures ∙ accepted d
+    (part-long a.before.positions-n.result a.loop-i.i a.loop-i.frames (turn r.before.before).coordinates) ∙ sym r.refusal-number.ensures ∙ accepted
 
 add-i : tie.Need-overflow_add-i invariant-loop-i decreases-loop-i
 add-i c =
@@ -202,7 +182,8 @@ loop-again c =
     let t = turn l in
     let e = w.write_counted-w.ensures in
     let sent = ap (quiet_frame s.kind s.grade 0 (number_for a.loop-i.grown)) (part-is a.loop-i.i s.messages.now t.message) in
-    let z : answer a.loop-i.grown (the_call a) ≡ 0 = sym (answer-is d.before) ∙ accepted d in
+    let accepted : d.before.refusal-number.result ≡ 0 = omega arith in
+    let z : answer a.loop-i.grown (the_call a) ≡ 0 = sym (answer-is d.before) ∙ accepted in
     one_further s.kind s.grade s.messages.now a.loop-i.invariant t.inside z
     (subst (λ (n : ℕ). n * a.loop-i.i + n ≤ length a.loop-i.frames) t.frame t.coordinates) (e.0 ∙ sent) (sym t.frame)
     (after-sent a.loop-i.grown (the_call a) (eq-eqb _ _ z) ∙ sym (e.1.1 ∙ ap (grown a.loop-i.grown) sent))
@@ -240,8 +221,18 @@ in_turn_spec =
     part-refusal-start
     part-refusal-end
     refusal-requires
-    same_length
-    returns
+    (λ c. let e = c.before.before.before.before.loop-i.invariant.long in search (rules, e))
+    (λ c.
+    let r = c.before in
+    let l = r.before.before in
+    let a = l.before in
+    let s = (at-start a).args in
+    let no : answer a.loop-i.grown (the_call a) ≡ 0 → ⊥ = λ z. omega (arith, answer-is r ∙ z) in
+    let h = (turn l).inside in (
+      ap (λ (n : ℕ). record { number = n; sent = a.loop-i.i; account = a.loop-i.grown }) (answer-is r)
+          ∙ stop-answer s.kind s.grade s.messages.now a.loop-i.invariant h no,
+      stop-frames s.kind s.grade s.messages.now a.loop-i.invariant h no,
+    ))
     sub-write-counted
     part-write-counted-start
     part-write-counted-end
