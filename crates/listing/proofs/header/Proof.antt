@@ -21,14 +21,20 @@ put-refused-requires : tie.Need-put_refused-requires
 put-refused-requires c κs =
     let h = c.before.before.before.before in let s = h.before.before.before.before in omega (arith, (header h).most, (header h).same, s.requires)
 
-same_length : tie.Need-shape_of-out-then-sheet-gt32768
-same_length c = search rules
+same-length-2 : tie.Need-shape_of-out
+same-length-2 c = search rules
 
-returns : tie.Need-returns-then-sheet-gt32768
-returns c =
+pub header_spec : {M : Type 1} → statement M
+header_spec =
+    tie.close
+    (tie.spec
+    put-header-requires
+    put-refused-requires
+    (λ c. search rules)
+    (λ c.
     let h = c.before.before.before.before.before.before.before in
     let s = h.before.before.before.before in
-    let b = begins-long s.args.sheet.now c.before.before.before.before.if-sheet-gt32768.true in
+    let b = begins-long s.args.sheet.now (omega arith) in
     let e = c.before.before.put_refused.ensures in
     let w = header h in (
       (
@@ -37,20 +43,11 @@ returns c =
         omega (arith, w.most, e.1),
       ),
       b.1,
-    )
-
-same-length-2 : tie.Need-shape_of-out
-same-length-2 c = search rules
-
-returns-2 : tie.Need-returns
-returns-2 c =
+    ))
+    same-length-2
+    (λ c.
     let h = c.before.before.before in
     let s = h.before.before.before.before in
-    let b = begins s.args.sheet.now c.if-sheet-gt32768.false in
+    let b = begins s.args.sheet.now (omega arith) in
     let w = header h in
-    ((subst (λ (t : List ℕ). Put s.args.out.now 0 t h.put_header-a.result h.put_header-a.new.out) b.0 w.put, omega (arith, w.most)), b.1)
-
-pub header_spec : {M : Type 1} → statement M
-header_spec =
-    tie.close
-    (tie.spec put-header-requires put-refused-requires same_length returns same-length-2 returns-2)
+    ((subst (λ (t : List ℕ). Put s.args.out.now 0 t h.put_header-a.result h.put_header-a.new.out) b.0 w.put, omega (arith, w.most)), b.1)))

@@ -119,47 +119,8 @@ part-put-message-end c = let h = record-ends c in search rules
 put-message-requires : tie.Need-put_message-a-requires
 put-message-requires c κs = let d = tested c.before.before in ((whole d).kind, (at-start d.before).requires.1)
 
-same-length-2 : tie.Need-shape_of-out-then-a-ne0
-same-length-2 c = search rules
-
-returns-2 : tie.Need-returns-then-a-ne0
-returns-2 c =
-    let m = c.before.before.before.before in
-    let t = (tested (counted m)).before in
-    let s = at-start t in
-    let e = m.put_message-a.ensures in
-    let q : record_number (sheet s) (at s) ≡ m.put_message-a.result.number = number m in
-    let n : record_number (sheet s) (at s) ≡ 0 → ⊥ = λ z. c.if-a-ne0.true (sym q ∙ z) in
-    let r = refused-line (sheet s) (at s) s.args.place.number n in (
-      (
-        subst (λ (x : List ℕ). Put s.args.out.now 0 x m.put_message-a.result.length m.put_message-a.new.out)
-            (ap refused_text (sym q) ∙ r.0) (e.1.1.0 c.if-a-ne0.true),
-        e.1.1.1,
-      ),
-      (next-is (sheet s) s.args.place r.1 (next-number t), s.requires.0),
-    )
-
 same-length-3 : tie.Need-shape_of-out
 same-length-3 c = search rules
-
-returns-3 : tie.Need-returns
-returns-3 c =
-    let m = c.before.before.before.before in
-    let b = counted m in
-    let t = (tested b).before in
-    let s = at-start t in
-    let e = m.put_message-a.ensures in
-    let r = sent-line (sheet s) (at s) s.args.place.number (number m ∙ c.if-a-ne0.false) in
-    let k = kind_at (sheet s) (at s) in
-    let g = grade_at (sheet s) (at s) in
-    let q : b.message_bytes.result ≡ message_bytes k g = b.message_bytes.ensures in (
-      (
-        subst (λ (x : List ℕ). Put s.args.out.now 0 x m.put_message-a.result.length m.put_message-a.new.out)
-            (ap (sent_line k g s.args.place.number) (message-is (sheet s) (at s) b.message_bytes.result q) ∙ r.0) (e.1.0 c.if-a-ne0.false),
-        e.1.1.1,
-      ),
-      (next-is (sheet s) s.args.place (ap (λ (x : ℕ). at s + 4 + x) q ∙ r.1) (next-number t), omega arith),
-    )
 
 pub record_line_spec : {M : Type 1} → statement M
 record_line_spec =
@@ -182,7 +143,39 @@ record_line_spec =
     part-put-message-start
     part-put-message-end
     put-message-requires
-    same-length-2
-    returns-2
+    (λ c. search rules)
+    (λ c.
+    let m = c.before.before.before.before in
+    let t = (tested (counted m)).before in
+    let s = at-start t in
+    let e = m.put_message-a.ensures in
+    let q : record_number (sheet s) (at s) ≡ m.put_message-a.result.number = number m in
+    let bad : m.put_message-a.result.number ≡ 0 → ⊥ = λ z. omega (arith, z) in
+    let n : record_number (sheet s) (at s) ≡ 0 → ⊥ = λ z. bad (sym q ∙ z) in
+    let r = refused-line (sheet s) (at s) s.args.place.number n in (
+      (
+        subst (λ (x : List ℕ). Put s.args.out.now 0 x m.put_message-a.result.length m.put_message-a.new.out)
+            (ap refused_text (sym q) ∙ r.0) (e.1.1.0 bad),
+        e.1.1.1,
+      ),
+      (next-is (sheet s) s.args.place r.1 (next-number t), s.requires.0),
+    ))
     same-length-3
-    returns-3)
+    (λ c.
+    let m = c.before.before.before.before in
+    let b = counted m in
+    let t = (tested b).before in
+    let s = at-start t in
+    let e = m.put_message-a.ensures in
+    let good : m.put_message-a.result.number ≡ 0 = omega arith in
+    let r = sent-line (sheet s) (at s) s.args.place.number (number m ∙ good) in
+    let k = kind_at (sheet s) (at s) in
+    let g = grade_at (sheet s) (at s) in
+    let q : b.message_bytes.result ≡ message_bytes k g = b.message_bytes.ensures in (
+      (
+        subst (λ (x : List ℕ). Put s.args.out.now 0 x m.put_message-a.result.length m.put_message-a.new.out)
+            (ap (sent_line k g s.args.place.number) (message-is (sheet s) (at s) b.message_bytes.result q) ∙ r.0) (e.1.0 good),
+        e.1.1.1,
+      ),
+      (next-is (sheet s) s.args.place (ap (λ (x : ℕ). at s + 4 + x) q ∙ r.1) (next-number t), omega arith),
+    )))
