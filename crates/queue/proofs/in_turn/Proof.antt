@@ -131,6 +131,22 @@ part-refusal-end c = omega (arith, (turn c).bytes)
 refusal-requires : tie.Need-refusal-number-requires invariant-loop-i decreases-loop-i
 refusal-requires c κs = tt
 
+same_length : tie.Need-shape_of-frames-then-number-ne0 invariant-loop-i decreases-loop-i
+same_length c = let e = c.before.before.before.before.loop-i.invariant.long in search (rules, e)
+
+returns : tie.Need-returns-then-number-ne0 invariant-loop-i decreases-loop-i
+returns c =
+    let r = c.before in
+    let l = r.before.before in
+    let a = l.before in
+    let s = (at-start a).args in
+    let no : answer a.loop-i.grown (the_call a) ≡ 0 → ⊥ = λ z. omega (arith, c.if-number-ne0.true, answer-is r ∙ z) in
+    let h = (turn l).inside in (
+      ap (λ (n : ℕ). record { number = n; sent = a.loop-i.i; account = a.loop-i.grown }) (answer-is r)
+          ∙ stop-answer s.kind s.grade s.messages.now a.loop-i.invariant h no,
+      stop-frames s.kind s.grade s.messages.now a.loop-i.invariant h no,
+    )
+
 sub-write-counted : tie.Need-slice_bounds-write_counted-count invariant-loop-i decreases-loop-i
 sub-write-counted c = omega arith
 
@@ -221,18 +237,8 @@ in_turn_spec =
     part-refusal-start
     part-refusal-end
     refusal-requires
-    (λ c. let e = c.before.before.before.before.loop-i.invariant.long in search (rules, e))
-    (λ c.
-    let r = c.before in
-    let l = r.before.before in
-    let a = l.before in
-    let s = (at-start a).args in
-    let no : answer a.loop-i.grown (the_call a) ≡ 0 → ⊥ = λ z. omega (arith, answer-is r ∙ z) in
-    let h = (turn l).inside in (
-      ap (λ (n : ℕ). record { number = n; sent = a.loop-i.i; account = a.loop-i.grown }) (answer-is r)
-          ∙ stop-answer s.kind s.grade s.messages.now a.loop-i.invariant h no,
-      stop-frames s.kind s.grade s.messages.now a.loop-i.invariant h no,
-    ))
+    same_length
+    returns
     sub-write-counted
     part-write-counted-start
     part-write-counted-end
