@@ -27,11 +27,11 @@ none-is-zero AtOdds e = cc
 none-is-zero RecordEnd e = cc
 
 -- the refusals in the order of their numbers
-all : List Refusal
+abbrev all : List Refusal
 all = Kind ∷ Grade ∷ MessageLength ∷ FrameLength ∷ SpareBits ∷ OverRange ∷ BrokenLevel0 ∷ BrokenLevel1 ∷ Unshaped ∷ Mark ∷ AccountFull ∷ SheetTooLong ∷ BrokenLevel2 ∷ Changeover ∷ UnfitSample ∷ TooFar ∷ FreeCount ∷ AtOdds ∷ RecordEnd ∷ []
 
 -- the refusal of a number; past the last, that
-by-number : ℕ → Refusal
+abbrev by-number : ℕ → Refusal
 by-number n = get_or all (n - 1) RecordEnd
 
 comes-back : (r : Refusal) → by-number (code r) ≡ r
