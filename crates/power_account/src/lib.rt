@@ -5,8 +5,10 @@
 ghost use Rattle.std.specs.Prelude.{◌≡◌, false, cond};
 ghost use Rattle.std.specs.Float.Ieee.Exact.{HasValue};
 ghost use Rattle.power_account.specs.Power.{Measured, power_of, begun, full, grown_with};
-ghost use Rattle.power_account.specs.Opening.{opened_with};
+ghost use Rattle.power_account.specs.Opening.{opened, opened_with};
 ghost use Rattle.power_account.specs.Counted.{number_for};
+
+use refusals::Refusal;
 
 // An account, by value: a count of frames, the sum of their powers, the largest block energy among them, and the changeover: the count from which on
 // frames follow the tie rule of their number. One from elsewhere may have any figures.
@@ -16,13 +18,6 @@ pub struct Account {
     pub sum: f64,
     pub largest: u64,
     pub changeover: u32,
-}
-
-// What opening an account answers: the refusal number, 0 for success, and the account.
-#[derive(Clone, Copy)]
-pub struct Opened {
-    pub number: u8,
-    pub account: Account,
 }
 
 // The power of a frame of n coordinates: exactly energy / n.
@@ -47,18 +42,15 @@ fn begin(changeover: u32) -> Account
     }
 }
 
-// Opens an account with a changeover: 14 where it is above 1,000,000, and the account then has zero in every figure.
-pub fn open(changeover: u32) -> Opened
-    ensures { result ≡ opened_with changeover }
+// Opens an account with a changeover, which is refused above 1,000,000.
+#[tactic(auto, unfolding(crate::specs::Opening::opened_with, crate::specs::Opening::opening_refusal))]
+pub fn open(changeover: u32) -> Result<Account, Refusal>
+    ensures { opened result ≡ opened_with changeover }
 {
     if 1000000 < changeover {
-        return Opened {
-            number: 14,
-            account: begin(0),
-        };
+        return Err(Refusal::Changeover);
     }
-    let account = begin(changeover);
-    Opened { number: 0, account }
+    Ok(begin(changeover))
 }
 
 // The number of the next frame: the count before it is sent, and below the changeover 0.
@@ -81,15 +73,13 @@ pub fn grow(a: Account, energy: u64, n: usize, block: u64) -> Account
     requires { Measured energy n }
     ensures { result ≡ cond (full a) a (grown_with a energy n block) }
 {
-    let p = power(energy, n);
-    let largest = coordinates::larger(a.largest, block);
     if is_full(a) {
         return a;
     }
     Account {
         count: a.count + 1,
-        sum: a.sum + p,
-        largest,
+        sum: a.sum + power(energy, n),
+        largest: a.largest.max(block),
         changeover: a.changeover,
     }
 }
