@@ -8,6 +8,9 @@ ghost use Rattle.frames.specs.Message.{widths};
 ghost use Rattle.frames.specs.Frame.{is_odd};
 ghost use Rattle.frames.specs.Sending.{unless};
 ghost use Rattle.kind_table.specs.Table.{row_of};
+ghost use Rattle.refusals.specs.Number.{code, number_of};
+
+use refusals::Refusal;
 
 // A row of the table: the number of levels, the degrees of their codes (0 where there is no level), and their message bits together.
 #[derive(Clone, Copy)]
@@ -17,45 +20,36 @@ pub struct Kind {
     pub bits: usize,
 }
 
-// The numbers for a broken level, level 0 first.
-const BROKEN: [u8; 3] = [7, 8, 13];
-
 // THE TABLE: the row of a kind; no level where there is no such kind.
 pub fn row(kind: u8) -> Kind
     ensures { result ≡ row_of kind }
 {
-    if kind == 3 {
-        return Kind {
+    match kind {
+        3 => Kind {
             levels: 1,
             degrees: [1, 0, 0],
             bits: 4,
-        };
-    }
-    if kind == 4 {
-        return Kind {
+        },
+        4 => Kind {
             levels: 2,
             degrees: [1, 3, 0],
             bits: 20,
-        };
-    }
-    if kind == 5 {
-        return Kind {
+        },
+        5 => Kind {
             levels: 2,
             degrees: [1, 3, 0],
             bits: 32,
-        };
-    }
-    if kind == 6 {
-        return Kind {
+        },
+        6 => Kind {
             levels: 3,
             degrees: [1, 3, 5],
             bits: 112,
-        };
-    }
-    Kind {
-        levels: 0,
-        degrees: [0, 0, 0],
-        bits: 0,
+        },
+        _ => Kind {
+            levels: 0,
+            degrees: [0, 0, 0],
+            bits: 0,
+        },
     }
 }
 
@@ -63,38 +57,36 @@ pub fn row(kind: u8) -> Kind
 pub fn is_kind(kind: u8) -> bool
     ensures { result ≡ is_kind kind }
 {
-    let r = row(kind);
-    0 < r.levels
+    0 < row(kind).levels
 }
 
 // Whether there is such a grade.
+#[tactic(auto, unfolding(frames::specs::Kind::is_grade))]
 pub fn is_grade(grade: u8) -> bool
     ensures { result ≡ is_grade grade }
 {
-    if grade < 1 {
-        return false;
-    }
-    grade <= 4
+    matches!(grade, 1..=4)
 }
 
 // Whether a frame's number is odd: its tie rule.
+#[tactic(auto, unfolding(frames::specs::Frame::is_odd))]
 pub fn is_odd(number: u32) -> bool
     ensures { result ≡ is_odd number }
 {
     number % 2 == 1
 }
 
-// The tests that sending and the readings make first: 1 for a wrong kind, 2 for a wrong grade, 0 where both are good.
-pub fn refusal(kind: u8, grade: u8) -> u8
-    ensures { result ≡ unless (is_kind kind) 1 (unless (is_grade grade) 2 0) }
+// The tests that sending and the readings make first: the kind, and then the grade.
+pub fn test(kind: u8, grade: u8) -> Result<(), Refusal>
+    ensures { number_of result ≡ unless (is_kind kind) 1 (unless (is_grade grade) 2 0) }
 {
     if !is_kind(kind) {
-        return 1;
+        return Err(Refusal::Kind);
     }
     if !is_grade(grade) {
-        return 2;
+        return Err(Refusal::Grade);
     }
-    0
+    Ok(())
 }
 
 // The number of levels.
@@ -102,8 +94,7 @@ pub fn levels(kind: u8) -> usize
     requires { is_kind kind ≡ true }
     ensures { result ≡ levelsOf kind }
 {
-    let r = row(kind);
-    r.levels
+    row(kind).levels
 }
 
 // The degree of the code of a level.
@@ -111,16 +102,19 @@ pub fn degree(kind: u8, level: usize) -> usize
     requires { (is_kind kind ≡ true) × (level < levelsOf kind) }
     ensures { result ≡ get_or (degrees kind) level 0 }
 {
-    let r = row(kind);
-    r.degrees[level]
+    row(kind).degrees[level]
 }
 
-// The number for a broken level.
-pub fn broken(level: usize) -> u8
+// The refusal for a broken level.
+pub fn broken(level: usize) -> Refusal
     requires { level < length broken_numbers }
-    ensures { result ≡ broken_number level }
+    ensures { code result ≡ broken_number level }
 {
-    BROKEN[level]
+    match level {
+        0 => Refusal::BrokenLevel0,
+        1 => Refusal::BrokenLevel1,
+        _ => Refusal::BrokenLevel2,
+    }
 }
 
 // The number of coordinates.
@@ -136,8 +130,7 @@ pub fn level_bits(kind: u8) -> usize
     requires { is_kind kind ≡ true }
     ensures { result ≡ level_bits kind }
 {
-    let r = row(kind);
-    r.bits
+    row(kind).bits
 }
 
 // The message bits.
@@ -161,11 +154,9 @@ pub fn width(grade: usize, i: usize) -> usize
     requires { (1 ≤ grade) × (grade ≤ 4) × (i < 8) }
     ensures { result ≡ get_or (widths grade) i 0 }
 {
-    if i == 0 {
-        return grade - 1;
+    match i {
+        0 => grade - 1,
+        7 => grade + 1,
+        _ => grade,
     }
-    if i == 7 {
-        return grade + 1;
-    }
-    grade
 }
