@@ -1,7 +1,7 @@
 -- The levels of a frame held in numbers: their bits, and the test of the levels one after the other. Assumes nothing.
 use Prim.Native.Nat.{ℕ, suc, ◌+◌, ◌%◌, ◌^◌, ◌≤◌, ◌<◌}
 use mathlib.Core.Path.{◌≡◌, refl, ap, ap₂, ◌∙◌}
-use mathlib.Core.Bool.{Bool, true, false}
+use mathlib.Core.Bool.{Bool, true}
 use mathlib.Core.List.{List, [], ◌∷◌}
 use native.Mathlib.Numerals.{add-one}
 use native.Mathlib.Omega.{arith}
@@ -41,19 +41,12 @@ word-backwards m n i f word long is =
 -- ---- the test of the levels, one after the other
 
 module _ (k : ℕ) (words : List ℕ) (i : ℕ) where
-  -- the test of level i
-  abbrev pub clear_at : Bool
-  clear_at = clear_above (get_or (degrees k) i 0) (digit (get_or words i 0)) (2 ^ k)
-
-  next : i < levels k → broken_in k i (drop i (degrees k)) words ≡ unless clear_at (broken_number i) (broken_in k (i + 1) (drop (i + 1) (degrees k)) words)
+  -- level i, of the degree r
+  pub broken-next : (r : ℕ) → i < levels k → r ≡ get_or (degrees k) i 0
+      → broken_in k i (drop i (degrees k)) words
+      ≡ unless (clear_above r (digit (get_or words i 0)) (2 ^ k)) (broken_number i) (broken_in k (i + 1) (drop (i + 1) (degrees k)) words)
   unfolding broken_in levels
-  next h = rw (add-one, drop-cons (degrees k) i 0 h)
-
-  pub broken-at : i < levels k → clear_at ≡ false → broken_in k i (drop i (degrees k)) words ≡ broken_number i
-  broken-at h e = next h ∙ rw e
-
-  pub whole-at : i < levels k → clear_at ≡ true → broken_in k i (drop i (degrees k)) words ≡ broken_in k (i + 1) (drop (i + 1) (degrees k)) words
-  whole-at h e = next h ∙ rw e
+  broken-next r h e = rw (e, add-one, drop-cons (degrees k) i 0 h)
 
   pub no_more : levels k ≤ i → broken_in k i (drop i (degrees k)) words ≡ 0
   unfolding broken_in levels

@@ -9,7 +9,7 @@ ghost use Rattle.frames.specs.Kind.{is_kind};
 ghost use Rattle.frames.specs.Frame.{weight_bit, level_word};
 ghost use Rattle.frame_levels.specs.Words.{backward_words};
 
-pub use broken::broken_level;
+pub use broken::test_levels;
 
 // The bit of weight 2^i of a whole number: the floor quotient by 2^i, and its remainder by 2, which is never negative.
 pub fn weight_bit(z: i32, i: usize) -> u8
