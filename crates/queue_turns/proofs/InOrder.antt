@@ -24,8 +24,7 @@ use Rattle.power_account.specs.Counted.{number_at, number_for, counted_refusal}
 use Rattle.power_account.specs.History.{Call, answer, after, account_after, sent_by, Holds}
 use Rattle.power_account.proofs.History.{frame-of, first-number, tests, frame-length, after-refused, by-sent, by-refused, next-numbers, calls-after, history}
 use Rattle.power_account.proofs.Changeover.{changeover-kept}
-use Rattle.queue_turns.specs.declared.Queued.{Queued}
-use Rattle.queue_turns.specs.Queue.{queue_refusal, messages_in, calls_for, calls_of, one_more, in_turn, frames_in_turn, queue_outcome, queue_frames, piece, EachLeast}
+use Rattle.queue_turns.specs.Queue.{Queued, queue_refusal, messages_in, calls_for, calls_of, one_more, in_turn, frames_in_turn, queue_outcome, queue_frames, piece, EachLeast}
 use Rattle.queue_turns.specs.InTurn.{account_at, answer_at, calls_made, InTurn}
 use Rattle.queue_turns.proofs.Tests.{fits, all_fit}
 use Rattle.queue_turns.proofs.Turns.{sent-answer, sent-frames, refused-answer, refused-frames}

@@ -16,8 +16,7 @@ use Rattle.power_account.specs.declared.Account.{Account}
 use Rattle.power_account.specs.Counted.{number_for}
 use Rattle.power_account.specs.History.{Call, answer as answer-of, after}
 use Rattle.power_account.proofs.History.{frame-of, frame-length, after-refused}
-use Rattle.queue_turns.specs.declared.Queued.{Queued}
-use Rattle.queue_turns.specs.Queue.{messages_in, calls_for, calls_of, one_more, in_turn, frames_in_turn, piece}
+use Rattle.queue_turns.specs.Queue.{Queued, messages_in, calls_for, calls_of, one_more, in_turn, frames_in_turn, piece}
 
 -- ---- the first call, accepted or refused
 

@@ -5,8 +5,7 @@ use Rattle.frames.specs.Frame.{numbered_frame}
 use Rattle.power_account.specs.declared.Account.{Account}
 use Rattle.power_account.specs.Counted.{number_at, counted_refusal}
 use Rattle.power_account.specs.History.{Call, account_after, sent_by}
-use Rattle.queue_turns.specs.declared.Queued.{Queued}
-use Rattle.queue_turns.specs.Queue.{calls_for, piece}
+use Rattle.queue_turns.specs.Queue.{Queued, calls_for, piece}
 
 -- the account after the first i of m messages in the bytes, sent one by one
 abbrev pub account_at : ℕ → ℕ → ℕ → List ℕ → Account → ℕ → Account

@@ -1,13 +1,14 @@
 -- Request E4: a queue of messages of one kind and grade, end to end, sent in turn with an account. What sending one answers and leaves are
 -- the definitions of account and frames that sending with an account cites. Assumes nothing.
-use Rattle.std.specs.Prelude.{ℕ, zero, suc, ◌+◌, ◌*◌, ◌/◌, ◌%◌, ◌^◌, ◌<◌, cond, List, [], ◌∷◌, ◌++◌, eqb, ℤ, length, take, drop}
+use Rattle.std.specs.Prelude.{ℕ, zero, suc, ◌+◌, ◌*◌, ◌/◌, ◌%◌, ◌^◌, ◌<◌, cond, List, [], ◌∷◌, ◌++◌, Result, Ok, Err, eqb, ℤ, length, take, drop}
 use Rattle.e8.specs.Energy.{energy}
 use Rattle.frames.specs.Kind.{is_kind, is_grade, message_bytes}
 use Rattle.frames.specs.Sending.{unless, frame_after, LeastEnergy}
+use Rattle.refusals.specs.Number.{code}
 use Rattle.power_account.specs.declared.Account.{Account}
 use Rattle.power_account.specs.Counted.{number_for}
 use Rattle.power_account.specs.History.{Call, answer, after}
-use Rattle.queue_turns.specs.declared.Queued.{Queued}
+use Rattle.queue_turns.specs.declared.Stopped.{Stopped}
 
 -- the tests before anything is sent, for so many message bytes and n coordinates: 1, 2, then 3 where the bytes are not a whole number of
 -- messages, and 4 where n is not a frame's length times their number. 0 where all are passed
@@ -32,6 +33,17 @@ abbrev pub calls_of : ℕ → ℕ → List ℕ → List Call
 calls_of k b bytes = calls_for (messages_in k b bytes) k b bytes
 
 -- ---- EACH IN TURN, with the account that the one before it gave, up to the first that is refused
+
+-- what sending a queue comes to: the refusal number, 0 where every message is sent, the number of messages sent, and the account
+pub record Queued : Type 0 where
+  pub number : ℕ
+  pub sent : ℕ
+  pub account : Account
+
+-- an answer with the account that it leaves, read so
+abbrev pub queued : Result ℕ Stopped → Account → Queued
+queued (Ok n) a = record { number = 0; sent = n; account = a }
+queued (Err s) a = record { number = code s.refusal; sent = s.sent; account = a }
 
 -- a message was sent before those of q
 abbrev pub one_more : Queued → Queued

@@ -2,12 +2,11 @@
 // first that is refused. Definitions and laws only.
 #![tactic(auto)]
 
-use power_account::Account;
+use refusals::Refusal;
 
-// What sending a queue answers: the refusal number, 0 where every message is sent, the number of messages sent, and the account.
-#[derive(Clone, Copy)]
-pub struct Queued {
-    pub number: u8,
+// Where a queue stops: the refusal of the message there, or of the queue itself, and the number of messages sent before it.
+#[derive(Clone, Copy, Debug, PartialEq, Eq)]
+pub struct Stopped {
+    pub refusal: Refusal,
     pub sent: usize,
-    pub account: Account,
 }

@@ -5,9 +5,8 @@ use Rattle.std.specs.Float.{binary64}
 use Rattle.std.specs.Float.Ieee.{of_int}
 use Rattle.frames.specs.Exam.{minus, frame_of1}
 use Rattle.power_account.specs.declared.Account.{Account}
-use Rattle.power_account.specs.declared.Opened.{Opened}
 use Rattle.power_account.specs.Power.{power_of, begun}
-use Rattle.power_account.specs.Opening.{opened_with}
+use Rattle.power_account.specs.Opening.{Opened, opened_with}
 use Rattle.power_account.specs.History.{Call, after, sent_by}
 
 -- an account of these figures, the sum being a whole number, and of a changeover

@@ -3,8 +3,7 @@
 use Rattle.std.specs.Prelude.{ℕ, zero, suc, ◌≡◌, List, [], ◌∷◌, ◌++◌, map, ℤ, pos, negsuc, length, replicate}
 use Rattle.power_account.specs.declared.Account.{Account}
 use Rattle.worked_accounts.specs.Worked.{held_with, held}
-use Rattle.queue_turns.specs.declared.Queued.{Queued}
-use Rattle.queue_turns.specs.Queue.{queue_outcome, queue_frames}
+use Rattle.queue_turns.specs.Queue.{Queued, queue_outcome, queue_frames}
 
 -- the values from x on, another at each place
 abbrev pub from : ℕ → ℕ → List ℤ
