@@ -4,6 +4,9 @@
 ghost use Rattle.std.specs.Prelude.{◌≡◌, true, ◌≤◌, length};
 ghost use Rattle.frames.specs.Sending.{free_set, send_refusal};
 ghost use Rattle.frames.specs.Kind.{is_kind, message_bytes};
+ghost use Rattle.refusals.specs.Number.{number_of};
+
+use refusals::Refusal;
 
 // Whether a free or a spare bit is set: one of the last byte from bit `at` on. There is none where no bit is free and the message bits fill whole bytes.
 fn free_set(kind: u8, grade: usize, free: usize, message: &[u8]) -> bool
@@ -19,26 +22,24 @@ fn free_set(kind: u8, grade: usize, free: usize, message: &[u8]) -> bool
     (b >> at) != 0
 }
 
-// The number of the first test that is not passed, 0 where all are; n coordinates are lent. The free count is tested after the grade.
-pub fn refusal(kind: u8, grade: u8, free: u8, message: &[u8], n: usize) -> u8
-    ensures { result ≡ send_refusal kind grade free message.now n }
+// The tests, in their order; n coordinates are lent. The free count is tested after the grade.
+#[tactic(auto, unfolding(frames::specs::Sending::send_refusal, frames::specs::Free::is_free_count))]
+pub fn test(kind: u8, grade: u8, free: u8, message: &[u8], n: usize) -> Result<(), Refusal>
+    ensures { number_of result ≡ send_refusal kind grade free message.now n }
 {
-    let no = kind_table::refusal(kind, grade);
-    if no != 0 {
-        return no;
-    }
+    kind_table::test(kind, grade)?;
     if 4 < free {
-        return 17;
+        return Err(Refusal::FreeCount);
     }
     let b = grade as usize;
     if message.len() != kind_table::message_bytes(kind, b) {
-        return 3;
+        return Err(Refusal::MessageLength);
     }
     if n != kind_table::positions(kind) {
-        return 4;
+        return Err(Refusal::FrameLength);
     }
     if free_set(kind, b, free as usize, message) {
-        return 5;
+        return Err(Refusal::SpareBits);
     }
-    0
+    Ok(())
 }
