@@ -9,13 +9,9 @@ ghost use Rattle.frames.specs.Kind.{is_kind, blocks};
 ghost use Rattle.frames.specs.Frame.{half, is_odd};
 ghost use Rattle.frames.specs.Free.{FreeMessage, quiet_frame};
 ghost use Rattle.frames.specs.Sending.{send_refusal, frame_after, energy_sent, LeastOfFillings};
+ghost use Rattle.refusals.specs.Number.{number_of, figure_of};
 
-// What sending answers: the refusal number, 0 for success, and the energy of the frame sent.
-#[derive(Clone, Copy)]
-pub struct Outcome {
-    pub number: u8,
-    pub energy: u64,
-}
+use refusals::Refusal;
 
 // The energy of a frame, and the largest of its blocks'.
 #[derive(Clone, Copy)]
@@ -79,14 +75,15 @@ pub fn write_sent(
 }
 
 // The tests alone, for a caller that has a test of its own to make before anything is written; n coordinates are lent.
-pub fn test(kind: u8, grade: u8, free: u8, message: &[u8], n: usize) -> u8
-    ensures { result ≡ send_refusal kind grade free message.now n }
+pub fn test(kind: u8, grade: u8, free: u8, message: &[u8], n: usize) -> Result<(), Refusal>
+    ensures { number_of result ≡ send_refusal kind grade free message.now n }
 {
-    accepting::refusal(kind, grade, free, message, n)
+    accepting::test(kind, grade, free, message, n)
 }
 
 // Sends a message with a free count under a number: tests 1, 2, 17, 3, 4, 5, and then writes the frame of the smallest filling of least energy and gives its
 // energy. A refusal writes nothing.
+#[tactic(auto, unfolding(frames::specs::Sending::frame_after, frames::specs::Sending::energy_sent))]
 pub fn send(
     kind: u8,
     grade: u8,
@@ -94,23 +91,13 @@ pub fn send(
     free: u8,
     message: &[u8],
     frame: &mut [i32],
-) -> Outcome
-    ensures number { result.number ≡ send_refusal kind grade free message.now (length frame.old) }
-    ensures frame { frame.new ≡ frame_after result.number kind grade free number message.now frame.old }
-    ensures energy { result.energy ≡ energy_sent result.number kind grade free number message.now }
-    ensures least { result.number ≡ 0 → LeastOfFillings kind grade free number message.now frame.new result.energy }
+) -> Result<u64, Refusal>
+    ensures number { number_of result ≡ send_refusal kind grade free message.now (length frame.old) }
+    ensures frame { frame.new ≡ frame_after (number_of result) kind grade free number message.now frame.old }
+    ensures energy { figure_of result ≡ energy_sent (number_of result) kind grade free number message.now }
+    ensures least { number_of result ≡ 0 → LeastOfFillings kind grade free number message.now frame.new (figure_of result) }
 {
-    let n = frame.len();
-    let refusal = accepting::refusal(kind, grade, free, message, n);
-    if refusal != 0 {
-        return Outcome {
-            number: refusal,
-            energy: 0,
-        };
-    }
+    test(kind, grade, free, message, frame.len())?;
     let sent = write_sent(kind, grade as usize, number, free as usize, message, frame);
-    Outcome {
-        number: refusal,
-        energy: sent.energy,
-    }
+    Ok(sent.energy)
 }
