@@ -16,32 +16,28 @@ pub fn codewords(kind: u8, message: &[u8]) -> [u64; 3]
 {
     // The starts, counts and degrees of the levels are those of the table of kinds, and the contract holds them to it; each call has them as constants,
     // so that the compiler lays out a code for each level.
-    if kind == 3 {
-        return [
+    match kind {
+        3 => [
             level_codeword::codeword_held(bits::bits_at(message, 0, 4), 3, 1),
             0,
             0,
-        ];
-    }
-    if kind == 4 {
-        return [
+        ],
+        4 => [
             level_codeword::codeword_held(bits::bits_at(message, 0, 5), 4, 1),
             level_codeword::codeword_held(bits::bits_at(message, 5, 15), 4, 3),
             0,
-        ];
-    }
-    if kind == 5 {
-        return [
+        ],
+        5 => [
             level_codeword::codeword_held(bits::bits_at(message, 0, 6), 5, 1),
             level_codeword::codeword_held(bits::bits_at(message, 6, 26), 5, 3),
             0,
-        ];
+        ],
+        _ => [
+            level_codeword::codeword_held(bits::bits_at(message, 0, 7), 6, 1),
+            level_codeword::codeword_held(bits::bits_at(message, 7, 42), 6, 3),
+            level_codeword::codeword_held(bits::bits_at(message, 49, 63), 6, 5),
+        ],
     }
-    [
-        level_codeword::codeword_held(bits::bits_at(message, 0, 7), 6, 1),
-        level_codeword::codeword_held(bits::bits_at(message, 7, 42), 6, 3),
-        level_codeword::codeword_held(bits::bits_at(message, 49, 63), 6, 5),
-    ]
 }
 
 // A block's numbers s1 to s8, from its message bits, held in a number.
@@ -51,12 +47,10 @@ pub fn unpacked_by(bits: u64, grade: usize) -> [u32; 8]
 {
     let mut s = [0u32; 8];
     let mut at: usize = 0;
-    let mut i: usize = 0;
-    while i < 8 {
+    for i in 0..8 {
         let w = kind_table::width(grade, i);
         s[i] = ((bits >> at) % (1u64 << w)) as u32;
         at += w;
-        i += 1;
     }
     s
 }
@@ -66,16 +60,12 @@ fn unpacked(bits: u64, grade: usize) -> [u32; 8]
     requires { (1 ≤ grade) × (grade ≤ 4) }
     ensures { result ≡ numbers (λ t. bits / 2 ^ t % 2) 0 (widths grade) }
 {
-    if grade == 1 {
-        return unpacked_by(bits, 1);
+    match grade {
+        1 => unpacked_by(bits, 1),
+        2 => unpacked_by(bits, 2),
+        3 => unpacked_by(bits, 3),
+        _ => unpacked_by(bits, 4),
     }
-    if grade == 2 {
-        return unpacked_by(bits, 2);
-    }
-    if grade == 3 {
-        return unpacked_by(bits, 3);
-    }
-    unpacked_by(bits, 4)
 }
 
 // `one` where bit p of a word is set, and 0 where it is not.
@@ -96,11 +86,8 @@ fn over_level(there: bool, word: u64, s: [u32; 8]) -> [u32; 8]
     let w = (word % 256) as u32;
     let one = there as u32;
     let mut x = s;
-    let mut p: usize = 0;
-    while p < 8 {
-        let z = s[p];
-        x[p] = (z << one) + set_at(w, p, one);
-        p += 1;
+    for p in 0..8 {
+        x[p] = (s[p] << one) + set_at(w, p, one);
     }
     x
 }
@@ -111,18 +98,14 @@ fn signed(s: [u32; 8]) -> [i32; 8]
     ensures { result ≡ ints s }
 {
     let mut x = [0i32; 8];
-    let mut o: usize = 0;
-    while o < 8 {
-        let z = s[o];
-        x[o] = z as i32;
-        o += 1;
+    for o in 0..8 {
+        x[o] = s[o] as i32;
     }
     x
 }
 
 // A block of the leader, at positions q to q + 7, from the block's message bits and the words of the levels:
 // c0 + 2·(c1 + 2·(c2 + 2·s)) with three levels.
-// Three turns, from the last level to the first, so that the compiler lays them out one by one.
 pub fn block(
     message: &[u8],
     from: usize,
@@ -137,14 +120,10 @@ pub fn block(
         (get_or (numbers (message_bit message.now) from (widths grade)) o 0))) }
 {
     let bits = bits::bits_at(message, from, 8 * grade);
-    let mut x = unpacked(bits, grade);
-    let mut i: usize = 3;
-    while 0 < i {
-        i -= 1;
-        let word = words[i];
-        let y = over_level(i < levels, word >> q, x);
-        x = y;
-    }
+    let x = unpacked(bits, grade);
+    let x = over_level(2 < levels, words[2] >> q, x);
+    let x = over_level(1 < levels, words[1] >> q, x);
+    let x = over_level(0 < levels, words[0] >> q, x);
     signed(x)
 }
 
@@ -157,14 +136,9 @@ pub fn write_leader(kind: u8, grade: usize, message: &[u8], frame: &mut [i32])
     let words = codewords(kind, message);
     let base = kind_table::level_bits(kind);
     let levels = kind_table::levels(kind);
-    let blocks = frame.len() / 8;
-    let mut j: usize = 0;
-    while j < blocks {
+    for j in 0..frame.len() / 8 {
         let s = 8 * j;
-        let e = s + 8;
-        let from = base + 8 * grade * j;
-        let x = block(message, from, grade, levels, words, s);
-        coordinates::store(x, &mut frame[s..e]);
-        j += 1;
+        let x = block(message, base + 8 * grade * j, grade, levels, words, s);
+        coordinates::store(x, &mut frame[s..s + 8]);
     }
 }
