@@ -1,64 +1,16 @@
--- The number of a record by the tests that were passed, and what a whole record is. Assumes nothing.
-use Prim.Native.Nat.{ℕ, ◌+◌, ◌-◌, ◌^◌, ◌≤◌, ◌<◌}
+-- What a whole record is, and its number. Assumes nothing.
+use Prim.Native.Nat.{ℕ, ◌+◌, ◌-◌, ◌^◌, ◌≤◌}
 use mathlib.Core.Path.{◌≡◌, ap, ◌∙◌}
-use mathlib.Core.Bool.{true, false, and-false}
+use mathlib.Core.Bool.{true, false}
 use mathlib.Core.List.{List}
 use native.Mathlib.Omega.{arith}
 use lib.Dec.{eqb, leb}
-use lib.ListN.{length, get_or, take, drop}
-use borrow.Author.Tests.{eq-eqb, ne_eqb, le-leb, lt-leb, leb-true}
+use lib.ListN.{length, take, drop}
+use borrow.Author.Tests.{eq-eqb, ne_eqb, leb-true}
 use Rattle.frames.specs.Kind.{is_kind, is_grade, message_bytes}
 use Rattle.frames.specs.Sending.{send_refusal}
 use Rattle.frames.proofs.Refusals.{passed}
 use Rattle.sheet_record.specs.Record.{marked, kind_at, grade_at, message_at, end_at, record_refusal, record_number}
-
-module _ (s : List ℕ) (p : ℕ) where
-  pub mark-cut : length s < p + 2 → false ≡ marked s p
-  unfolding marked
-  mark-cut h = simp (lt-leb _ _ h)
-
-  pub mark-first : (get_or s p 0 ≡ 76 → ⊥) → false ≡ marked s p
-  unfolding marked
-  mark-first n = simp (ne_eqb _ _ n, and-false (leb (p + 2) (length s)))
-
-  pub mark-second : p + 2 ≤ length s → get_or s p 0 ≡ 76 → eqb (get_or s (p + 1) 0) 67 ≡ marked s p
-  unfolding marked
-  mark-second h e = simp (le-leb _ _ h, eq-eqb _ _ e)
-
-  pub no-mark : marked s p ≡ false → 10 ≡ record_refusal s p
-  unfolding record_refusal
-  no-mark e = simp e
-
-  module _ (mark : marked s p ≡ true) where
-    pub no-kind-byte : length s < p + 3 → 3 ≡ record_refusal s p
-    unfolding record_refusal
-    no-kind-byte h = simp (mark, lt-leb _ _ h)
-
-    module _ (h3 : p + 3 ≤ length s) where
-      pub no_kind : is_kind (kind_at s p) ≡ false → 1 ≡ record_refusal s p
-      unfolding record_refusal
-      no_kind e = simp (mark, le-leb _ _ h3, e)
-
-      module _ (kind : is_kind (kind_at s p) ≡ true) where
-        pub no-grade-byte : length s < p + 4 → 3 ≡ record_refusal s p
-        unfolding record_refusal
-        no-grade-byte h = simp (mark, le-leb _ _ h3, kind, lt-leb _ _ h)
-
-        module _ (h4 : p + 4 ≤ length s) where
-          pub no-grade : is_grade (grade_at s p) ≡ false → 2 ≡ record_refusal s p
-          unfolding record_refusal
-          no-grade e = simp (mark, le-leb _ _ h3, kind, le-leb _ _ h4, e)
-
-          module _ (grade : is_grade (grade_at s p) ≡ true) where
-            pub cut-message : length s < end_at s p → 3 ≡ record_refusal s p
-            unfolding record_refusal
-            cut-message h = simp (mark, le-leb _ _ h3, kind, le-leb _ _ h4, grade, lt-leb _ _ h)
-
-            pub whole : end_at s p ≤ length s → 0 ≡ record_refusal s p
-            unfolding record_refusal
-            whole h = simp (mark, le-leb _ _ h3, kind, le-leb _ _ h4, grade, le-leb _ _ h)
-
--- ---- back: what a whole record is
 
 pub record Whole (s : List ℕ) (p : ℕ) : Type 0 where
   pub kind : is_kind (kind_at s p) ≡ true

@@ -3,46 +3,42 @@
 
 ghost use Rattle.std.specs.Prelude.{◌≡◌, ◌<◌, length};
 ghost use Rattle.sheet_record.specs.Record.{marked as isMarked, record_refusal};
+ghost use Rattle.refusals.specs.Number.{number_of};
+
+use refusals::Refusal;
 
 // Whether the mark stands at place p.
+#[tactic(auto, unfolding(crate::specs::Record::marked))]
 fn marked(sheet: &[u8], p: usize) -> bool
     requires { p < length sheet.now }
     ensures { result ≡ isMarked sheet.now p }
 {
-    if sheet.len() - p < 2 {
-        return false;
-    }
-    if sheet[p] != 0x4C {
-        return false;
-    }
-    sheet[p + 1] == 0x43
+    sheet[p..].starts_with(&[0x4C, 0x43])
 }
 
-// The number of the first test that the record at place p does not pass, 0 for a whole record.
-pub fn test_record(sheet: &[u8], p: usize) -> u8
+// The tests of the record at place p: passed by a whole record.
+#[tactic(auto, unfolding(crate::specs::Record::record_refusal))]
+pub fn test_record(sheet: &[u8], p: usize) -> Result<(), Refusal>
     requires { p < length sheet.now }
-    ensures { result ≡ record_refusal sheet.now p }
+    ensures { number_of result ≡ record_refusal sheet.now p }
 {
-    let left = sheet.len() - p;
     if !marked(sheet, p) {
-        return 10;
+        return Err(Refusal::Mark);
     }
-    if left < 3 {
-        return 3;
-    }
-    let kind = sheet[p + 2];
+    let Some(&kind) = sheet.get(p + 2) else {
+        return Err(Refusal::MessageLength);
+    };
     if !kind_table::is_kind(kind) {
-        return 1;
+        return Err(Refusal::Kind);
     }
-    if left < 4 {
-        return 3;
-    }
-    let grade = sheet[p + 3];
+    let Some(&grade) = sheet.get(p + 3) else {
+        return Err(Refusal::MessageLength);
+    };
     if !kind_table::is_grade(grade) {
-        return 2;
+        return Err(Refusal::Grade);
     }
-    if left - 4 < kind_table::message_bytes(kind, grade as usize) {
-        return 3;
+    if sheet.len() - p - 4 < kind_table::message_bytes(kind, grade as usize) {
+        return Err(Refusal::MessageLength);
     }
-    0
+    Ok(())
 }
