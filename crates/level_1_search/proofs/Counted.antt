@@ -32,7 +32,7 @@ module _ (n : ℕ) (costs : List ℕ) where
       ap (λ (m : ℕ). sum_to m (λ i. change_cost costs w (0 + i))) z ∙ sum-ext n (λ i l. let e : 0 + i ≡ i = omega arith in ap (change_cost costs w) e)
 
   -- one place more
-  pub from_more : (w p : ℕ) → 0 < p → p ≤ n → cost_from w (p - 1) ≡ cost_from w p + change_cost costs w (p - 1)
+  from_more : (w p : ℕ) → 0 < p → p ≤ n → cost_from w (p - 1) ≡ cost_from w p + change_cost costs w (p - 1)
   from_more w p h l =
       let e : n - (p - 1) ≡ suc (n - p) = omega arith in
       ap (λ (m : ℕ). sum_to m (λ i. change_cost costs w (p - 1 + i))) e
@@ -46,6 +46,10 @@ module _ (n : ℕ) (costs : List ℕ) where
     where
       first : p - 1 + 0 ≡ p - 1
       first = omega arith
+
+  -- so it is with the digit that is read there
+  pub from_read : (w p : ℕ) {d b : ℕ} → 0 < p → p ≤ n → d ≡ cost_from w p → b ≡ bit_of w (p - 1) → d + get_or costs (2 * (p - 1) + b) 0 ≡ cost_from w (p - 1)
+  from_read w p h l e r = omega (arith, from_more w p h l, e, ap (λ (i : ℕ). get_or costs (2 * (p - 1) + i) 0) r)
 
   -- it is part of the whole
   from-within : (w q : ℕ) → q ≤ n → cost_from w q ≤ sum_to n (change_cost costs w)

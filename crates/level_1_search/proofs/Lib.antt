@@ -1,4 +1,3 @@
 pub mod Carry
 pub mod Counted
 pub mod Words
-pub mod Front

@@ -1,7 +1,7 @@
 -- The words that changes of the nearest word of level 1 make, and their costs. Assumes nothing.
 use Prim.Native.Nat.{ℕ, ◌+◌, ◌*◌, ◌%◌, ◌^◌, ◌<◌}
-use mathlib.Core.Path.{◌≡◌, sym, ap, ◌∙◌}
-use mathlib.Core.Bool.{Bool, true, false, true≢false}
+use mathlib.Core.Path.{◌≡◌, refl, sym, ap, ◌∙◌}
+use mathlib.Core.Bool.{true, false, true≢false}
 use mathlib.Core.List.{List}
 use native.Mathlib.Omega.{arith}
 use lib.Bits.{bit_xor, xor_lt}
@@ -44,25 +44,25 @@ module _ (t : List ℤ) (a base : ℕ) where
       );
     }
 
-    module _ (low : base < 2 ^ (2 ^ k)) (limit : ℕ) (limit_is : limit ≡ near_limit k) (f : Bool) (w c : ℕ) (h : Changed k (change_costs t a base) base limit f w c) where
-      pub searched-found : f ≡ true → Searched k t a true (bit_xor base w) c
-      searched-found y = record {
+    module _ (low : base < 2 ^ (2 ^ k)) (limit : ℕ) (limit_is : limit ≡ near_limit k) where
+      pub searched-found : (w c : ℕ) → Changed k (change_costs t a base) base limit true w c → Searched k t a true (bit_xor base w) c
+      searched-found w c h = record {
         low = xor_lt (2 ^ k) base w low h.low;
-        word = λ x. (h.opened y).word;
-        costs = λ x. h.costs-it y ∙ change-sum w;
-        within = λ x. omega (arith, h.costs-it y, (h.opened y).within, limit_is);
+        word = λ x. (h.opened refl).word;
+        costs = λ x. h.costs-it refl ∙ change-sum w;
+        within = λ x. omega (arith, h.costs-it refl, (h.opened refl).within, limit_is);
         none = λ x. absurd (true≢false x);
         no_word = λ x. absurd (true≢false x);
         no-cost = λ x. absurd (true≢false x);
       }
 
-      pub searched-none : f ≡ false → Searched k t a f w c
-      searched-none y = record {
+      pub searched-none : Changed k (change_costs t a base) base limit false 0 0 → Searched k t a false 0 0
+      searched-none h = record {
         low = h.low;
-        word = λ x. absurd (true≢false (sym x ∙ y));
-        costs = λ x. absurd (true≢false (sym x ∙ y));
-        within = λ x. absurd (true≢false (sym x ∙ y));
-        none = λ x v l b u. h.none y (bit_xor base v) (xor_lt (2 ^ k) base v low l) (open-word limit v b (omega (arith, u, limit_is)));
-        no_word = λ x. h.no_word y;
-        no-cost = λ x. h.no-cost y;
+        word = λ x. absurd (true≢false (sym x));
+        costs = λ x. absurd (true≢false (sym x));
+        within = λ x. absurd (true≢false (sym x));
+        none = λ x v l b u. h.none refl (bit_xor base v) (xor_lt (2 ^ k) base v low l) (open-word limit v b (omega (arith, u, limit_is)));
+        no_word = λ x. refl;
+        no-cost = λ x. refl;
       }

@@ -1,7 +1,7 @@
 -- The search over the codewords of level 0: each number is tried, and with all of them every near frame. Assumes nothing.
 use Prim.Native.Nat.{ℕ, ◌+◌, ◌-◌, ◌*◌, ◌%◌, ◌^◌, ◌≤◌, ◌<◌}
 use mathlib.Core.Path.{◌≡◌, refl, sym, ap, ◌∙◌}
-use mathlib.Core.Bool.{Bool, true, false, true≢false}
+use mathlib.Core.Bool.{true, false, true≢false}
 use mathlib.Core.List.{List}
 use native.Mathlib.Nat.{mod-eq_of_lt}
 use native.Mathlib.Omega.{arith}
@@ -54,19 +54,19 @@ module _ (k : ℕ) (t : List ℤ) (j w : ℕ) (held : w ≡ first_word k j) wher
   }
 
   -- no word of level 1 goes with it
-  pub tried-searched : {found : Bool} {b c : ℕ} → Searched k t w found b c → found ≡ false → Tried k t j
-  tried-searched h n = record { none = λ a b e lb wb s. h.none n b lb wb (omega (arith, s, same a b e)) }
+  pub tried-searched : Searched k t w false 0 0 → Tried k t j
+  tried-searched h = record { none = λ a b e lb wb s. h.none refl b lb wb (omega (arith, s, same a b e)) }
 
   -- one does
-  pub found-pair : {found : Bool} {b c : ℕ} → near_kind k ≡ true → Searched k t w found b c → found ≡ true → FoundPair k t true w b c
-  found-pair kind h y = record {
+  pub found-pair : {b c : ℕ} → near_kind k ≡ true → Searched k t w true b c → FoundPair k t true w b c
+  found-pair kind h = record {
     low-a = omega (arith, held, word_lt k j);
     low-b = h.low;
     word-a = λ z. belongs-cong 1 k (bit_of w) (codeword 1 k (bit_of j)) (λ p l. ap (λ (x : ℕ). x % 2) (is p l))
         ∙ codeword-belongs 1 k (omega (arith, (size k kind).low)) (bit_of j);
-    word-b = λ z. h.word y;
-    costs = λ z. h.costs y;
-    within = λ z. h.within y;
+    word-b = λ z. h.word refl;
+    costs = λ z. h.costs refl;
+    within = λ z. h.within refl;
     none = λ z. absurd (true≢false z);
     no-a = λ z. absurd (true≢false z);
     no-b = λ z. absurd (true≢false z);
@@ -98,14 +98,15 @@ all-tried k t kind long all = record {
 
 -- ---- the frame of the words found
 
-module _ (k : ℕ) (t : List ℤ) (kind : near_kind k ≡ true) (long : length t ≡ 2 ^ k) {found : Bool} {a b c : ℕ} (pair : FoundPair k t found a b c) where
+module _ (k : ℕ) (t : List ℤ) (kind : near_kind k ≡ true) (long : length t ≡ 2 ^ k) where
   -- it is the near frame
-  pub found-near : found ≡ true → (f : List ℤ) → length f ≡ 2 ^ k → ((p : ℕ) → p < length t → get_or f p (pos 0) ≡ candidate t a b p)
+  pub found-near : {a b c : ℕ} → FoundPair k t true a b c → (f : List ℤ) → length f ≡ 2 ^ k
+      → ((p : ℕ) → p < length t → get_or f p (pos 0) ≡ candidate t a b p)
       → (some_near k t ≡ true) × ((lent : List ℤ) → near_frame k t lent ≡ f) × (near_cost k t ≡ c)
-  found-near y f l e =
-      let g = frame-of k kind t long a b (pair.word-a y) (pair.word-b y) f l (λ p h. e p (omega (arith, h, long))) in
-      let n = near-is k kind t f (record { samples = long; coded = g.0; close = omega (arith, g.1, pair.costs y, pair.within y) }) in
-      (n.0, n.1, n.2 ∙ g.1 ∙ sym (pair.costs y))
+  found-near {a} {b} pair f l e =
+      let g = frame-of k kind t long a b (pair.word-a refl) (pair.word-b refl) f l (λ p h. e p (omega (arith, h, long))) in
+      let n = near-is k kind t f (record { samples = long; coded = g.0; close = omega (arith, g.1, pair.costs refl, pair.within refl) }) in
+      (n.0, n.1, n.2 ∙ g.1 ∙ sym (pair.costs refl))
 
-  pub found_none : found ≡ false → (some_near k t ≡ false) × ((lent : List ℤ) → near_frame k t lent ≡ lent) × (near_cost k t ≡ 0)
-  found_none n = far-is k kind t (pair.none n)
+  pub found_none : FoundPair k t false 0 0 0 → (some_near k t ≡ false) × ((lent : List ℤ) → near_frame k t lent ≡ lent) × (near_cost k t ≡ 0)
+  found_none pair = far-is k kind t (pair.none refl)

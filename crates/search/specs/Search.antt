@@ -1,6 +1,6 @@
 -- What the search works with: the codewords of level 0, counted, and what the search over both levels answers. Words, samples and costs are those of
 -- `costs`. Private contracts cite it. Assumes nothing.
-use Rattle.std.specs.Prelude.{ℕ, suc, ◌-◌, ◌*◌, ◌^◌, ◌<◌, ◌≡◌, Bool, true, false, List, ℤ}
+use Rattle.std.specs.Prelude.{ℕ, suc, ◌-◌, ◌^◌, ◌<◌, ◌≡◌, Bool, true, false, List, ℤ}
 use Rattle.bits.specs.Number.{sum_to, table, number, bit_of}
 use Rattle.reed_muller.specs.Level.{codeword, belongs}
 use Rattle.near_frames.specs.Near.{near_limit, IsNear}

@@ -1,5 +1,5 @@
 // The search over the codewords of level 0, each left as soon as the samples are too far from its parities.
-ghost use Rattle.std.specs.Prelude.{◌≡◌, true, ◌+◌, ◌-◌, ◌^◌, ◌≤◌, length};
+ghost use Rattle.std.specs.Prelude.{◌≡◌, true, false, MatchOption, ◌+◌, ◌-◌, ◌^◌, ◌≤◌, length};
 ghost use Rattle.e8.specs.Energy.{Within};
 ghost use Rattle.near_frames.specs.Near.{near_kind, near_limit};
 ghost use Rattle.costs.specs.Costs.{parity_costs};
@@ -8,10 +8,9 @@ ghost use Rattle.search.specs.Search.{first_word, step_words, FoundPair};
 use bits::word::bit;
 use level_1_search::second_level;
 
-// The words of both levels, and the squared distance of the frame that they make; 0 each where there is none.
+// The words of both levels, and the squared distance of the frame that they make.
 #[derive(Clone, Copy)]
 pub struct Pair {
-    pub found: bool,
     pub a: u64,
     pub b: u64,
     pub cost: u32,
@@ -37,63 +36,55 @@ const STEPS: [u64; 7] = [
 ];
 
 // The codeword of level 0 of message i, where `word` is that of message i − 1: all message bits change up to the lowest that is 1 in i.
-fn next_word(kind: u8, steps: &[u64], word: u64, i: u64) -> u64
+fn next_word(kind: u8, steps: &[u64; 7], word: u64, i: u64) -> u64
     requires { (near_kind kind ≡ true) × (steps.now ≡ step_words) × (1 ≤ i) × (i ≤ 2 ^ (kind + 1)) × (word ≡ first_word kind (i - 1)) }
     ensures { result ≡ first_word kind i }
 {
-    let step = steps[u64::trailing_zeros(i) as usize];
+    let step = steps[i.trailing_zeros() as usize];
     word ^ (step % (1u64 << (1usize << kind)))
 }
 
 // Goes through the codewords of level 0. One whose samples up to p are too far from its parities is left there; for one that is not, level 1 decides.
-fn first_level(kind: u8, samples: &[i32], limit: u32, costs: &[u32]) -> Pair
+fn first_level(kind: u8, samples: &[i32], limit: u32, costs: &[u32]) -> Option<Pair>
     requires { (near_kind kind ≡ true) × (length samples.now ≡ 2 ^ kind) × Within 32768 samples.now × (limit ≡ near_limit kind)
         × (costs.now ≡ parity_costs samples.now) }
-    ensures { FoundPair kind samples.now result.found result.a result.b result.cost }
+    ensures { MatchOption result
+        (FoundPair kind samples.now false 0 0 0)
+        (λ pair. FoundPair kind samples.now true pair.a pair.b pair.cost) }
 {
-    let n = samples.len();
     let count = 1u64 << level_tables::dimension_of(kind as usize, 1);
     let steps = &STEPS;
-    let mut word: u64 = 0;
-    let mut i: u64 = 0;
-    'next: while i < count {
+    let mut word = 0;
+    'next: for i in 0..count {
         let a = word;
-        i += 1;
-        word = next_word(kind, steps, word, i);
-        let mut d: u32 = 0;
-        let mut p: usize = 0;
-        while p < n {
+        word = next_word(kind, steps, word, i + 1);
+        let mut d = 0;
+        for p in 0..samples.len() {
             d += costs[2 * p + bit(a, p) as usize];
             if limit <= d {
                 continue 'next;
             }
-            p += 1;
         }
-        let r = second_level(kind, samples, a, limit);
-        if r.found {
-            return Pair {
-                found: true,
-                a: a,
-                b: r.word,
-                cost: r.cost,
-            };
+        if let Some(found) = second_level(kind, samples, a, limit) {
+            return Some(Pair {
+                a,
+                b: found.word,
+                cost: found.cost,
+            });
         }
     }
-    Pair {
-        found: false,
-        a: 0,
-        b: 0,
-        cost: 0,
-    }
+    None
 }
 
 // Finds the words of the near frame, or that there is none.
-pub fn find(kind: u8, samples: &[i32]) -> Pair
+pub fn find(kind: u8, samples: &[i32]) -> Option<Pair>
     requires { (near_kind kind ≡ true) × (length samples.now ≡ 2 ^ kind) × Within 32768 samples.now }
-    ensures { FoundPair kind samples.now result.found result.a result.b result.cost }
+    ensures { MatchOption result
+        (FoundPair kind samples.now false 0 0 0)
+        (λ pair. FoundPair kind samples.now true pair.a pair.b pair.cost) }
 {
     let e = 2 * samples.len();
     let mut costs = [0u32; 64];
-    costs::parity_costs(samples, &mut costs[0..e]);
-    first_level(kind, samples, limit_of(kind), &costs[0..e])
+    costs::parity_costs(samples, &mut costs[..e]);
+    first_level(kind, samples, limit_of(kind), &costs[..e])
 }
