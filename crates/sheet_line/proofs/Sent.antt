@@ -16,10 +16,9 @@ module _ (k b number : ℕ) (m : List ℕ) (f : List ℤ) where
   unfolding sent_line
   is = refl
 
-  pub sent-shown : (refusal : ℕ) → refusal ≡ 0 → (g : List ℤ) (e : ℕ) → g ≡ frame_after refusal k b 0 number m f → e ≡ energy_sent refusal k b 0 number m
-      → (g ≡ numbered_frame k b number m) × (line_of k b e g ≡ sent_line k b number m)
-  sent-shown refusal z g e qg qe =
-      let t = sent-leaves refusal k b 0 number m f z in
+  -- the line of the frame that sending leaves
+  pub sent-shown : (g : List ℤ) (e : ℕ) → g ≡ frame_after 0 k b 0 number m f → e ≡ energy_sent 0 k b 0 number m → line_of k b e g ≡ sent_line k b number m
+  sent-shown g e qg qe =
+      let t = sent-leaves 0 k b 0 number m f refl in
       let w = none-quiet k b number m in
-      let frame = qg ∙ t.0 ∙ w in
-      (frame, ap₂ (λ (x : ℕ) (y : List ℤ). line_of k b x y) (qe ∙ t.1 ∙ ap energy w) frame ∙ is)
+      ap₂ (λ (x : ℕ) (y : List ℤ). line_of k b x y) (qe ∙ t.1 ∙ ap energy w) (qg ∙ t.0 ∙ w) ∙ is
