@@ -1,4 +1,4 @@
-// The two readings: a frame's message and its energy, or the number of the first test that is not passed.
+// The two readings: a frame's message and its energy, or the refusal of the first test that is not passed.
 #![tactic(auto)]
 
 mod refusal;
@@ -6,51 +6,49 @@ mod strict;
 
 ghost use Rattle.std.specs.Prelude.{◌≡◌, length};
 ghost use Rattle.frames.specs.Reading.{open_refusal, strict_refusal, message_after, energy_read};
+ghost use Rattle.refusals.specs.Number.{number_of, figure_of};
 ghost use Rattle.reading.specs.Numbers.{refusal_of};
 
 use fixed_bits::write_fixed;
 use frame_energy::energy_by_blocks;
-use refusal::tests;
+use refusal::{Reading, tests};
+use refusals::Refusal;
 use strict::read_quiet;
 pub use strict::read_whole;
 
-// What a reading answers: its number, 0 where the message is given, and the energy of the frame.
-#[derive(Clone, Copy)]
-pub struct Reading {
-    pub number: u8,
-    pub energy: u64,
-}
-
-// A reading: the open one where `which` is 0, and else the strict one under number which − 1, no filling compared. A refusal writes nothing.
-fn read(which: u8, kind: u8, grade: u8, free: u8, frame: &[i32], message: &mut [u8]) -> Reading
-    ensures number { result.number ≡ refusal_of which kind grade free frame.now (length message.old) }
-    ensures message { message.new ≡ message_after result.number kind grade free frame.now message.old }
-    ensures energy { result.energy ≡ energy_read result.number frame.now }
+// A reading, no filling compared: the frame's energy. A refusal writes nothing.
+#[tactic(auto, unfolding(frames::specs::Reading::message_after, frames::specs::Reading::energy_read))]
+fn read(
+    reading: Reading,
+    kind: u8,
+    grade: u8,
+    free: u8,
+    frame: &[i32],
+    message: &mut [u8],
+) -> Result<u64, Refusal>
+    ensures number { number_of result ≡ refusal_of reading kind grade free frame.now (length message.old) }
+    ensures message { message.new ≡ message_after (number_of result) kind grade free frame.now message.old }
+    ensures energy { figure_of result ≡ energy_read (number_of result) frame.now }
 {
-    let t = tests(which, kind, grade, free, frame, message.len());
-    let refusal = t.number;
-    if refusal != 0 {
-        return Reading {
-            number: refusal,
-            energy: 0,
-        };
-    }
+    let words = tests(reading, kind, grade, free, frame, message.len())?;
     let energy = energy_by_blocks(frame);
-    let words = t.words;
     write_fixed(kind, grade, free, frame, words, message);
-    Reading {
-        number: refusal,
-        energy,
-    }
+    Ok(energy)
 }
 
 // The open reading: the message of any frame of the coding set, free bits as 0.
-pub fn read_open(kind: u8, grade: u8, free: u8, frame: &[i32], message: &mut [u8]) -> Reading
-    ensures number { result.number ≡ open_refusal kind grade free frame.now (length message.old) }
-    ensures message { message.new ≡ message_after result.number kind grade free frame.now message.old }
-    ensures energy { result.energy ≡ energy_read result.number frame.now }
+pub fn read_open(
+    kind: u8,
+    grade: u8,
+    free: u8,
+    frame: &[i32],
+    message: &mut [u8],
+) -> Result<u64, Refusal>
+    ensures number { number_of result ≡ open_refusal kind grade free frame.now (length message.old) }
+    ensures message { message.new ≡ message_after (number_of result) kind grade free frame.now message.old }
+    ensures energy { figure_of result ≡ energy_read (number_of result) frame.now }
 {
-    read(0, kind, grade, free, frame, message)
+    read(Reading::Open, kind, grade, free, frame, message)
 }
 
 // The strict reading under a number: the message of a frame that is sent under it, and of no other. Where no bit is free there is one filling; where more than
@@ -62,21 +60,18 @@ pub fn read_strict(
     free: u8,
     frame: &[i32],
     message: &mut [u8],
-) -> Reading
-    ensures number { result.number ≡ strict_refusal kind grade free number frame.now (length message.old) }
-    ensures message { message.new ≡ message_after result.number kind grade free frame.now message.old }
-    ensures energy { result.energy ≡ energy_read result.number frame.now }
+) -> Result<u64, Refusal>
+    ensures number { number_of result ≡ strict_refusal kind grade free number frame.now (length message.old) }
+    ensures message { message.new ≡ message_after (number_of result) kind grade free frame.now message.old }
+    ensures energy { figure_of result ≡ energy_read (number_of result) frame.now }
 {
     if free == 0 {
         return read_whole(kind, grade, number, frame, message);
     }
-    if 4 < free {
-        return read(0, kind, grade, free, frame, message);
-    }
     let n = message.len();
-    if 46 < n {
-        return read(0, kind, grade, free, frame, message);
+    if 4 < free || 46 < n {
+        return read(Reading::Open, kind, grade, free, frame, message);
     }
     let mut own = [0u8; 46];
-    read_quiet(kind, grade, number, free, frame, &mut own[0..n], message)
+    read_quiet(kind, grade, number, free, frame, &mut own[..n], message)
 }

@@ -1,81 +1,69 @@
-// The tests of the readings, in document 01's order. A refusal is the number of the first one that is not passed; 0 is success.
-ghost use Rattle.std.specs.Prelude.{◌≡◌};
+// The tests of the readings, in document 01's order. A refusal is that of the first one that is not passed.
+ghost use Rattle.std.specs.Prelude.{◌≡◌, IfOk, OnOk};
+ghost use Rattle.refusals.specs.Number.{number_of};
 ghost use Rattle.frames.specs.Reading.{open_refusal};
-ghost use Rattle.reading.specs.Words.{no_words, words_after};
+ghost use Rattle.frame_levels.specs.Words.{backward_words};
 ghost use Rattle.reading.specs.Numbers.{refusal_of};
 
-use frame_levels::{broken_level, level_words};
+use frame_levels::{level_words, test_levels};
 use frame_range::in_range;
+use refusals::Refusal;
 use strict_test::is_least;
 
-// What the tests give: the number of the first one that is not passed, and where all are the frame's levels, taken backwards.
-#[derive(Clone, Copy)]
-pub struct Tested {
-    pub number: u8,
-    pub words: [u64; 3],
-}
-
-// A test that is not passed: its number, and no levels.
-fn refused(number: u8) -> Tested
-    ensures number { result.number ≡ number }
-    ensures words { result.words ≡ no_words }
+// The tests of the open reading, and where all are passed the frame's levels, taken backwards; n message bytes are lent.
+#[tactic(auto, using(crate::proofs::Steps::open_steps), unfolding(frames::specs::Reading::open_refusal, frames::specs::Free::is_free_count))]
+fn open_tests(kind: u8, grade: u8, free: u8, frame: &[i32], n: usize) -> Result<[u64; 3], Refusal>
+    ensures number { number_of result ≡ open_refusal kind grade free frame.now n }
+    ensures words { IfOk result (λ words. words ≡ backward_words kind frame.now) }
 {
-    Tested {
-        number,
-        words: [0u64; 3],
-    }
-}
-
-// The tests of the open reading; n message bytes are lent.
-fn open_tests(kind: u8, grade: u8, free: u8, frame: &[i32], n: usize) -> Tested
-    ensures number { result.number ≡ open_refusal kind grade free frame.now n }
-    ensures words { result.words ≡ words_after result.number kind frame.now }
-{
-    let no = kind_table::refusal(kind, grade);
-    if no != 0 {
-        return refused(no);
-    }
-    let positions = kind_table::positions(kind);
+    kind_table::test(kind, grade)?;
     if 4 < free {
-        return refused(17);
+        return Err(Refusal::FreeCount);
     }
-    if frame.len() != positions {
-        return refused(4);
+    if frame.len() != kind_table::positions(kind) {
+        return Err(Refusal::FrameLength);
     }
     if n != kind_table::message_bytes(kind, grade as usize) {
-        return refused(3);
+        return Err(Refusal::MessageLength);
     }
     if !in_range(frame) {
-        return refused(6);
+        return Err(Refusal::OverRange);
     }
     let words = level_words(kind, frame);
-    let broken = broken_level(kind, words);
-    if broken != 0 {
-        return refused(broken);
-    }
-    Tested {
-        number: broken,
-        words,
-    }
+    test_levels(kind, words)?;
+    Ok(words)
 }
 
-// The tests of a reading, the open one where `which` is 0 and else the strict one under number which − 1, no filling compared; n message bytes are lent.
-pub fn tests(which: u8, kind: u8, grade: u8, free: u8, frame: &[i32], n: usize) -> Tested
-    ensures number { result.number ≡ refusal_of which kind grade free frame.now n }
-    ensures words { result.words ≡ words_after result.number kind frame.now }
+// Which reading: the open one, or the strict one under even or under odd numbers.
+#[derive(Clone, Copy)]
+pub enum Reading {
+    Open,
+    Even,
+    Odd,
+}
+
+// The tests of a reading, no filling compared, and where all are passed the frame's levels, taken backwards; n message bytes are lent.
+pub fn tests(
+    reading: Reading,
+    kind: u8,
+    grade: u8,
+    free: u8,
+    frame: &[i32],
+    n: usize,
+) -> Result<[u64; 3], Refusal>
+    ensures number { number_of result ≡ refusal_of reading kind grade free frame.now n }
+    ensures open { OnOk result (open_refusal kind grade free frame.now n ≡ 0) }
+    ensures words { IfOk result (λ words. words ≡ backward_words kind frame.now) }
 {
-    let t = open_tests(kind, grade, free, frame, n);
-    let refusal = t.number;
-    if refusal != 0 {
-        return t;
-    }
-    if which == 0 {
-        return t;
-    }
+    let words = open_tests(kind, grade, free, frame, n)?;
+    let odd = match reading {
+        Reading::Open => return Ok(words),
+        Reading::Even => false,
+        Reading::Odd => true,
+    };
     let k = kind_table::levels(kind) + (grade as usize) - 1;
-    if is_least(kind_table::is_odd(which as u32 - 1), kind, k as u32, frame) {
-        t
-    } else {
-        refused(9)
+    if !is_least(odd, kind, k as u32, frame) {
+        return Err(Refusal::Unshaped);
     }
+    Ok(words)
 }
