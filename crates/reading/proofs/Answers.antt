@@ -8,14 +8,13 @@ use native.Mathlib.Omega.{arith}
 use lib.Dec.{eqb}
 use lib.IntN.{ℤ}
 use lib.ListN.{length}
-use borrow.Author.Tests.{eq-eqb, ne_eqb, le-leb}
-use Rattle.e8.specs.Energy.{energy}
+use borrow.Author.Tests.{le-leb}
 use Rattle.e8.specs.Ties.{least_frame_by}
-use Rattle.frames.specs.Kind.{is_kind, is_grade, levels, message_bytes}
+use Rattle.frames.specs.Kind.{levels}
 use Rattle.frames.specs.Frame.{half, is_odd}
 use Rattle.frames.specs.Free.{is_free_count, filling, quiet_filling}
 use Rattle.frames.specs.Sending.{unless}
-use Rattle.frames.specs.Reading.{in_range, same_frame, open_message, fixed_message, open_refusal, is_sent, strict_refusal, message_after, energy_read}
+use Rattle.frames.specs.Reading.{same_frame, open_message, fixed_message, open_refusal, is_sent, strict_refusal}
 use Rattle.frames.proofs.Rows.{grade-low, grade-high}
 use Rattle.frames.proofs.Refusals.{passed, accepted}
 use Rattle.frames.proofs.Reading.{sent-is-least, taken-in-set}
@@ -24,21 +23,6 @@ use Rattle.free_bits.proofs.Fillings.{free-few, none-quiet}
 use Rattle.free_bits.proofs.LastByte.{last_byte}
 use Rattle.free_bits.proofs.Strict.{none-sent, strict-decides, strict-as-open, strict-passed, sent-whole, taken-decides}
 use Rattle.reading.specs.Numbers.{sent_refusal}
-
--- ---- the definition, as far as the tests go
-
-module _ (k b f n : ℕ) (frame : List ℤ) (good : (is_kind k ≡ true) × (is_grade b ≡ true)) (few : is_free_count f ≡ true) where
-  pub by_4 : (length frame ≡ 2 ^ k → ⊥) → 4 ≡ open_refusal k b f frame n
-  unfolding open_refusal
-  by_4 l = rw (good.0, good.1, few, ne_eqb (length frame) (2 ^ k) l)
-
-  pub by-3 : length frame ≡ 2 ^ k → (n ≡ message_bytes k b → ⊥) → 3 ≡ open_refusal k b f frame n
-  unfolding open_refusal
-  by-3 l m = rw (good.0, good.1, few, eq-eqb (length frame) (2 ^ k) l, ne_eqb n (message_bytes k b) m)
-
-  pub by-6 : length frame ≡ 2 ^ k → n ≡ message_bytes k b → in_range frame ≡ false → 6 ≡ open_refusal k b f frame n
-  unfolding open_refusal
-  by-6 l m r = rw (good.0, good.1, few, eq-eqb (length frame) (2 ^ k) l, eq-eqb n (message_bytes k b) m, r)
 
 -- ---- the strict reading, before any filling is compared
 
@@ -53,18 +37,6 @@ module _ (k b f number : ℕ) (frame : List ℤ) (n : ℕ) where
   pub sent-decides : opened ≡ 0 → sent ≡ unless (is_sent k b 0 number frame) 9 0
   unfolding sent_refusal
   sent-decides e = rw e
-
-  -- what the open reading refuses, it refuses by the same number
-  pub sent-as-open : (opened ≡ 0 → ⊥) → sent ≡ opened
-  unfolding sent_refusal
-  sent-as-open h = rw (ne_eqb opened 0 h)
-
-  pub sent-passed : sent ≡ 0 → (opened ≡ 0) × (is_sent k b 0 number frame ≡ true)
-  sent-passed e = go (ℕ_discrete opened 0)
-    where
-      go : Dec (opened ≡ 0) → (opened ≡ 0) × (is_sent k b 0 number frame ≡ true)
-      go (yes z) = (z, (passed (is_sent k b 0 number frame) 8 0 (sym (sent-decides z) ∙ e)).0)
-      go (no h) = absurd (h (sym (sent-as-open h) ∙ e))
 
 -- the frame's own message is that of the least of its class by the tie rule of the number
 pub sent-tested : (k b f number : ℕ) (frame : List ℤ) (n e : ℕ) (odd : Bool) → open_refusal k b f frame n ≡ 0 → is_odd number ≡ odd → e ≡ levels k + b - 1
@@ -148,23 +120,3 @@ pub long-refused : (k b f number : ℕ) (frame : List ℤ) (n : ℕ) → 46 < n 
 long-refused k b f number frame n h = sym (strict-as-open k b f number frame n (λ e.
     let a = accepted k b f frame n e in
     omega (arith, h, (last_byte k b n a.kind (grade-low b a.grade) (grade-high b a.grade) a.bytes).few)))
-
--- ---- what a reading leaves, by its number
-
--- a refusal
-pub bytes-kept : (number k b f : ℕ) (frame : List ℤ) (lent : List ℕ) → (number ≡ 0 → ⊥) → lent ≡ message_after number k b f frame lent
-unfolding message_after
-bytes-kept number k b f frame lent n = rw (ne_eqb number 0 n)
-
-pub no-energy : (number : ℕ) (frame : List ℤ) → (number ≡ 0 → ⊥) → 0 ≡ energy_read number frame
-unfolding energy_read
-no-energy number frame n = rw (ne_eqb number 0 n)
-
--- success
-pub message-given : (number k b f : ℕ) (frame : List ℤ) (lent : List ℕ) → number ≡ 0 → fixed_message k b f frame ≡ message_after number k b f frame lent
-unfolding message_after
-message-given number k b f frame lent e = rw (eq-eqb number 0 e)
-
-pub energy-given : (number : ℕ) (frame : List ℤ) → number ≡ 0 → energy frame ≡ energy_read number frame
-unfolding energy_read
-energy-given number frame e = rw (eq-eqb number 0 e)

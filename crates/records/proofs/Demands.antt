@@ -29,10 +29,9 @@ use Rattle.frames.proofs.Range.{sent-frame-within}
 use Rattle.free_bits.proofs.Fillings.{quiet-least, quiet-frame-long, none-quiet}
 use Rattle.free_bits.proofs.Strict.{read_back, strict-passed, strict-takes-sent, none-free-read}
 use Rattle.four_bytes.proofs.Laws.{AllFit, four_below, length-coordinates}
-use Rattle.records.specs.declared.RecordRead.{RecordRead}
 use Rattle.records.specs.Record.{record_of, sent_record, record_bytes, kind_at, grade_at, number_at, frame_at, end_at}
 use Rattle.records.specs.Writing.{write_refusal, write_answer, buffer_after}
-use Rattle.records.specs.Reading.{head_refusal, strict_at, read_refusal, refused_by, read_answer, frame_read}
+use Rattle.records.specs.Reading.{RecordRead, head_refusal, strict_at, read_refusal, refused_by, read_answer, frame_read}
 use Rattle.records.specs.Demands.{WriterOrder, ReaderOrder, MarkMissing, WriterRefuses, ReaderRefuses, Outside, ReadBackSame, Made}
 use Rattle.records.proofs.Laws.{record-length, there-inside, there-marked, there-kind, there-grade, there-number, there-frame, stands}
 use Rattle.records.proofs.Tests.{Writable, writable, write-refused, write-passed, room, mark-cut, no-mark, whole, Whole, whole-record, answered, answer-refused, read-passed, frame-passed}

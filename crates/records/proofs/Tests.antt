@@ -12,10 +12,9 @@ use Rattle.frames.specs.Kind.{is_kind, is_grade}
 use Rattle.frames.specs.Sending.{send_refusal, unless, Accepts}
 use Rattle.frames.proofs.Refusals.{passed}
 use Rattle.octets.specs.Place.{put_at}
-use Rattle.records.specs.declared.RecordRead.{RecordRead}
 use Rattle.records.specs.Record.{sent_record, record_bytes, marked, kind_at, grade_at, number_at, frame_at, end_at}
 use Rattle.records.specs.Writing.{write_refusal, write_answer, buffer_after}
-use Rattle.records.specs.Reading.{head_refusal, strict_at, read_refusal, refused_by, read_answer, frame_read}
+use Rattle.records.specs.Reading.{RecordRead, head_refusal, strict_at, read_refusal, refused_by, read_answer, frame_read}
 
 -- where the first answer is 0, the second is given
 first-zero : (x next : ℕ) → cond (eqb x 0) next x ≡ 0 → (x ≡ 0) × (next ≡ 0)

@@ -5,10 +5,9 @@ use Rattle.e8.specs.Energy.{energy}
 use Rattle.frames.specs.Message.{Bytes}
 use Rattle.frames.specs.Free.{quiet_frame}
 use Rattle.frames.specs.Sending.{Accepts}
-use Rattle.records.specs.declared.RecordRead.{RecordRead}
 use Rattle.records.specs.Record.{sent_record, record_bytes, kind_at}
 use Rattle.records.specs.Writing.{write_answer, buffer_after}
-use Rattle.records.specs.Reading.{read_refusal, refused_by, read_answer, frame_read}
+use Rattle.records.specs.Reading.{RecordRead, read_refusal, refused_by, read_answer, frame_read}
 
 -- what is recorded: a message of a kind and grade, under a number
 pub record Entry : Type 0 where

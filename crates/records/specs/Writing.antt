@@ -1,8 +1,9 @@
 -- What the writer of records answers, and what it leaves in the lent buffer (request E11). Assumes nothing.
-use Rattle.std.specs.Prelude.{ℕ, ◌+◌, ◌^◌, cond, List, eqb, leb, length}
+use Rattle.std.specs.Prelude.{ℕ, ◌+◌, ◌^◌, cond, List, Result, eqb, leb, length}
 use Rattle.octets.specs.Place.{put_at}
 use Rattle.frames.specs.Sending.{unless, send_refusal}
-use Rattle.records.specs.declared.RecordWritten.{RecordWritten}
+use Rattle.refusals.specs.declared.Refusal.{Refusal}
+use Rattle.refusals.specs.Number.{number_of, figure_of}
 use Rattle.records.specs.Record.{sent_record, record_bytes}
 
 -- "The writer tests as sending does, without 4": as where as many coordinates are lent as the kind has; "and then 19": "record end, when the buffer from the
@@ -11,6 +12,15 @@ unfoldable pub write_refusal : ℕ → ℕ → List ℕ → ℕ → ℕ → ℕ
 unfolding send_refusal
 write_refusal k b bytes p l =
     cond (eqb (send_refusal k b 0 bytes (2 ^ k)) 0) (unless (leb (p + record_bytes k) l) 19 0) (send_refusal k b 0 bytes (2 ^ k))
+
+-- an answer of the writer by its figures: the refusal number, 0 for success, and the place after the record, 0 where nothing is written
+pub record RecordWritten : Type 0 where
+  pub refusal : ℕ
+  pub next : ℕ
+
+-- those of a result
+abbrev pub record_written : Result ℕ Refusal → RecordWritten
+record_written r = record { refusal = number_of r; next = figure_of r }
 
 -- the answer: the refusal, 0 for success, and "the place after it", 0 where the writer refuses
 unfoldable pub write_answer : ℕ → ℕ → List ℕ → ℕ → ℕ → RecordWritten
