@@ -1,5 +1,5 @@
 -- The line at a place and the next place by the number of the record there, and the beginning by the sheet's length. Assumes nothing.
-use Rattle.std.proofs.Common.{◌≡◌, ℕ, ◌<◌, ◌≤◌, true, false, eqb, ltb, List, ◌++◌, length, sym, refl, append-nil, le-ltb, lt-ltb, eq-eqb, ne_eqb}
+use Rattle.std.proofs.Common.{◌≡◌, ℕ, ◌<◌, true, false, eqb, ltb, List, ◌++◌, length, refl, lt-ltb, eq-eqb, ne_eqb}
 use Rattle.text.specs.Text.{bytes}
 use Rattle.text.specs.Line.{header_text, refused_text}
 use Rattle.sheet_record.specs.Record.{kind_at, grade_at, message_at, end_at, record_number}
@@ -27,10 +27,6 @@ module _ (s : List ℕ) where
   pub begins-long : 32768 < length s → (header_text ++ refused_text 12 ≡ beginning s) × (record { at = length s; number = 0 } ≡ start_of s)
   unfolding beginning start_of
   begins-long h = let e : ltb 32768 (length s) ≡ true = lt-ltb _ _ h in (simp e, simp e)
-
-  pub begins : length s ≤ 32768 → (header_text ≡ beginning s) × (record { at = 0; number = 0 } ≡ start_of s)
-  unfolding beginning start_of
-  begins h = let e : ltb 32768 (length s) ≡ false = le-ltb _ _ h in (simp e (sym (append-nil header_text)), simp e)
 
 pub header-length : length header_text ≡ 24
 unfolding header_text bytes

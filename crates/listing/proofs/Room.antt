@@ -1,6 +1,7 @@
 -- What is put into a lent line, by the room that is lent. Assumes nothing.
 use Rattle.std.proofs.Common.{◌≡◌, ℕ, zero, suc, ◌+◌, ◌%◌, ◌^◌, ◌<◌, ◌≤◌, Bool, true, false, cond, ltb, leb, List, [], ◌++◌, length, sym, refl, ap, ◌∙◌, subst, append-nil, mod-eq_of_lt, arith, le-ltb, lt-ltb, le-leb}
 use native.Mathlib.Decide.{dec_lt}
+use mathlib.Core.Logic.{◌⊎◌, inl, inr}
 use borrow.Author.Tests.{lt-leb}
 use Rattle.text.specs.Text.{Put}
 use Rattle.text.specs.Line.{header_text, refused_text}
@@ -60,12 +61,12 @@ module _ (room : ℕ) (s : List ℕ) where
 pub nothing_put : (o : List ℕ) {x : List ℕ} {n : ℕ} → [] ≡ x → n ≡ 0 → Put o 0 x n o
 nothing_put o {x} {n} e z = subst (λ (l : List ℕ). Put o 0 l n o) e (subst (λ (m : ℕ). Put o 0 [] m o) (sym z) (put-none o 0))
 
--- and where nothing is put, the listing ends further on
-pub none-at : (o s : List ℕ) (p : Place) {n : ℕ} {q : Place} → NonePut (length o) s p → (n ≡ 0) × (q ≡ ended s p.number)
-    → Put o 0 (line_into (length o) s p) n o × ((n ≤ length o) × ((q ≡ next_into (length o) s p) × (p.at < length s → p.at < q.at)))
-none-at o s p {n} {q} r e =
-    let a : q.at ≡ length s = ap (λ (x : Place). x.at) e.1 in
-    (nothing_put o r.0 e.0, (omega (arith, e.0), (e.1 ∙ r.1, λ h. omega (arith, a, h))))
+-- as the code finds it: too little room, a long sheet, or no record at the place
+pub none-at : (o s : List ℕ) (p : Place) {n : ℕ} → (length o < 1024) ⊎ ((32768 < length s) ⊎ (length s ≤ p.at)) → n ≡ 0
+    → Put o 0 (line_into (length o) s p) n o
+none-at o s p (inl h) e = nothing_put o (no_room (length o) s p h).0 e
+none-at o s p (inr (inl h)) e = nothing_put o (too_long (length o) s p h).0 e
+none-at o s p (inr (inr h)) e = nothing_put o (no_record (length o) s p h).0 e
 
 -- ---- THE LISTING AS IT IS PUT: where there is room, the beginning, and line after line at the place that was given
 

@@ -1,12 +1,19 @@
 // The listing of a sheet, line by line into a lent buffer.
 #![tactic(auto)]
 
-ghost use Rattle.std.specs.Prelude.{◌≡◌, ◌<◌, ◌≤◌, length};
+ghost use Rattle.std.specs.Prelude.{◌≡◌, ◌+◌, ◌%◌, ◌^◌, ◌<◌, ◌≤◌, length, IfOk, OnErr};
+ghost use Rattle.refusals.specs.Number.{number_of};
+ghost use Rattle.sheet_record.specs.Record.{record_number};
 ghost use Rattle.text.specs.Text.{Put};
 ghost use Rattle.listing.specs.Places.{beginning, start_of, line_on, next_on, line_into, next_into, beginning_into, start_into, ended};
 
+use refusals::Refusal;
+
 // The room that a line has to be lent: enough for 64 coordinates (text::put_line).
 const ROOM: usize = 1024;
+
+// The bytes of the longest sheet whose records are listed.
+const LONGEST: usize = 32768;
 
 // A place of a sheet: where the next record stands, and its number.
 #[derive(Clone, Copy)]
@@ -23,62 +30,82 @@ pub struct Written {
     pub next: Place,
 }
 
-// The line of the record at the place, where there is room for it.
+impl Place {
+    // The place of the record after this one, where it stands at `at`.
+    fn next(self, at: usize) -> Place
+        ensures { result ≡ record { at = at; number = (self.number + 1) % 2 ^ 32 } }
+    {
+        Place {
+            at,
+            number: self.number.wrapping_add(1),
+        }
+    }
+}
+
+// The end of a sheet: no record stands there.
+fn end_of(sheet: &[u8], number: u32) -> Place
+    ensures { result ≡ ended sheet.now number }
+{
+    Place {
+        at: sheet.len(),
+        number,
+    }
+}
+
+// The line of the record at the place, where it is whole and its message is sent. Nothing is put for one that is refused.
+#[tactic(auto, unfolding(sheet_record::specs::Record::record_number))]
+fn sent_record(sheet: &[u8], place: Place, out: &mut [u8]) -> Result<Written, Refusal>
+    requires { (place.at < length sheet.now) × (1024 ≤ length out.old) }
+    ensures number { number_of result ≡ record_number sheet.now place.at }
+    ensures line { IfOk result (λ w. Put out.old 0 (line_on sheet.now place) w.length out.new) }
+    ensures short { IfOk result (λ w. w.length ≤ 1024) }
+    ensures next { IfOk result (λ w. w.next ≡ next_on sheet.now place) }
+    ensures refused { OnErr result (out.new ≡ out.old) }
+{
+    sheet_record::test_record(sheet, place.at)?;
+    let kind = sheet[place.at + 2];
+    let grade = sheet[place.at + 3];
+    let start = place.at + 4;
+    let end = start + kind_table::message_bytes(kind, grade as usize);
+    let length = sheet_line::put_message(kind, grade, place.number, &sheet[start..end], out)?;
+    Ok(Written {
+        length,
+        next: place.next(end),
+    })
+}
+
+// The line of the record at the place, where there is room for it: of one that is refused, its refusal, with which the listing ends.
+#[tactic(auto, unfolding(crate::specs::Listing::line_at, crate::specs::Listing::next_at, crate::specs::Places::next_on))]
 fn record_line(sheet: &[u8], place: Place, out: &mut [u8]) -> Written
     requires { (place.at < length sheet.now) × (1024 ≤ length out.old) }
     ensures line { Put out.old 0 (line_on sheet.now place) result.length out.new × (result.length ≤ 1024) }
     ensures next { (result.next ≡ next_on sheet.now place) × (place.at < result.next.at) }
 {
-    let p = place.at;
-    let number = std::num::wrapping_add_u32(place.number, 1);
-    let refusal = sheet_record::test_record(sheet, p);
-    if refusal != 0 {
-        return Written {
-            length: text::put_refused(out, 0, refusal),
-            next: Place {
-                at: sheet.len(),
-                number,
-            },
-        };
-    }
-    let kind = sheet[p + 2];
-    let grade = sheet[p + 3];
-    let start = p + 4;
-    let end = start + kind_table::message_bytes(kind, grade as usize);
-    let a = sheet_line::put_message(kind, grade, place.number, &sheet[start..end], out);
-    if a.number != 0 {
-        return Written {
-            length: a.length,
-            next: Place {
-                at: sheet.len(),
-                number,
-            },
-        };
-    }
-    Written {
-        length: a.length,
-        next: Place { at: end, number },
+    match sent_record(sheet, place, out) {
+        Ok(written) => written,
+        Err(refusal) => Written {
+            length: text::put_refused(out, 0, refusal.number()),
+            next: place.next(sheet.len()),
+        },
     }
 }
 
 // The header, and for a long sheet its refusal, where there is room for them.
+#[tactic(auto, unfolding(crate::specs::Places::beginning, crate::specs::Places::start_of))]
 fn header(sheet: &[u8], out: &mut [u8]) -> Written
     requires { 1024 ≤ length out.old }
     ensures line { Put out.old 0 (beginning sheet.now) result.length out.new × (result.length ≤ 1024) }
     ensures next { result.next ≡ start_of sheet.now }
 {
-    let a = text::put_header(out, 0);
-    if 32768 < sheet.len() {
+    let length = text::put_header(out, 0);
+    if LONGEST < sheet.len() {
         return Written {
-            length: text::put_refused(out, a, 12),
-            next: Place {
-                at: sheet.len(),
-                number: 0,
-            },
+            length: text::put_refused(out, length, Refusal::SheetTooLong.number()),
+            next: end_of(sheet, 0),
         };
     }
     Written {
-        length: a,
+        length,
         next: Place { at: 0, number: 0 },
     }
 }
@@ -89,35 +116,27 @@ fn nothing(sheet: &[u8], number: u32) -> Written
 {
     Written {
         length: 0,
-        next: Place {
-            at: sheet.len(),
-            number,
-        },
+        next: end_of(sheet, number),
     }
 }
 
 // The line of the record at the place. Nothing is put where less than 1024 bytes are lent, for a long sheet, or past the end of the
 // sheet.
+#[tactic(auto, unfolding(crate::specs::Places::line_into, crate::specs::Places::next_into))]
 pub fn line(sheet: &[u8], place: Place, out: &mut [u8]) -> Written
     ensures line { Put out.old 0 (line_into (length out.old) sheet.now place) result.length out.new }
     ensures short { result.length ≤ length out.old }
     ensures next { result.next ≡ next_into (length out.old) sheet.now place }
     ensures further { place.at < length sheet.now → place.at < result.next.at }
 {
-    let n = sheet.len();
-    if out.len() < ROOM {
-        return nothing(sheet, place.number);
-    }
-    if 32768 < n {
-        return nothing(sheet, place.number);
-    }
-    if n <= place.at {
+    if out.len() < ROOM || LONGEST < sheet.len() || sheet.len() <= place.at {
         return nothing(sheet, place.number);
     }
     record_line(sheet, place, out)
 }
 
 // What the listing begins with, and the first place. Nothing is put where less than 1024 bytes are lent.
+#[tactic(auto, unfolding(crate::specs::Places::beginning_into, crate::specs::Places::start_into))]
 pub fn begin(sheet: &[u8], out: &mut [u8]) -> Written
     ensures line { Put out.old 0 (beginning_into (length out.old) sheet.now) result.length out.new }
     ensures short { result.length ≤ length out.old }
