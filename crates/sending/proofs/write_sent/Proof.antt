@@ -8,7 +8,6 @@ use lib.IntN.{ℤ}
 use borrow.Author.Rules.{rules}
 use Rattle.e8.specs.Energy.{energy, Within}
 use Rattle.e8.specs.Largest.{largest_block}
-use Rattle.frames.specs.Kind.{levels}
 use Rattle.frames.specs.Message.{leader}
 use Rattle.frames.specs.Free.{filled, filled_frame, quiet_filling, quiet_frame}
 use Rattle.frames.proofs.One.{leader-length}
