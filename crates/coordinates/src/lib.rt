@@ -39,12 +39,15 @@ pub fn load(part: &[i32]) -> [i32; 8]
     part.try_into().unwrap()
 }
 
-// Eight numbers written over a block of the lent coordinates.
+// Eight numbers written over a block of the lent coordinates. By index: `copy_from_slice` asks whether the two overlap, and for that the compiler keeps the
+// eight in memory.
 pub fn store(x: [i32; 8], part: &mut [i32])
     requires { length part.old ≡ 8 }
     ensures { part.new ≡ x }
 {
-    part.copy_from_slice(&x);
+    for i in 0..8 {
+        part[i] = x[i];
+    }
 }
 
 // The square of a coordinate of a sent block. Such a coordinate is at most M in size, 128 and less, so that i16 has room for it: the compiler then
