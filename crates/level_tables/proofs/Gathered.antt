@@ -5,15 +5,14 @@ use mathlib.Core.List.{List, [], ◌∷◌, map, reverse}
 use Rattle.std.proofs.Common.{fold, one-add}
 use Rattle.std.proofs.lemmas.List.{reverse-append, map-append, get_or-reverse, length-reverse, length-take-le, get_or-take, get_or-drop, length-drop, get_or_default}
 use Rattle.std.proofs.lemmas.List.Sums.{fold_push}
-use Rattle.std.proofs.lemmas.Nat.{shl_whole, or_shifted}
+use Rattle.std.proofs.lemmas.Nat.{shl_whole, or_shifted, or_comm}
 use lib.Bits.{bit_or}
 use Rattle.level_tables.specs.Entries.{Below64}
-use native.Mathlib.Nat.{zero-add}
 use native.Mathlib.Omega.{arith}
 use lib.ListN.{length, get_or, take, drop}
 use Rattle.bits.specs.Number.{sum_to, number}
-use Rattle.bits.proofs.Message.{number_lt, number-ext, number-join, digit-of}
-use Rattle.bits.proofs.Digits.{digit, digit-small, moved_up}
+use Rattle.bits.proofs.Message.{number_lt, number-ext, number-join}
+use Rattle.bits.proofs.Digits.{digit, digit-small}
 use Rattle.reed_muller.specs.Level.{order, place}
 use Rattle.level_tables.proofs.MaskTables.{Right, mask-entry, place-entry}
 
@@ -75,46 +74,32 @@ module _ (es : List ℕ) (from n : ℕ) (eight : n ≡ 8) (room : from + 8 ≤ l
       fold-bits bits part (omega (arith, long)) ∙ ap (λ (m : ℕ). number m (λ k. digit bits (get_or part k 0))) long
       ∙ number-ext 8 (λ k h. ap (digit bits) (part_at k 0 h))
 
--- the bits, and the number once those at the first n entries of the table are gathered
-pub record Gathered (es : List ℕ) (n : ℕ) : Type 0 where
-  pub bits : ℕ
-  pub word : ℕ
-  pub is : word ≡ number n (bits_from es bits 0)
+-- ---- all entries of a table, eight at a time
 
-abbrev pub gathered-first : (es : List ℕ) (bits : ℕ) {y : ℕ} → y ≡ number 8 (bits_from es bits 0) → Gathered es 8
-gathered-first es bits {y} e = record { bits = bits; word = y; is = e }
+-- the bits at the entries of a table
+abbrev pub entry_bits : List ℕ → ℕ → ℕ → ℕ
+entry_bits es bits k = digit bits (get_or es k 0)
 
-module _ {es : List ℕ} {n : ℕ} (g : Gathered es n) where
-  word-less : g.word < 2 ^ n
-  word-less = rw g.is (number_lt (bits_from es g.bits 0) n (λ k l. digit-small g.bits (get_or es (0 + k) 0)))
+-- eight more
+pub eight_more : (es : List ℕ) (bits n : ℕ) {word y : ℕ} → n + 8 ≤ 64 → word ≡ number n (entry_bits es bits) → y ≡ number 8 (bits_from es bits n)
+    → bit_or word (y * 2 ^ n % 2 ^ 64) ≡ number (n + 8) (entry_bits es bits)
+eight_more es bits n {word} {y} room e d =
+    let few : word < 2 ^ n = rw e (number_lt _ n (λ k _. digit-small bits (get_or es k 0))) in
+    let eight : y < 2 ^ 8 = rw d (number_lt _ 8 (λ k _. digit-small bits (get_or es (n + k) 0))) in
+    ap (bit_or word) (shl_whole y 8 n 64 eight (omega arith)) ∙ or_comm word (y * 2 ^ n) ∙ or_shifted y n word few
+    ∙ omega (arith, e, ap (λ (x : ℕ). x * 2 ^ n) d, number-join n 8 (entry_bits es bits))
 
-  eight-less : {y : ℕ} → y ≡ number 8 (bits_from es g.bits n) → y < 2 ^ 8
-  eight-less e = rw e (number_lt (bits_from es g.bits n) 8 (λ k l. digit-small g.bits (get_or es (n + k) 0)))
+-- at the masks of the order, and at the first of them, as many as are asked for
+pub all-masks : {m n : ℕ} → m ≡ n → {os ps ds : List ℕ} → Right n os ps ds → (bits count : ℕ)
+    → number count (entry_bits os bits) ≡ number count (entry_bits (order m) bits)
+all-masks e t bits count = number-ext count (λ k l. ap (digit bits) (mask-entry e t k))
 
-  pub gathered-sizes : {y : ℕ} → y ≡ number 8 (bits_from es g.bits n) → (g.word < 2 ^ n) × (y < 2 ^ 8)
-  gathered-sizes e = (word-less, eight-less e)
-
-  -- eight more
-  pub joined : n + 8 ≤ 64 → (y : ℕ) → y ≡ number 8 (bits_from es g.bits n) → g.word + y * 2 ^ n % 2 ^ 64 ≡ number (n + 8) (bits_from es g.bits 0)
-  joined room y e =
-      let above : y ≡ number 8 (λ k. bits_from es g.bits 0 (n + k)) =
-      e ∙ number-ext 8 (λ k l. ap (λ (i : ℕ). digit g.bits (get_or es i 0)) (sym (zero-add (n + k)))) in
-      omega (arith, g.is, moved_up y n 8 64 (eight-less e) room, ap (λ (x : ℕ). 2 ^ n * x) above, number-join n 8 (bits_from es g.bits 0))
-
-  abbrev pub gathered_next : n + 8 ≤ 64 → {y : ℕ} → y ≡ number 8 (bits_from es g.bits n) → Gathered es (n + 8)
-  gathered_next room {y} e = record { bits = g.bits; word = g.word + y * 2 ^ n % 2 ^ 64; is = joined room y e }
-
--- at the masks in order: the low ones, as many as are asked for, once they are there
-module _ {m : ℕ} {os ps ds : List ℕ} (t : Right m os ps ds) {n : ℕ} (g : Gathered os n) where
-  pub gathered-low : {count : ℕ} → count ≤ n → number count (digit g.word) ≡ number count (λ k. digit g.bits (get_or (order m) k 0))
-  gathered-low {count} h =
-      number-ext count (λ k l.
-      digit-of g.is (λ k l. digit-small g.bits (get_or os (0 + k) 0)) k (omega arith)
-      ∙ ap (λ (i : ℕ). digit g.bits (get_or os i 0)) (zero-add k) ∙ ap (digit g.bits) (mask-entry refl t k))
+pub first-masks : {m n : ℕ} → m ≡ n → {os ps ds : List ℕ} → Right n os ps ds → (bits len : ℕ) {count : ℕ} → count ≤ len
+    → number count (entry_bits (take len os) bits) ≡ number count (entry_bits (order m) bits)
+first-masks e {os} t bits len {count} h = number-ext count (λ k l. ap (digit bits) (get_or-take len os k 0 (omega arith))) ∙ all-masks e t bits count
 
 -- at the places of all masks
-module _ {m : ℕ} {os ps ds : List ℕ} (t : Right m os ps ds) (g : Gathered ps (2 ^ m)) where
-  pub gathered-all : g.word ≡ number (2 ^ m) (λ S. digit g.bits (place (order m) S))
-  gathered-all =
-      g.is
-      ∙ number-ext (2 ^ m) (λ S l. ap (λ (i : ℕ). digit g.bits (get_or ps i 0)) (zero-add S) ∙ ap (digit g.bits) (place-entry refl t S l))
+pub all-places : {m n : ℕ} → m ≡ n → {os ps ds : List ℕ} → Right n os ps ds → (bits : ℕ)
+    → number (2 ^ n) (entry_bits ps bits) ≡ number (2 ^ m) (λ S. digit bits (place (order m) S))
+all-places {m} {n} e t bits =
+    number-ext (2 ^ n) (λ S l. ap (digit bits) (place-entry e t S l)) ∙ ap (λ (x : ℕ). number (2 ^ x) (λ S. digit bits (place (order m) S))) (sym e)

@@ -94,3 +94,15 @@ pub fn gather_eight(bits: u64, table: &[u8], from: usize) -> u64
         .map(|entry| (bits >> *entry) % 2)
         .fold(0, |b, bit| (b << 1) | bit)
 }
+
+// The bits at the entries of a table, of masks or of places, eight at a time: in a caller that names the table the compiler unrolls both loops.
+pub fn gather(bits: u64, table: &[u8]) -> u64
+    requires { (length table.now % 8 ≡ 0) × (length table.now ≤ 64) × Below64 table.now }
+    ensures { result ≡ number (length table.now) (λ k. bits / 2 ^ get_or table.now k 0 % 2) }
+{
+    let mut word = 0;
+    for j in 0..table.len() / 8 {
+        word |= gather_eight(bits, table, 8 * j) << (8 * j);
+    }
+    word
+}
