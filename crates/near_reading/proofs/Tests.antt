@@ -1,6 +1,6 @@
 -- The tests of the near reading, one by one, the number that they give, and what is answered by the number. Assumes nothing.
 use Prim.Native.Nat.{ℕ, ◌^◌, ◌≤◌, ◌<◌}
-use mathlib.Core.Path.{◌≡◌, refl, sym, ◌∙◌}
+use mathlib.Core.Path.{◌≡◌, refl, sym, ap, ◌∙◌}
 use mathlib.Core.Bool.{Bool, true, false, cond}
 use mathlib.Core.List.{List, []}
 use native.Mathlib.Omega.{arith}
@@ -128,6 +128,10 @@ module _ (k b : ℕ) (xs : List Float) (n : ℕ) where
   pub distance-near : near_number k b xs n ≡ 0 → near_distance k b xs n ≡ in_parts (near_cost k (samples_in_256ths xs))
   unfolding near_distance
   distance-near e = rw e
+
+  -- the squared distance in parts tells it
+  pub distance-told : near_number k b xs n ≡ 0 → (parts : ℕ) → parts ≡ near_parts k b xs n → in_parts parts ≡ near_distance k b xs n
+  distance-told z parts e = ap in_parts (e ∙ parts-near z) ∙ sym (distance-near z)
 
   -- the paper's number of the answer
   pub case-number : number_of (near_answer k b xs n) ≡ near_number k b xs n

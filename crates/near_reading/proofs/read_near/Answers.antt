@@ -1,23 +1,23 @@
 use Rattle.std.proofs.Common.{◌≡◌, length, sym, ap, ◌∙◌}
 use Rattle.refusals.specs.Number.{code}
-use Rattle.near_reading.specs.Answer.{near_number, in_parts, Near, Refused}
-use Rattle.near_reading.proofs.Tests.{some, not-far, parts-near, distance-near, distance-none, answer-near, answer-far, answer-refused}
+use Rattle.near_reading.specs.Answer.{near_number, Near, Refused}
+use Rattle.near_reading.proofs.Tests.{some, not-far, distance-told, distance-none, answer-near, answer-far, answer-refused}
 use Rattle.near_reading.proofs.read_near.Goals as goal
 
--- a near frame: its squared distance
-pub returns-in-Ok-clause-distance : goal.returns-in-Ok-clause-distance
-returns-in-Ok-clause-distance c =
+-- a near frame
+pub returns-in-Ok-clause-answer : goal.returns-in-Ok-clause-answer
+returns-in-Ok-clause-answer c =
     let k = c.args.kind in
     let b = c.args.grade in
     let xs = c.args.samples.now in
     let n = length c.args.message.now in
     let z : near_number k b xs n ≡ 0 = sym c.in-Ok.ensures.number in
-    c.distance_of.ensures.0 ∙ ap in_parts (c.in-Ok.ensures.cost ∙ parts-near k b xs n z) ∙ sym (distance-near k b xs n z)
+    ap Near (c.distance_of.ensures.0 ∙ distance-told k b xs n z c.in-Ok.cost c.in-Ok.ensures.cost) ∙ answer-near k b xs n z
 
-pub returns-in-Ok-clause-answer : goal.returns-in-Ok-clause-answer
-returns-in-Ok-clause-answer c =
-    ap Near (returns-in-Ok-clause-distance c)
-    ∙ answer-near c.args.kind c.args.grade c.args.samples.now (length c.args.message.now) (sym c.in-Ok.ensures.number)
+pub returns-in-Ok-clause-distance : goal.returns-in-Ok-clause-distance
+returns-in-Ok-clause-distance c =
+    c.distance_of.ensures.0
+    ∙ distance-told c.args.kind c.args.grade c.args.samples.now (length c.args.message.now) (sym c.in-Ok.ensures.number) c.in-Ok.cost c.in-Ok.ensures.cost
 
 -- too far
 pub returns-in-TooFar-clause-answer : goal.returns-in-TooFar-clause-answer
