@@ -23,9 +23,7 @@ use Rattle.free_bits.proofs.Strict.{strict-passed}
 use Rattle.power_account.specs.declared.Account.{Account}
 use Rattle.power_account.specs.Counted.{number_for, counted_refusal}
 use Rattle.power_account.proofs.Answers.{passed}
-use Rattle.near_reading.specs.declared.NearReading.{NearReading}
-use Rattle.near_reading.specs.declared.NearReading.TheVariants.{Near, Far, Refused}
-use Rattle.near_reading.specs.Answer.{near_number, near_distance, near_answer}
+use Rattle.near_reading.specs.Answer.{NearReading, Near, Far, Refused, near_number, near_distance, near_answer}
 use Rattle.answers.specs.Answer.{answer_of, send_answer, open_answer, strict_answer, account_of, counted_answer, near_code, near_held}
 
 -- the energy that stands with a refusal number says nothing

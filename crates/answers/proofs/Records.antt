@@ -8,11 +8,9 @@ use lib.Dec.{eqb}
 use borrow.Author.Tests.{eqb-true, eq-eqb, ne_eqb}
 use Rattle.e8.specs.Energy.{energy}
 use Rattle.frames.specs.Kind.{message_bytes}
-use Rattle.records.specs.declared.RecordWritten.{RecordWritten}
-use Rattle.records.specs.declared.RecordRead.{RecordRead}
 use Rattle.records.specs.Record.{kind_at, grade_at, number_at, frame_at, end_at}
-use Rattle.records.specs.Writing.{write_answer}
-use Rattle.records.specs.Reading.{read_refusal, refused_by, read_answer}
+use Rattle.records.specs.Writing.{RecordWritten, write_answer}
+use Rattle.records.specs.Reading.{RecordRead, read_refusal, refused_by, read_answer}
 use Rattle.records.proofs.Tests.{read-passed}
 use Rattle.answers.specs.Answer.{answer_of, write_code, write_held, read_code, Figures, figures_of, read_held}
 use Rattle.answers.proofs.Bounds.{taken-energy}

@@ -9,9 +9,7 @@ use Rattle.power_account.specs.Opening.{opening_refusal}
 use Rattle.power_account.specs.Counted.{number_for, counted_refusal, counted_account}
 use Rattle.queue_turns.specs.Queue.{queue_outcome}
 use Rattle.near_reading.specs.Answer.{near_number, near_distance}
-use Rattle.recordings.specs.declared.Chosen.{Chosen}
-use Rattle.recordings.specs.declared.Chosen.TheVariants.{First, Second, Neither}
-use Rattle.recordings.specs.Choice.{choice, chosen_number}
+use Rattle.recordings.specs.Choice.{Chosen, First, Second, Neither, choice, chosen_number}
 use Rattle.records.specs.Writing.{write_answer}
 use Rattle.records.specs.Reading.{read_answer}
 

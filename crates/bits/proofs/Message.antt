@@ -129,10 +129,10 @@ bit-of-byte xs j p h =
     let b : (8 * j + p) % 8 ≡ p = omega arith in
     ap₂ (λ (a b : ℕ). get_or xs a 0 / 2 ^ b % 2) a b
 
-byte-of-bits : (xs : List ℕ) → ((j : ℕ) → get_or xs j 0 < 256) → (j : ℕ) → byte_of (message_bit xs) j ≡ get_or xs j 0
+pub byte-of-bits : (xs : List ℕ) (j : ℕ) → get_or xs j 0 < 256 → byte_of (message_bit xs) j ≡ get_or xs j 0
 unfolding byte_of
-byte-of-bits xs h j =
-    sum-ext 8 (λ i hi. ap (λ (x : ℕ). x * 2 ^ i) (bit-of-byte xs j i hi)) ∙ number_digits (get_or xs j 0) 8 ∙ mod-eq_of_lt (h j)
+byte-of-bits xs j h =
+    sum-ext 8 (λ i hi. ap (λ (x : ℕ). x * 2 ^ i) (bit-of-byte xs j i hi)) ∙ number_digits (get_or xs j 0) 8 ∙ mod-eq_of_lt h
 
 -- a table of the bytes' values is the bytes
 pub bytes-are : (xs : List ℕ) (f : ℕ → ℕ) → ((j : ℕ) → j < length xs → f j ≡ get_or xs j 0) → table (length xs) f ≡ xs
@@ -143,7 +143,7 @@ bytes-are xs f h =
 -- bytes are the bytes of their bits
 pub bytes-of-bits : (xs : List ℕ) → ((j : ℕ) → get_or xs j 0 < 256) → bytes_of (length xs) (message_bit xs) ≡ xs
 unfolding bytes_of
-bytes-of-bits xs h = bytes-are xs (byte_of (message_bit xs)) (λ j l. byte-of-bits xs h j)
+bytes-of-bits xs h = bytes-are xs (byte_of (message_bit xs)) (λ j l. byte-of-bits xs j (h j))
 
 -- past the end every bit is 0
 pub bit_past : (xs : List ℕ) (k : ℕ) → 8 * length xs ≤ k → message_bit xs k ≡ 0

@@ -21,14 +21,10 @@ fn held(message: &[u8], first: usize, n: usize) -> u64
     requires { (n ≤ 8) × (first + n ≤ length message.now) }
     ensures { result ≡ number (8 * n) (λ t. message_bit message.now (8 * first + t)) }
 {
-    let mut w: u64 = 0;
-    let mut i = n;
-    while 0 < i {
-        i -= 1;
-        let j = first + i;
-        w = 256 * w + message[j] as u64;
-    }
-    w
+    message[first..first + n]
+        .iter()
+        .rev()
+        .fold(0, |w, byte| (w << 8) | u64::from(*byte))
 }
 
 // The same, where up to five bytes, the usual case, are one load each.
@@ -36,22 +32,14 @@ fn held_by(message: &[u8], first: usize, n: usize) -> u64
     requires { (n ≤ 8) × (first + n ≤ length message.now) }
     ensures { result ≡ number (8 * n) (λ t. message_bit message.now (8 * first + t)) }
 {
-    if n == 1 {
-        return held(message, first, 1);
+    match n {
+        1 => held(message, first, 1),
+        2 => held(message, first, 2),
+        3 => held(message, first, 3),
+        4 => held(message, first, 4),
+        5 => held(message, first, 5),
+        _ => held(message, first, n),
     }
-    if n == 2 {
-        return held(message, first, 2);
-    }
-    if n == 3 {
-        return held(message, first, 3);
-    }
-    if n == 4 {
-        return held(message, first, 4);
-    }
-    if n == 5 {
-        return held(message, first, 5);
-    }
-    held(message, first, n)
 }
 
 // The `count` message bits from bit `from` on, held in a number, taken byte by byte.
@@ -61,14 +49,7 @@ pub fn bits_at(message: &[u8], from: usize, count: usize) -> u64
 {
     let first = from / 8;
     let s = from % 8;
-    (held_by(message, first, (s + count + 7) / 8) >> s) % (1u64 << count)
-}
-
-// The lowest byte of a number.
-fn low_byte(w: u64) -> u8
-    ensures { result ≡ w % 256 }
-{
-    (w % 256) as u8
+    (held_by(message, first, (s + count).div_ceil(8)) >> s) % (1u64 << count)
 }
 
 // Puts the lowest n bytes of a number over the lent ones from byte `at` on, and hands back what is above them.
@@ -79,12 +60,9 @@ pub fn put_bytes(bits: u64, n: usize, out: &mut [u8], at: usize) -> u64
     ensures rest { result ≡ bits / 2 ^ (8 * n) }
 {
     let mut w = bits;
-    let mut i: usize = 0;
-    while i < n {
-        let p = at + i;
-        out[p] = low_byte(w);
-        w = w >> 8;
-        i += 1;
+    for byte in &mut out[at..at + n] {
+        *byte = (w % 256) as u8;
+        w >>= 8;
     }
     w
 }

@@ -1,3 +1,4 @@
+pub mod Maps
 pub mod Size
 pub mod Filled
 pub mod Range

@@ -1,11 +1,13 @@
 -- Coordinates of bounded size: what fits an i32, and sums of squares
-use mathlib.Core.Path.{◌≡◌, refl}
+use mathlib.Core.Path.{◌≡◌, refl, sym, ◌∙◌, subst}
 use mathlib.Core.Bool.{Bool, true, false, cond}
 use mathlib.Core.List.{List, [], ◌∷◌}
 use Prim.Native.Nat.{ℕ, zero, suc, ◌+◌, ◌*◌, ◌^◌, ◌<◌, ◌≤◌}
 use native.Mathlib.Nat.{le_trans, div-le_self, mul-le-mul}
 use native.Mathlib.Numerals.{add-one}
 use native.Mathlib.Omega.{arith}
+use Rattle.std.specs.List.{sum_by}
+use Rattle.std.proofs.lemmas.List.Recursion.{is_sum_by}
 use lib.ListN.{length, drop, get_or}
 use lib.Seq.{drop-cons}
 use lib.IntN.{ℤ, pos, negsuc, ◌+ℤ◌, ◌-ℤ◌, ◌*ℤ◌, nat_abs}
@@ -15,6 +17,8 @@ use mir.Val.{SFits}
 use Rattle.integers.proofs.Zed.{E, `◌, #◌, ◌⊕◌, ◌⊖◌, ◌⊗◌, P, N, ⟦◌⟧, eq?, up, down, sfits!, abs-ud, abs-le}
 use Rattle.e8.specs.Energy.{sq, energy, Within}
 use Rattle.e8.specs.Least.{lowered}
+use Rattle.e8.proofs.Within.{within-at}
+use Rattle.std.proofs.lemmas.List.{get_or_default}
 
 pub fits : (z : ℤ) → nat_abs z ≤ 2 ^ 30 → SFits w32 z
 fits z h = sfits! w32 (` z) (omega (arith, abs-ud z)) (omega (arith, abs-ud z))
@@ -34,6 +38,15 @@ sq-le m B h = mul-le-mul h h
 pub energy-drop : (xs : List ℤ) (i : ℕ) → i < length xs → energy (drop i xs) ≡ sq (get_or xs i (pos 0)) + energy (drop (i + 1) xs)
 unfolding energy
 energy-drop xs i h = rw (drop-cons xs i (pos 0) h, add-one)
+
+-- the energy as a sum
+pub energy-sum : (xs : List ℤ) → energy xs ≡ sum_by sq xs
+unfolding energy
+energy-sum = is_sum_by energy sq refl (λ _ _. refl)
+
+-- an item of a list, at its place
+pub within-item : (B : ℕ) (xs : List ℤ) (k : ℕ) (z : ℤ) → Within B xs → k < length xs → z ≡ get_or xs k z → nat_abs z ≤ B
+within-item B xs k z w h e = subst (λ y. nat_abs y ≤ B) (sym (e ∙ get_or_default xs k z (pos 0) h)) (within-at B xs k w)
 
 -- ---- a block with one number off each coordinate
 

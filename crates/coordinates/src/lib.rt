@@ -1,7 +1,7 @@
 // A block of eight coordinates, or a whole frame of them, as a part of what is lent: its energy, the larger of two, its range, loading, storing, remainders.
 #![tactic(auto)]
 
-ghost use Rattle.std.specs.Prelude.{◌≡◌, cond, max, ◌^◌, ◌≤◌, leb, pos, nat_abs, ◌-ℤ◌, length};
+ghost use Rattle.std.specs.Prelude.{◌≡◌, max, ◌^◌, ◌≤◌, pos, nat_abs, ◌-ℤ◌, length};
 ghost use Rattle.integers.specs.Integer.{mod_z};
 ghost use Rattle.e8.specs.Energy.{sq, energy, Within, is_within};
 
@@ -10,15 +10,16 @@ pub fn magnitude(z: i32) -> i32
     requires { nat_abs z ≤ 2 ^ 30 }
     ensures { result ≡ pos (nat_abs z) }
 {
-    if z < 0 { 0 - z } else { z }
+    z.abs()
 }
 
 // The square of a coordinate, which u64 has room for.
+#[tactic(auto, unfolding(e8::specs::Energy::sq))]
 fn wide_square(z: i32) -> u64
     requires { nat_abs z ≤ 2 ^ 24 }
     ensures { result ≡ sq z }
 {
-    let y = magnitude(z) as u64;
+    let y = u64::from(z.unsigned_abs());
     y * y
 }
 
@@ -27,14 +28,7 @@ pub fn energy(part: &[i32]) -> u64
     requires { (length part.now ≤ 1024) × Within (2 ^ 24) part.now }
     ensures { result ≡ energy part.now }
 {
-    let mut sum: u64 = 0;
-    let mut i: usize = 0;
-    while i < part.len() {
-        let z = part[i];
-        sum += wide_square(z);
-        i += 1;
-    }
-    sum
+    part.iter().map(|z| wide_square(*z)).sum()
 }
 
 // A block of the lent coordinates, as eight numbers by value.
@@ -42,26 +36,17 @@ pub fn load(part: &[i32]) -> [i32; 8]
     requires { length part.now ≡ 8 }
     ensures { result ≡ part.now }
 {
-    let mut r = [0i32; 8];
-    let mut j: usize = 0;
-    while j < 8 {
-        let z = part[j];
-        r[j] = z;
-        j += 1;
-    }
-    r
+    part.try_into().unwrap()
 }
 
-// Eight numbers written over a block of the lent coordinates.
+// Eight numbers written over a block of the lent coordinates. By index: `copy_from_slice` asks whether the two overlap, and for that the compiler keeps the
+// eight in memory.
 pub fn store(x: [i32; 8], part: &mut [i32])
     requires { length part.old ≡ 8 }
     ensures { part.new ≡ x }
 {
-    let mut p: usize = 0;
-    while p < 8 {
-        let z = x[p];
-        part[p] = z;
-        p += 1;
+    for i in 0..8 {
+        part[i] = x[i];
     }
 }
 
@@ -71,7 +56,7 @@ fn square(z: i32) -> u32
     requires { nat_abs z ≤ 2 ^ 10 }
     ensures { result ≡ sq z }
 {
-    let y = (z as i16) as i32;
+    let y = i32::from(z as i16);
     (y * y) as u32
 }
 
@@ -80,50 +65,27 @@ pub fn block_energy(part: &[i32]) -> u64
     requires { (length part.now ≡ 8) × Within (2 ^ 10) part.now }
     ensures { result ≡ energy part.now }
 {
-    let mut sum: u32 = 0;
-    let mut n: usize = 0;
-    while n < 8 {
-        let z = part[n];
-        sum += square(z);
-        n += 1;
-    }
-    sum as u64
+    let sum: u32 = part.iter().map(|z| square(*z)).sum();
+    u64::from(sum)
 }
 
 // The larger of two energies.
 pub fn larger(a: u64, b: u64) -> u64
     ensures { result ≡ max a b }
 {
-    if a < b { b } else { a }
+    a.max(b)
 }
 
 // ---- the range
-
-// 1 for a coordinate over the bound in size, 0 for any other.
-fn far(z: i32, bound: u32) -> u32
-    requires { bound ≤ 2 ^ 30 }
-    ensures { result ≡ cond (leb (nat_abs z) bound) 0 1 }
-{
-    let b = bound as i32;
-    if z < 0 - b {
-        return 1;
-    }
-    if b < z { 1 } else { 0 }
-}
 
 // Whether every coordinate is at most as large as the bound. No coordinate ends the loop, so that several are tested at once.
 pub fn within(part: &[i32], bound: u32) -> bool
     requires { bound ≤ 2 ^ 30 }
     ensures { result ≡ is_within bound part.now }
 {
-    let mut out: u32 = 0;
-    let mut q: usize = 0;
-    while q < part.len() {
-        let z = part[q];
-        out = out | far(z, bound);
-        q += 1;
-    }
-    out == 0
+    !part
+        .iter()
+        .fold(false, |far, z| far | (bound < z.unsigned_abs()))
 }
 
 // ---- remainders

@@ -13,7 +13,6 @@ use lib.IntN.{ℤ, pos, ◌+ℤ◌, ◌-ℤ◌, ◌*ℤ◌}
 use Rattle.integers.proofs.Zed.{`◌, #◌, ◌⊕◌, ◌⊖◌, eq!, eq?}
 use Rattle.e8.specs.Energy.{energy}
 use Rattle.e8.specs.Lattice.{InBlock, part, moved}
-use Rattle.e8.specs.Ties.{least_block_by}
 use Rattle.e8.proofs.Group.{moved_length}
 use Rattle.e8.proofs.Ties.{block_by-class}
 use Rattle.frames.specs.Kind.{is_kind, levels, blocks}

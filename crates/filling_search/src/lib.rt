@@ -24,12 +24,8 @@ fn shifted_block(off: bool, a: usize, grade: usize, free: usize, phi: u64, x: [i
 {
     let s = leader::unpacked_by(phi << (8 * grade - free), grade);
     let mut r = x;
-    let mut i: usize = 0;
-    while i < 8 {
-        let z = x[i];
-        let n = s[i];
-        r[i] = shifted(off, a, n, z);
-        i += 1;
+    for i in 0..8 {
+        r[i] = shifted(off, a, s[i], x[i]);
     }
     r
 }
@@ -39,14 +35,10 @@ fn lay(a: usize, grade: usize, free: usize, x: [i32; 8], out: &mut [i32])
     requires { (a ≤ 3) × (1 ≤ grade) × (grade ≤ 4) × (free ≤ 4) × Within (2 ^ 9) x × (length out.old ≡ 8 * 2 ^ free) }
     ensures { out.new ≡ filled_blocks a grade free x (2 ^ free) }
 {
-    let count = out.len() / 8;
-    let mut j: usize = 0;
-    while j < count {
+    for j in 0..out.len() / 8 {
         let s = 8 * j;
-        let e = s + 8;
         let y = shifted_block(false, a, grade, free, j as u64, x);
-        coordinates::store(y, &mut out[s..e]);
-        j += 1;
+        coordinates::store(y, &mut out[s..s + 8]);
     }
 }
 
@@ -55,19 +47,15 @@ fn first_least(blocks: &[i32]) -> usize
     requires { (length blocks.now % 8 ≡ 0) × (8 ≤ length blocks.now) × (length blocks.now ≤ 1024) × Within (2 ^ 10) blocks.now }
     ensures { result ≡ first_least (λ j. energyOf (part j blocks.now)) (length blocks.now / 8) }
 {
-    let count = blocks.len() / 8;
     let mut least = coordinates::block_energy(&blocks[0..8]);
     let mut best: usize = 0;
-    let mut j: usize = 1;
-    while j < count {
+    for j in 1..blocks.len() / 8 {
         let s = 8 * j;
-        let e = s + 8;
-        let energy = coordinates::block_energy(&blocks[s..e]);
+        let energy = coordinates::block_energy(&blocks[s..s + 8]);
         if energy < least {
             least = energy;
             best = j;
         }
-        j += 1;
     }
     best
 }
@@ -94,10 +82,11 @@ fn quietest(a: usize, grade: usize, free: usize, x: [i32; 8]) -> usize
     let n = 8usize << free;
     if free <= 2 {
         let mut few = [v; 32];
-        return quietest_by(a, grade, free, x, &mut few[0..n]);
+        quietest_by(a, grade, free, x, &mut few[..n])
+    } else {
+        let mut buffer = [v; 128];
+        quietest_by(a, grade, free, x, &mut buffer[..n])
     }
-    let mut buffer = [v; 128];
-    quietest_by(a, grade, free, x, &mut buffer[0..n])
 }
 
 // Whether a filling is the one that is taken, from any small block of its class.

@@ -31,7 +31,11 @@ use Rattle.frame_levels.specs.Words.{backward_words, broken_in}
 pub weight-bit-small : (i : ℕ) (z : ℤ) → weight_bit i z < 2
 weight-bit-small i z = rw (weight-bit i z) (mod_z-lt (shr_z z (2 ^ i)) 2 (omega arith))
 
--- level i backwards, from a number that holds it
+-- level i of a frame, backwards
+abbrev pub backward_word : ℕ → List ℤ → ℕ → ℕ
+backward_word k f i = number (2 ^ k) (backwards k (level_word i f))
+
+-- from a number that holds it
 pub word-backwards : (m n i : ℕ) (f : List ℤ) (word : ℕ) → n ≡ 2 ^ m → word ≡ number n (level_word i f)
     → number (2 ^ m) (backwards m (digit word)) ≡ number (2 ^ m) (backwards m (level_word i f))
 word-backwards m n i f word long is =

@@ -2,9 +2,6 @@
 // A further kind is a row more here and in the definition `kinds`, and more elsewhere: docs/CONTRIBUTING.md, "What a further kind needs".
 #![tactic(auto)]
 
-mod grades;
-mod kinds;
-
 ghost use Rattle.std.specs.Prelude.{◌≡◌, true, ◌<◌, ◌≤◌, ◌^◌, length, get_or};
 ghost use Rattle.frames.specs.Kind.{broken_numbers, broken_number, is_kind, is_grade, degrees, levels as levelsOf, level_bits, message_bits, message_bytes};
 ghost use Rattle.frames.specs.Message.{widths};
@@ -13,44 +10,42 @@ ghost use Rattle.frames.specs.Sending.{unless};
 ghost use Rattle.kind_table.specs.Table.{row_of};
 ghost use Rattle.refusals.specs.Number.{code, number_of};
 
-pub use grades::Grade;
-pub use kinds::Kind;
 use refusals::Refusal;
 
 // A row of the table: the number of levels, the degrees of their codes (0 where there is no level), and their message bits together.
 #[derive(Clone, Copy)]
-pub struct TableRow {
+pub struct Kind {
     pub levels: usize,
     pub degrees: [usize; 3],
     pub bits: usize,
 }
 
 // THE TABLE: the row of a kind; no level where there is no such kind.
-pub fn row(kind: u8) -> TableRow
+pub fn row(kind: u8) -> Kind
     ensures { result ≡ row_of kind }
 {
     match kind {
-        3 => TableRow {
+        3 => Kind {
             levels: 1,
             degrees: [1, 0, 0],
             bits: 4,
         },
-        4 => TableRow {
+        4 => Kind {
             levels: 2,
             degrees: [1, 3, 0],
             bits: 20,
         },
-        5 => TableRow {
+        5 => Kind {
             levels: 2,
             degrees: [1, 3, 0],
             bits: 32,
         },
-        6 => TableRow {
+        6 => Kind {
             levels: 3,
             degrees: [1, 3, 5],
             bits: 112,
         },
-        _ => TableRow {
+        _ => Kind {
             levels: 0,
             degrees: [0, 0, 0],
             bits: 0,

@@ -1,19 +1,20 @@
 -- Message bits laid at their masks, some at a time; all of them laid are the bits at the places of the masks. For every r ≤ m.
 -- Assumes nothing.
 use Prim.Native.Nat.{ℕ, suc, ◌+◌, ◌-◌, ◌*◌, ◌%◌, ◌^◌, ◌≤◌, ◌<◌}
-use mathlib.Core.Path.{◌≡◌, refl, sym, ap, ap₂, ◌∙◌, fun_ext}
+use mathlib.Core.Path.{◌≡◌, refl, sym, ap, ap₂, ◌∙◌}
 use mathlib.Core.List.{List}
-use native.Mathlib.Nat.{zero-add, div-one, mod-lt, mod-eq_of_lt}
+use native.Mathlib.Nat.{zero-mul, div-one, mod-lt, mod-eq_of_lt}
 use native.Mathlib.Decide.{dec_lt, ℕ_discrete}
 use native.Mathlib.Numerals.{add-one}
 use native.Mathlib.Omega.{arith}
 use lib.Dec.{eqb, lit<}
 use lib.Bits.{bit_xor, xor_lt}
 use lib.Pow.{pow_mono}
-use lib.ListN.{get_or}
+use lib.ListN.{get_or, take}
+use lib.Seq.{get_or-take}
 use borrow.Author.Tests.{eq-eqb, ne_eqb}
 use Rattle.bits.specs.Number.{given, sum_to, number}
-use Rattle.bits.proofs.Sum.{sum-split, sum-zero, sum-term, sum-at-most}
+use Rattle.bits.proofs.Sum.{sum-ext, sum-split, sum-zero, sum-term, sum-at-most}
 use Rattle.bits.proofs.Message.{number_lt, number-ext, number_of, number-shorter, digit-of}
 use Rattle.bits.proofs.Digits.{digit, digit-past, xor-digit, shift-digit, shift-low}
 use Rattle.reed_muller.specs.Level.{order, place, dimension}
@@ -114,37 +115,26 @@ module _ (m : ℕ) where
 
 -- ---- as the code lays them: eight at a time, from a table, in a number of 64 digits
 
--- a message of RM(r,m), and the number once the bits of the first n masks of the table are laid
-pub record Spread {m : ℕ} {os ps ds : List ℕ} (t : Right m os ps ds) (n : ℕ) : Type 0 where
-  pub bits : ℕ
-  pub r : ℕ
-  pub few : bits < 2 ^ dimension r m
-  pub word : ℕ
-  pub is : word ≡ number 64 (laid n (λ k. get_or os k 0) (digit bits))
+-- the bits of the first n masks of a table
+abbrev pub laid_bits : List ℕ → ℕ → ℕ → ℕ → ℕ
+laid_bits masks bits n = laid n (λ k. get_or masks k 0) (digit bits)
 
--- eight bits from bit n on, at their masks
-abbrev pub eight_from : List ℕ → ℕ → ℕ → ℕ
-eight_from os bits n = number 64 (laid 8 (λ k. get_or os (n + k) 0) (λ k. digit bits (n + k)))
+pub none_laid : (masks : List ℕ) (bits : ℕ) → number 64 (laid_bits masks bits 0) ≡ 0
+none_laid masks bits = sum-zero 64 _ (λ S _. ap (λ (x : ℕ). x * 2 ^ S) (laid_none (λ k. get_or masks k 0) (digit bits) S) ∙ zero-mul (2 ^ S))
 
-module _ {m : ℕ} {os ps ds : List ℕ} (t : Right m os ps ds) (bits : ℕ) where
-  pub eight-first : {y : ℕ} → y ≡ eight_from os bits 0 → y ≡ number 64 (laid 8 (λ k. get_or os k 0) (digit bits))
-  eight-first e =
-      e ∙ ap (λ (f : ℕ → ℕ). number 64 (laid 8 (λ k. get_or os (f k) 0) (λ k. digit bits (f k)))) (fun_ext zero-add)
+-- eight more
+pub eight_more : (masks : List ℕ) (bits n : ℕ) {w y : ℕ} → w ≡ number 64 (laid_bits masks bits n)
+    → y ≡ number 64 (laid 8 (λ k. get_or masks (n + k) 0) (λ k. digit bits (n + k))) → bit_xor w y ≡ number 64 (laid_bits masks bits (n + 8))
+eight_more masks bits n = laid-join 64 n 8 (λ k. get_or masks k 0) (digit bits)
 
-  abbrev pub spread-first : (r : ℕ) → bits < 2 ^ dimension r m → {y : ℕ} → y ≡ eight_from os bits 0 → Spread t 8
-  spread-first r few {y} e = record { bits = bits; r = r; few = few; word = y; is = eight-first e }
-
-module _ {m : ℕ} {os ps ds : List ℕ} {t : Right m os ps ds} {n : ℕ} (g : Spread t n) where
-  pub eight-next : {y : ℕ} → y ≡ eight_from os g.bits n → bit_xor g.word y ≡ number 64 (laid (n + 8) (λ k. get_or os k 0) (digit g.bits))
-  eight-next = laid-join 64 n 8 (λ k. get_or os k 0) (digit g.bits) g.is
-
-  abbrev pub spread-next : {y : ℕ} → y ≡ eight_from os g.bits n → Spread t (n + 8)
-  spread-next {y} e =
-      record { bits = g.bits; r = g.r; few = g.few; word = bit_xor g.word y; is = eight-next e }
-
-  -- the first n masks are enough for degrees up to j
-  pub spread-all : (j : ℕ) → j < suc m → get_or ds j 0 ≤ n → n ≤ 2 ^ m → g.r ≤ j → g.word ≡ number (2 ^ m) (λ S. digit g.bits (place (order m) S))
-  spread-all j inside enough room h =
-      let most : dimension g.r m ≤ n = omega (arith, dimension-mono g.r j m h, dimension-entry refl t j inside) in
-      g.is ∙ ap (λ (xs : List ℕ). number 64 (laid n (λ k. get_or xs k 0) (digit g.bits))) t.orders
-      ∙ laid-all m n g.bits 64 room (omega (arith, g.few, pow_mono most)) (short t.tabled)
+-- the first `len` masks are enough for degrees up to j
+module _ {m n : ℕ} (e : m ≡ n) {os ps ds : List ℕ} (t : Right n os ps ds) (len bits r j : ℕ) where
+  pub spread-all : bits < 2 ^ dimension r m → j < suc n → get_or ds j 0 ≤ len → len ≤ 2 ^ n → r ≤ j
+      → number 64 (laid_bits (take len os) bits len) ≡ number (2 ^ m) (λ S. digit bits (place (order m) S))
+  unfolding laid
+  spread-all few inside enough room h =
+      let most : dimension r n ≤ len = omega (arith, dimension-mono r j n h, dimension-entry refl t j inside) in
+      let less : bits < 2 ^ len = omega (arith, few, ap (λ (x : ℕ). 2 ^ dimension r x) e, pow_mono most) in
+      number-ext 64 (λ S _. ap (λ (x : ℕ). x % 2) (sum-ext len (λ k l. ap (λ (y : ℕ). given (eqb y S) (digit bits k)) (get_or-take len os k 0 l))))
+      ∙ ap (λ (xs : List ℕ). number 64 (laid_bits xs bits len)) t.orders ∙ laid-all n len bits 64 room less (short t.tabled)
+      ∙ ap (λ (x : ℕ). number (2 ^ x) (λ S. digit bits (place (order x) S))) (sym e)

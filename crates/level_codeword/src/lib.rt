@@ -9,7 +9,7 @@ ghost use Rattle.reed_muller.specs.Level.{order, place, dimension, codeword, Tab
 ghost use Rattle.level_tables.specs.Entries.{Below64};
 ghost use Rattle.level_codeword.specs.Laid.{laid};
 
-use level_tables::{ORDER_16, ORDER_32, ORDER_64, gather_eight};
+use level_tables::{ORDER_16, ORDER_32, ORDER_64, gather};
 use level_transform::transformed;
 
 // The place of each mask in the order.
@@ -33,105 +33,42 @@ fn spread_eight(bits: u64, masks: &[u8], from: usize) -> u64
     requires { (from + 8 ≤ 64) × (from + 8 ≤ length masks.now) × Below64 masks.now }
     ensures { result ≡ number 64 (laid 8 (λ k. get_or masks.now (from + k) 0) (λ k. bits / 2 ^ (from + k) % 2)) }
 {
-    let mut w: u64 = 0;
-    let mut k: usize = 0;
-    while k < 8 {
+    let mut w = 0;
+    for k in 0..8 {
         let j = from + k;
-        w = w ^ (((bits >> j) % 2) << masks[j]);
-        k += 1;
+        w ^= ((bits >> j) % 2) << masks[j];
     }
     w
 }
 
-// The bit of each mask of length 16, taken from its place in the order.
-fn placed_16(bits: u64) -> u64
-    ensures { result ≡ number (2 ^ 4) (λ S. bits / 2 ^ place (order 4) S % 2) }
+// The message bits, each at its mask, eight at a time: where `coefficients` names the table, the compiler unrolls both loops.
+fn spread(bits: u64, masks: &[u8]) -> u64
+    requires { (length masks.now % 8 ≡ 0) × (length masks.now ≤ 64) × Below64 masks.now }
+    ensures { result ≡ number 64 (laid (length masks.now) (λ k. get_or masks.now k 0) (λ k. bits / 2 ^ k % 2)) }
 {
-    gather_eight(bits, &PLACE_16, 0) + (gather_eight(bits, &PLACE_16, 8) << 8)
-}
-
-// The bit of each mask of length 32, taken from its place in the order.
-fn placed_32(bits: u64) -> u64
-    ensures { result ≡ number (2 ^ 5) (λ S. bits / 2 ^ place (order 5) S % 2) }
-{
-    gather_eight(bits, &PLACE_32, 0)
-        + (gather_eight(bits, &PLACE_32, 8) << 8)
-        + (gather_eight(bits, &PLACE_32, 16) << 16)
-        + (gather_eight(bits, &PLACE_32, 24) << 24)
-}
-
-// The bit of each mask of length 64, taken from its place in the order.
-fn placed_64(bits: u64) -> u64
-    ensures { result ≡ number (2 ^ 6) (λ S. bits / 2 ^ place (order 6) S % 2) }
-{
-    gather_eight(bits, &PLACE_64, 0)
-        + (gather_eight(bits, &PLACE_64, 8) << 8)
-        + (gather_eight(bits, &PLACE_64, 16) << 16)
-        + (gather_eight(bits, &PLACE_64, 24) << 24)
-        + (gather_eight(bits, &PLACE_64, 32) << 32)
-        + (gather_eight(bits, &PLACE_64, 40) << 40)
-        + (gather_eight(bits, &PLACE_64, 48) << 48)
-        + (gather_eight(bits, &PLACE_64, 56) << 56)
-}
-
-// The message bits of RM(r,4), each at its mask: laid at the first eight masks for r of at most 1, and taken from the places else.
-fn spread_16(bits: u64, r: usize) -> u64
-    requires { (r ≤ 4) × (bits < 2 ^ dimension r 4) }
-    ensures { result ≡ number (2 ^ 4) (λ S. bits / 2 ^ place (order 4) S % 2) }
-{
-    if r <= 1 {
-        return spread_eight(bits, &ORDER_16, 0);
+    let mut w = 0;
+    for j in 0..masks.len() / 8 {
+        w ^= spread_eight(bits, masks, 8 * j);
     }
-    placed_16(bits)
+    w
 }
 
-// The message bits of RM(r,5), each at its mask: laid at the first eight masks for r of at most 1, and taken from the places else.
-fn spread_32(bits: u64, r: usize) -> u64
-    requires { (r ≤ 5) × (bits < 2 ^ dimension r 5) }
-    ensures { result ≡ number (2 ^ 5) (λ S. bits / 2 ^ place (order 5) S % 2) }
-{
-    if r <= 1 {
-        return spread_eight(bits, &ORDER_32, 0);
-    }
-    placed_32(bits)
-}
-
-// The message bits of RM(r,6), each at its mask: laid at the first eight masks for r of at most 1, at the first 48 for r of at most 3,
-// and taken from the places else.
-fn spread_64(bits: u64, r: usize) -> u64
-    requires { (r ≤ 6) × (bits < 2 ^ dimension r 6) }
-    ensures { result ≡ number (2 ^ 6) (λ S. bits / 2 ^ place (order 6) S % 2) }
-{
-    let a = spread_eight(bits, &ORDER_64, 0);
-    if r <= 1 {
-        return a;
-    }
-    if r <= 3 {
-        return a
-            ^ spread_eight(bits, &ORDER_64, 8)
-            ^ spread_eight(bits, &ORDER_64, 16)
-            ^ spread_eight(bits, &ORDER_64, 24)
-            ^ spread_eight(bits, &ORDER_64, 32)
-            ^ spread_eight(bits, &ORDER_64, 40);
-    }
-    placed_64(bits)
-}
-
-// The message bits of RM(r,m), each at its mask.
+// The message bits of RM(r,m), each at its mask: where a part of the masks is enough they are laid at these, and else each is taken from its place
+// in the order.
 fn coefficients(bits: u64, m: usize, r: usize) -> u64
     requires { Tabled m × (r ≤ m) × (bits < 2 ^ dimension r m) }
     ensures { result ≡ number (2 ^ m) (λ S. bits / 2 ^ place (order m) S % 2) }
 {
-    if m == 3 {
-        return gather_eight(bits, &PLACE_8, 0);
+    match (m, r) {
+        (3, _) => gather(bits, &PLACE_8),
+        (4, ..=1) => spread(bits, &ORDER_16[..8]),
+        (4, _) => gather(bits, &PLACE_16),
+        (5, ..=1) => spread(bits, &ORDER_32[..8]),
+        (5, _) => gather(bits, &PLACE_32),
+        (_, ..=1) => spread(bits, &ORDER_64[..8]),
+        (_, ..=3) => spread(bits, &ORDER_64[..48]),
+        _ => gather(bits, &PLACE_64),
     }
-    if m == 4 {
-        return spread_16(bits, r);
-    }
-    if m == 5 {
-        return spread_32(bits, r);
-    }
-    spread_64(bits, r)
 }
 
 // The codeword of RM(r,m) of message bits.

@@ -1,6 +1,6 @@
 -- The constant tables of masks, places and dimensions, one record of computed tests for each length. Assumes nothing.
 use Prim.Native.Nat.{ℕ, zero, suc, ◌+◌, ◌/◌, ◌^◌, ◌≤◌, ◌<◌}
-use mathlib.Core.Path.{◌≡◌, refl, sym, ap, ◌∙◌, subst}
+use mathlib.Core.Path.{◌≡◌, refl, sym, ap, ◌∙◌}
 use mathlib.Core.List.{List, [], ◌∷◌}
 use native.Mathlib.Omega.{arith}
 use lib.Count.{ones}
@@ -54,23 +54,12 @@ pub right-64 :
 unfolding order masks of_weight ones place table dimension
 right-64 = record { tabled = (omega arith, omega arith); orders = refl; places = refl; dimensions = refl }
 
--- the tables by name
+-- the masks of a table by name
 module _ {m : ℕ} {os ps ds : List ℕ} (t : Right m os ps ds) where
   abbrev pub masks_of : List ℕ
   masks_of = os
 
-  abbrev pub places_of : List ℕ
-  places_of = ps
-
 -- ---- the lengths in use
-
--- an index of the tables
-pub inside : {m n k : ℕ} → m ≡ n → k < 2 ^ m → k < 2 ^ n
-inside {k = k} e h = subst (λ (x : ℕ). k < 2 ^ x) e h
-
--- the last length
-pub last : {m : ℕ} → Tabled m → (m ≡ 3 → ⊥) → (m ≡ 4 → ⊥) → (m ≡ 5 → ⊥) → m ≡ 6
-last h a b d = omega arith
 
 -- the words are short
 pub short : {m : ℕ} → Tabled m → 2 ^ m ≤ 64

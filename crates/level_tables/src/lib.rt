@@ -33,28 +33,17 @@ const DIMENSION_32: [usize; 6] = [1, 6, 16, 26, 31, 32];
 
 const DIMENSION_64: [usize; 7] = [1, 7, 22, 42, 57, 63, 64];
 
-// A byte as an index.
-fn wide(x: u8) -> usize
-    ensures { result ≡ x }
-{
-    x as usize
-}
-
 // The mask at place k of the order.
 pub fn mask_at(m: usize, k: usize) -> usize
     requires { Tabled m × (k < 2 ^ m) }
     ensures { result ≡ get_or (order m) k 0 }
 {
-    if m == 3 {
-        return wide(ORDER_8[k]);
+    match m {
+        3 => usize::from(ORDER_8[k]),
+        4 => usize::from(ORDER_16[k]),
+        5 => usize::from(ORDER_32[k]),
+        _ => usize::from(ORDER_64[k]),
     }
-    if m == 4 {
-        return wide(ORDER_16[k]);
-    }
-    if m == 5 {
-        return wide(ORDER_32[k]);
-    }
-    wide(ORDER_64[k])
 }
 
 // The dimension of RM(r,m): its number of message bits.
@@ -62,16 +51,12 @@ pub fn dimension_of(m: usize, r: usize) -> usize
     requires { Tabled m × (r ≤ m) }
     ensures { result ≡ dimension r m }
 {
-    if m == 3 {
-        return DIMENSION_8[r];
+    match m {
+        3 => DIMENSION_8[r],
+        4 => DIMENSION_16[r],
+        5 => DIMENSION_32[r],
+        _ => DIMENSION_64[r],
     }
-    if m == 4 {
-        return DIMENSION_16[r];
-    }
-    if m == 5 {
-        return DIMENSION_32[r];
-    }
-    DIMENSION_64[r]
 }
 
 // The number of positions.
@@ -88,15 +73,12 @@ pub fn value_at(message: &[u8], from: usize, m: usize, r: usize, p: usize) -> u8
     requires { Tabled m × (r ≤ m) × (from ≤ 1000) × (from + dimension r m ≤ 8 * length message.now) }
     ensures { result ≡ codeword r m (λ k. message_bit message.now (from + k)) p }
 {
-    let count = dimension_of(m, r);
-    let mut s: u8 = 0;
-    let mut k: usize = 0;
-    while k < count {
+    let mut s = 0;
+    for k in 0..dimension_of(m, r) {
         let mask = mask_at(m, k);
         if mask & p == mask {
             s = (s + bits::bit(message, from + k)) % 2;
         }
-        k += 1;
     }
     s
 }
@@ -106,12 +88,21 @@ pub fn gather_eight(bits: u64, table: &[u8], from: usize) -> u64
     requires { (from + 8 ≤ length table.now) × Below64 table.now }
     ensures { result ≡ number 8 (λ k. bits / 2 ^ get_or table.now (from + k) 0 % 2) }
 {
-    let mut b: u64 = 0;
-    let mut k: usize = 8;
-    while 0 < k {
-        k -= 1;
-        let j = from + k;
-        b = 2 * b + (bits >> table[j]) % 2;
+    table[from..from + 8]
+        .iter()
+        .rev()
+        .map(|entry| (bits >> *entry) % 2)
+        .fold(0, |b, bit| (b << 1) | bit)
+}
+
+// The bits at the entries of a table, of masks or of places, eight at a time: in a caller that names the table the compiler unrolls both loops.
+pub fn gather(bits: u64, table: &[u8]) -> u64
+    requires { (length table.now % 8 ≡ 0) × (length table.now ≤ 64) × Below64 table.now }
+    ensures { result ≡ number (length table.now) (λ k. bits / 2 ^ get_or table.now k 0 % 2) }
+{
+    let mut word = 0;
+    for j in 0..table.len() / 8 {
+        word |= gather_eight(bits, table, 8 * j) << (8 * j);
     }
-    b
+    word
 }

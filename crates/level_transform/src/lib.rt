@@ -38,24 +38,14 @@ pub fn low_bits(w: u64, n: usize) -> u64
     (w << s) >> s
 }
 
-// The positions with digit j set.
-fn with_digit(j: usize) -> u64
-    requires { j < 6 }
-    ensures { result ≡ number 64 (λ p. p / 2 ^ j % 2) }
-{
-    DIGIT[j]
-}
-
 // Backwards, all masks at once, of a word: stage j adds to each value with digit j set the one without it.
 pub fn transformed(w: u64, m: usize) -> u64
     requires { m ≤ 6 }
     ensures { result ≡ number (2 ^ m) (backwards m (λ p. w / 2 ^ p % 2)) }
 {
     let mut t = w;
-    let mut j: usize = 0;
-    while j < 6 {
-        t = t ^ ((t << (1usize << j)) & with_digit(j));
-        j += 1;
+    for (j, with_digit) in DIGIT.iter().enumerate() {
+        t ^= (t << (1usize << j)) & *with_digit;
     }
     low_bits(t, 1usize << m)
 }

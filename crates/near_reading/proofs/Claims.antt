@@ -22,7 +22,7 @@ use Rattle.frames.proofs.Demands.{sent-in-set, sent-length, sent-within}
 use Rattle.frames.proofs.Reading.{read-sent}
 use Rattle.free_bits.proofs.ReadBack.{none-fixed}
 use Rattle.samples.specs.Sample.{samples_in_256ths, samples_of}
-use Rattle.samples.proofs.Samples.{samples-length, samples-of-fit, samples-of-256}
+use Rattle.samples.proofs.Samples.{samples-of-fit, samples-of-256}
 use Rattle.near_frames.specs.Near.{frame_in_256ths, nearness, near_kind, IsNear, near_frame}
 use Rattle.near_frames.proofs.NearKinds.{near-is-kind}
 use Rattle.near_frames.proofs.Only.{near-only, half-distance}

@@ -1,5 +1,5 @@
 -- What is answered past the tests, by what the search tells: the near frame's message and distance; or too far. Assumes nothing.
-use Prim.Native.Nat.{ℕ, ◌*◌, ◌^◌, ◌≤◌, ◌<◌}
+use Prim.Native.Nat.{ℕ, ◌^◌, ◌≤◌, ◌<◌}
 use mathlib.Core.Path.{◌≡◌, refl, sym, ap, ◌∙◌}
 use mathlib.Core.Bool.{true, false}
 use mathlib.Core.List.{List, []}
@@ -18,14 +18,14 @@ use Rattle.frames.proofs.Refusals.{within-range}
 use Rattle.frames.proofs.Reading.{inside-taken}
 use Rattle.samples.specs.Sample.{samples_in_256ths}
 use Rattle.samples.proofs.Samples.{samples-length, samples-within}
-use Rattle.near_frames.specs.Near.{IsNear, some_near, near_frame, near_cost}
+use Rattle.near_frames.specs.Near.{IsNear, some_near, near_frame}
 use Rattle.near_frames.proofs.NearKinds.{near-is-kind}
 use Rattle.near_frames.proofs.Squares.{root-lt, le-abs}
 use Rattle.near_frames.proofs.Sum.{nearness-sum}
 use Rattle.near_frames.proofs.Frames.{limit-low, near-is, is-near}
-use Rattle.near_reading.specs.Answer.{near_number, near_figures, near_message}
+use Rattle.near_reading.specs.Answer.{near_number, near_message}
 use Rattle.near_reading.specs.Claims.{Readable}
-use Rattle.near_reading.proofs.Tests.{number_read, message-near, message-kept}
+use Rattle.near_reading.proofs.Tests.{number_read, message-near}
 
 -- a whole number less than 2 away from a sample of at most 128
 small-number : (z t : ℤ) → nat_abs t ≤ 32768 → sq (pos 256 *ℤ z -ℤ t) < 262144 → nat_abs z ≤ largest_read
@@ -67,22 +67,11 @@ module _ (k b : ℕ) (xs : List Float) (bytes : List ℕ) (r : Readable k b xs (
     pub number-16 : near_number k b xs (length bytes) ≡ 16
     number-16 = rw (number_read k b xs (length bytes) r, none)
 
-    pub far-figures : 16 * 4294967296 ≡ near_figures k b xs (length bytes)
-    unfolding near_figures
-    far-figures = rw number-16
-
-    pub far-message : bytes ≡ near_message k b xs bytes
-    far-message = sym (message-kept k b xs bytes (λ e. omega (arith, e, number-16)))
-
   -- ---- one is near
 
   module _ (near : some_near k t ≡ true) where
     pub number-0 : near_number k b xs (length bytes) ≡ 0
     number-0 = rw (number_read k b xs (length bytes) r, near)
-
-    pub near-figures : near_cost k t ≡ near_figures k b xs (length bytes)
-    unfolding near_figures
-    near-figures = rw number-0
 
     -- what the open reading of the near frame leaves, whatever coordinates were lent for it
     pub near-message : (lent f : List ℤ) (number : ℕ) → f ≡ near_frame k t lent → number ≡ open_refusal k b 0 f (length bytes)

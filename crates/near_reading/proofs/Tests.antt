@@ -1,6 +1,6 @@
 -- The tests of the near reading, one by one, the number that they give, and what is answered by the number. Assumes nothing.
-use Prim.Native.Nat.{ℕ, ◌*◌, ◌^◌, ◌≤◌, ◌<◌}
-use mathlib.Core.Path.{◌≡◌, refl, sym, ◌∙◌}
+use Prim.Native.Nat.{ℕ, ◌^◌, ◌≤◌, ◌<◌}
+use mathlib.Core.Path.{◌≡◌, refl, sym, ap, ◌∙◌}
 use mathlib.Core.Bool.{Bool, true, false, cond}
 use mathlib.Core.List.{List, []}
 use native.Mathlib.Omega.{arith}
@@ -8,40 +8,29 @@ use lib.Dec.{eqb}
 use lib.ListN.{length}
 use lib.Ieee.{Float}
 use borrow.Author.Tests.{eqb-true, eqb-false, eq-eqb, ne_eqb}
+use Rattle.refusals.specs.declared.Refusal.{Refusal}
+use Rattle.refusals.specs.declared.Refusal.TheVariants.{TooFar}
+use Rattle.refusals.specs.Number.{code}
 use Rattle.frames.specs.Kind.{is_grade, message_bytes}
 use Rattle.frames.specs.Sending.{unless}
 use Rattle.frames.specs.Reading.{fixed_message, message_after}
 use Rattle.frames.proofs.Refusals.{passed}
 use Rattle.samples.specs.Sample.{all_fit, samples_in_256ths}
 use Rattle.near_frames.specs.Near.{near_kind, some_near, near_frame, near_cost}
-use Rattle.near_reading.specs.declared.NearReading.TheVariants.{Near, Far, Refused}
-use Rattle.near_reading.specs.Answer.{near_refusal, near_number, zero64, in_parts, near_distance, near_figures, near_message, number_of, distance_of, near_answer}
+use Rattle.near_reading.specs.Answer.{near_refusal, near_number, zero64, in_parts, near_distance, near_parts, near_message}
+use Rattle.near_reading.specs.Answer.{Near, Far, Refused, number_of, distance_of, near_answer}
 use Rattle.near_reading.specs.Claims.{Readable}
+
+-- a refusal has another number than 0
+pub some : (r : Refusal) → code r ≡ 0 → ⊥
+some r e = grind arith
+
+-- 16 is the number of too far alone
+pub not-far : (r : Refusal) → (r ≡ TooFar → ⊥) → code r ≡ 16 → ⊥
+not-far r n e = grind (arith, n)
 
 module _ (k b : ℕ) (xs : List Float) (n : ℕ) where
   -- ---- the tests before the search
-
-  pub by-1 : near_kind k ≡ false → 1 ≡ near_refusal k b xs n
-  unfolding near_refusal
-  by-1 e = rw e
-
-  pub by_2 : near_kind k ≡ true → is_grade b ≡ false → 2 ≡ near_refusal k b xs n
-  unfolding near_refusal
-  by_2 e₁ e₂ = rw (e₁, e₂)
-
-  pub by_4 : near_kind k ≡ true → is_grade b ≡ true → (length xs ≡ 2 ^ k → ⊥) → 4 ≡ near_refusal k b xs n
-  unfolding near_refusal
-  by_4 e₁ e₂ e₄ = rw (e₁, e₂, ne_eqb (length xs) (2 ^ k) e₄)
-
-  pub by-3 : near_kind k ≡ true → is_grade b ≡ true → length xs ≡ 2 ^ k → (n ≡ message_bytes k b → ⊥) → 3 ≡ near_refusal k b xs n
-  unfolding near_refusal
-  by-3 e₁ e₂ e₄ e₃ = rw (e₁, e₂, eq-eqb (length xs) (2 ^ k) e₄, ne_eqb n (message_bytes k b) e₃)
-
-  -- past these the samples decide
-  pub by-samples : near_kind k ≡ true → is_grade b ≡ true → length xs ≡ 2 ^ k → n ≡ message_bytes k b → (t : Bool) → all_fit xs ≡ t
-      → unless t 15 0 ≡ near_refusal k b xs n
-  unfolding near_refusal
-  by-samples e₁ e₂ e₄ e₃ t e = rw (e₁, e₂, eq-eqb (length xs) (2 ^ k) e₄, eq-eqb n (message_bytes k b) e₃, e)
 
   -- what passes each test is what the near reading asks
   pub readable : near_refusal k b xs n ≡ 0 → Readable k b xs n
@@ -61,7 +50,8 @@ module _ (k b : ℕ) (xs : List Float) (n : ℕ) where
 
   -- and back
   pub unrefused : Readable k b xs n → near_refusal k b xs n ≡ 0
-  unrefused r = sym (by-samples r.kind r.grade r.samples r.bytes true r.fit)
+  unfolding near_refusal
+  unrefused r = rw (r.kind, r.grade, eq-eqb (length xs) (2 ^ k) r.samples, eq-eqb n (message_bytes k b) r.bytes, r.fit)
 
   -- none of them answers 16
   refusal-low : near_refusal k b xs n < 16
@@ -78,7 +68,7 @@ module _ (k b : ℕ) (xs : List Float) (n : ℕ) where
 
   -- ---- the number
 
-  number-refused : (near_refusal k b xs n ≡ 0 → ⊥) → near_number k b xs n ≡ near_refusal k b xs n
+  pub number-refused : (near_refusal k b xs n ≡ 0 → ⊥) → near_number k b xs n ≡ near_refusal k b xs n
   unfolding near_number
   number-refused h = rw (ne_eqb (near_refusal k b xs n) 0 h)
 
@@ -111,13 +101,21 @@ module _ (k b : ℕ) (xs : List Float) (n : ℕ) where
 
   -- ---- the answer by the number
 
+  pub parts-refused : (near_number k b xs n ≡ 0 → ⊥) → 0 ≡ near_parts k b xs n
+  unfolding near_parts
+  parts-refused h = rw (ne_eqb (near_number k b xs n) 0 h)
+
+  pub parts-near : near_number k b xs n ≡ 0 → near_parts k b xs n ≡ near_cost k (samples_in_256ths xs)
+  unfolding near_parts
+  parts-near e = rw e
+
+  pub distance-none : (near_number k b xs n ≡ 0 → ⊥) → near_distance k b xs n ≡ zero64
+  unfolding near_distance
+  distance-none h = rw (ne_eqb (near_number k b xs n) 0 h)
+
   pub answer-refused : (near_number k b xs n ≡ 0 → ⊥) → (near_number k b xs n ≡ 16 → ⊥) → Refused (near_number k b xs n) ≡ near_answer k b xs n
   unfolding near_answer
   answer-refused h g = rw (ne_eqb (near_number k b xs n) 0 h, ne_eqb (near_number k b xs n) 16 g)
-
-  pub refused-figures : (near_refusal k b xs n ≡ 0 → ⊥) → near_refusal k b xs n * 4294967296 ≡ near_figures k b xs n
-  unfolding near_figures
-  refused-figures h = rw (number-refused h, ne_eqb (near_refusal k b xs n) 0 h)
 
   pub answer-far : near_number k b xs n ≡ 16 → Far ≡ near_answer k b xs n
   unfolding near_answer
@@ -130,6 +128,10 @@ module _ (k b : ℕ) (xs : List Float) (n : ℕ) where
   pub distance-near : near_number k b xs n ≡ 0 → near_distance k b xs n ≡ in_parts (near_cost k (samples_in_256ths xs))
   unfolding near_distance
   distance-near e = rw e
+
+  -- the squared distance in parts tells it
+  pub distance-told : near_number k b xs n ≡ 0 → (parts : ℕ) → parts ≡ near_parts k b xs n → in_parts parts ≡ near_distance k b xs n
+  distance-told z parts e = ap in_parts (e ∙ parts-near z) ∙ sym (distance-near z)
 
   -- the paper's number of the answer
   pub case-number : number_of (near_answer k b xs n) ≡ near_number k b xs n

@@ -8,8 +8,9 @@ use Rattle.frames.specs.Sending.{unless}
 use Rattle.frames.specs.Reading.{message_after}
 use Rattle.samples.specs.Sample.{all_fit, samples_in_256ths}
 use Rattle.near_frames.specs.Near.{near_kind, some_near, near_frame, near_cost}
-use Rattle.near_reading.specs.declared.NearReading.{NearReading}
-use Rattle.near_reading.specs.declared.NearReading.TheVariants.{Near, Far, Refused}
+use Rattle.refusals.specs.Number.{code}
+use Rattle.near_reading.specs.declared.NearReading.{NearReading as Reading}
+use Rattle.near_reading.specs.declared.NearReading.TheVariants.{Near as near, Far as far, Refused as refused}
 
 -- the tests before the search: 1, where kind 6 is not one of the kinds, 2, 4, 3, then 15 over all samples; n message bytes are lent. 0 where each is passed
 unfoldable pub near_refusal : ℕ → ℕ → List Float → ℕ → ℕ
@@ -39,6 +40,11 @@ unfoldable pub near_distance : ℕ → ℕ → List Float → ℕ → Float
 unfolding near_number in_parts near_cost samples_in_256ths
 near_distance k b xs n = cond (eqb (near_number k b xs n) 0) (in_parts (near_cost k (samples_in_256ths xs))) zero64
 
+-- the same in parts of 1 / 65,536, a whole number; 0 where the number is another than 0
+unfoldable pub near_parts : ℕ → ℕ → List Float → ℕ → ℕ
+unfolding near_number near_cost samples_in_256ths
+near_parts k b xs n = cond (eqb (near_number k b xs n) 0) (near_cost k (samples_in_256ths xs)) 0
+
 -- number and distance in one number: of a refusal its number times 4,294,967,296, and else the squared distance in parts of 1 / 65,536, which is less
 -- (law Figures)
 unfoldable pub near_figures : ℕ → ℕ → List Float → ℕ → ℕ
@@ -49,6 +55,12 @@ near_figures k b xs n = cond (eqb (near_number k b xs n) 0) (near_cost k (sample
 unfoldable pub near_message : ℕ → ℕ → List Float → List ℕ → List ℕ
 unfolding near_number near_frame samples_in_256ths message_after
 near_message k b xs bytes = message_after (near_number k b xs (length bytes)) k b 0 (near_frame k (samples_in_256ths xs) []) bytes
+
+-- an answer: the squared distance, too far, or the number of the first test that is not passed
+pub data NearReading : Type 0 where
+  Near : Float → NearReading
+  Far : NearReading
+  Refused : ℕ → NearReading
 
 -- the paper's number for each case: 0, 16, or that of the test; and the squared distance, 0.0 where there is none
 abbrev pub number_of : NearReading → ℕ
@@ -69,3 +81,9 @@ case_of number d = cond (eqb number 0) (Near d) (cond (eqb number 16) Far (Refus
 unfoldable pub near_answer : ℕ → ℕ → List Float → ℕ → NearReading
 unfolding near_number near_distance
 near_answer k b xs n = case_of (near_number k b xs n) (near_distance k b xs n)
+
+-- what the code answers, with the number of the refusal
+abbrev pub reading_of : Reading → NearReading
+reading_of (near d) = Near d
+reading_of far = Far
+reading_of (refused r) = Refused (code r)

@@ -6,50 +6,56 @@ ghost use Rattle.std.specs.Float.Ieee.Exact.{HasValue};
 ghost use Rattle.frames.specs.Kind.{is_grade, message_bytes};
 ghost use Rattle.samples.specs.Sample.{all_fit, samples_in_256ths};
 ghost use Rattle.near_frames.specs.Near.{near_kind, near_frame};
-ghost use Rattle.near_reading.specs.Answer.{near_refusal, in_parts, near_number, near_distance, near_figures, near_message, near_answer, number_of, distance_of};
+ghost use Rattle.near_reading.specs.Answer.{near_refusal, in_parts, near_number, near_distance, near_parts, near_message, near_answer};
+ghost use Rattle.near_reading.specs.Answer.{reading_of, number_of as case_number, distance_of};
+ghost use Rattle.refusals.specs.Number.{number_of, figure_of};
 
-// What the near reading answers: the squared distance, too far, or the number of the first test that is not passed.
+use refusals::Refusal;
+
+// What the near reading answers: the squared distance, too far, or the first test that is not passed.
 #[derive(Clone, Copy)]
 pub enum NearReading {
     Near(f64),
     Far,
-    Refused(u8),
+    Refused(Refusal),
 }
-
-// From here on the figures of a near reading are a refusal: 2^32.
-pub const REFUSED: u64 = 4294967296;
 
 // A squared distance in parts of 1 / 65,536 as f64: exact.
 fn distance_of(cost: u32) -> f64
     ensures { (result ≡ in_parts cost) × HasValue result false cost 65536 }
 {
-    let d = cost as f64;
-    d / 65536.0
+    f64::from(cost) / 65536.0
 }
 
-// The tests before the search, in the order 1, 2, 4, 3, 15; n message bytes are lent. 0 where each is passed.
-fn refusal(kind: u8, grade: u8, samples: &[f32], n: usize) -> u8
-    ensures { result ≡ near_refusal kind grade samples.now n }
+// Whether there is a near reading of a kind.
+#[tactic(auto, unfolding(near_frames::specs::Near::near_kind))]
+fn is_near_kind(kind: u8) -> bool
+    ensures { result ≡ near_kind kind }
 {
-    if kind < 3 {
-        return 1;
-    }
-    if 5 < kind {
-        return 1;
+    matches!(kind, 3..=5)
+}
+
+// The tests before the search, in the order 1, 2, 4, 3, 15; n message bytes are lent.
+#[tactic(auto, unfolding(crate::specs::Answer::near_refusal))]
+fn test(kind: u8, grade: u8, samples: &[f32], n: usize) -> Result<(), Refusal>
+    ensures { number_of result ≡ near_refusal kind grade samples.now n }
+{
+    if !is_near_kind(kind) {
+        return Err(Refusal::Kind);
     }
     if !kind_table::is_grade(grade) {
-        return 2;
+        return Err(Refusal::Grade);
     }
     if samples.len() != kind_table::positions(kind) {
-        return 4;
+        return Err(Refusal::FrameLength);
     }
     if n != kind_table::message_bytes(kind, grade as usize) {
-        return 3;
+        return Err(Refusal::MessageLength);
     }
     if !samples::all_fit(samples) {
-        return 15;
+        return Err(Refusal::UnfitSample);
     }
-    0
+    Ok(())
 }
 
 // The reading past the tests; `whole` is for the samples in 256ths, `frame` for the near frame.
@@ -60,33 +66,30 @@ fn read_fit(
     whole: &mut [i32],
     frame: &mut [i32],
     message: &mut [u8],
-) -> u64
+) -> Result<u32, Refusal>
     requires { (near_kind kind ≡ true) × (is_grade grade ≡ true) × (length samples.now ≡ 2 ^ kind) × (all_fit samples.now ≡ true)
         × (length whole.old ≡ 2 ^ kind) × (length frame.old ≡ 2 ^ kind) × (length message.old ≡ message_bytes kind grade) }
-    ensures figures { result ≡ near_figures kind grade samples.now (length message.old) }
+    ensures number { number_of result ≡ near_number kind grade samples.now (length message.old) }
+    ensures cost { figure_of result ≡ near_parts kind grade samples.now (length message.old) }
     ensures message { message.new ≡ near_message kind grade samples.now message.old }
     ensures whole { whole.new ≡ samples_in_256ths samples.now }
     ensures frame { frame.new ≡ near_frame kind (samples_in_256ths samples.now) frame.old }
 {
     samples::all_256ths(samples, whole);
-    let place = search::locate(kind, whole, frame);
-    if !place.found {
-        return 16 * REFUSED;
-    }
-    reading::read_open(kind, grade, 0, frame, message);
-    place.cost as u64
+    let Some(cost) = search::locate(kind, whole, frame) else {
+        return Err(Refusal::TooFar);
+    };
+    let _ = reading::read_open(kind, grade, 0, frame, message);
+    Ok(cost)
 }
 
-// The near reading in one number, which comes back in a register: a refusal's number times REFUSED, too far among them, or the squared distance in parts
-// of 1 / 65,536, which is less. A refusal, and too far, write nothing.
-pub fn read_figures(kind: u8, grade: u8, samples: &[f32], message: &mut [u8]) -> u64
-    ensures figures { result ≡ near_figures kind grade samples.now (length message.old) }
+// The near reading, with the squared distance in parts of 1 / 65,536. A refusal, too far among them, writes nothing.
+pub fn read_cost(kind: u8, grade: u8, samples: &[f32], message: &mut [u8]) -> Result<u32, Refusal>
+    ensures number { number_of result ≡ near_number kind grade samples.now (length message.old) }
+    ensures cost { figure_of result ≡ near_parts kind grade samples.now (length message.old) }
     ensures message { message.new ≡ near_message kind grade samples.now message.old }
 {
-    let number = refusal(kind, grade, samples, message.len());
-    if number != 0 {
-        return number as u64 * REFUSED;
-    }
+    test(kind, grade, samples, message.len())?;
     let n = samples.len();
     let mut whole = [0i32; 32];
     let mut frame = [0i32; 32];
@@ -94,27 +97,24 @@ pub fn read_figures(kind: u8, grade: u8, samples: &[f32], message: &mut [u8]) ->
         kind,
         grade,
         samples,
-        &mut whole[0..n],
-        &mut frame[0..n],
+        &mut whole[..n],
+        &mut frame[..n],
         message,
     )
 }
 
 // The near reading. A refusal, and too far, write nothing.
 pub fn read_near(kind: u8, grade: u8, samples: &[f32], message: &mut [u8]) -> NearReading
-    ensures answer { result ≡ near_answer kind grade samples.now (length message.old) }
-    ensures number { number_of result ≡ near_number kind grade samples.now (length message.old) }
-    ensures distance { distance_of result ≡ near_distance kind grade samples.now (length message.old) }
+    ensures answer { reading_of result ≡ near_answer kind grade samples.now (length message.old) }
+    ensures number { case_number (reading_of result) ≡ near_number kind grade samples.now (length message.old) }
+    ensures distance { distance_of (reading_of result) ≡ near_distance kind grade samples.now (length message.old) }
     ensures message { message.new ≡ near_message kind grade samples.now message.old }
 {
-    let figures = read_figures(kind, grade, samples, message);
-    if figures < REFUSED {
-        let d = distance_of(figures as u32);
-        return NearReading::Near(d);
+    match read_cost(kind, grade, samples, message) {
+        Ok(cost) => NearReading::Near(distance_of(cost)),
+        Err(refusal) => match refusal {
+            Refusal::TooFar => NearReading::Far,
+            _ => NearReading::Refused(refusal),
+        },
     }
-    let number = (figures / REFUSED) as u8;
-    if number == 16 {
-        return NearReading::Far;
-    }
-    NearReading::Refused(number)
 }

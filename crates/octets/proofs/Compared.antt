@@ -1,34 +1,23 @@
 -- Rows compared element by element, from the first on: they agree so far, and all through where no difference was met. Assumes nothing.
-use Prim.Native.Nat.{ℕ, ◌+◌, ◌≤◌, ◌<◌}
-use mathlib.Core.Path.{◌≡◌, refl, sym, ap, ap₂, ◌∙◌}
-use mathlib.Core.Bool.{Bool, true, false, ◌&&◌, true≢false}
-use mathlib.Core.List.{List, [], ◌∷◌, ◌++◌}
-use native.Mathlib.Numerals.{add-one}
-use lib.Dec.{eqb}
-use lib.ListN.{length, get_or, take}
-use lib.Seq.{take-suc, take_all}
-use borrow.Author.Tests.{eqb-true, eq-eqb}
+use Rattle.std.proofs.Common.{◌≡◌, ℕ, ◌+◌, ◌≤◌, ◌<◌, nat_eq, Bool, true, false, List, [], ◌∷◌, ◌++◌, length, get_or, take, refl, sym, ap, ap₂, ◌∙◌, add-one}
+use Rattle.std.specs.Cmp.Lexicographic.{pointwise}
+use Rattle.std.proofs.lemmas.Slice.Eq.{bytes_eq-Decides}
+use Rattle.std.proofs.Math.Seq.{take-suc, take_all}
 use Rattle.octets.specs.Same.{same_bytes, SameExactly}
 
--- SAME BYTES: the test holds exactly of a row and itself
-pub bytes_same : (x : List ℕ) → same_bytes x x ≡ true
+-- SAME BYTES: the test is that of the library, which holds exactly of a row and itself
+pub pointwise-same : (x y : List ℕ) → pointwise nat_eq x y ≡ same_bytes x y
 unfolding same_bytes
-bytes_same [] = refl
-bytes_same (a ∷ x) = rw (eq-eqb a a refl) (bytes_same x)
-
-same_bytes_lem : (x y : List ℕ) → same_bytes x y ≡ true → x ≡ y
-unfolding same_bytes
-same_bytes_lem [] [] e = refl
-same_bytes_lem [] (b ∷ y) e = absurd (true≢false (sym e))
-same_bytes_lem (a ∷ x) [] e = absurd (true≢false (sym e))
-same_bytes_lem (a ∷ x) (b ∷ y) e = let t = both (eqb a b) (same_bytes x y) e in ap₂ ◌∷◌ (eqb-true a b t.0) (same_bytes_lem x y t.1)
-  where
-    both : (s t : Bool) → (s && t) ≡ true → (s ≡ true) × (t ≡ true)
-    both true t e = (refl, e)
-    both false t e = absurd (true≢false (sym e))
+pointwise-same [] [] = refl
+pointwise-same [] (b ∷ y) = refl
+pointwise-same (a ∷ x) [] = refl
+pointwise-same (a ∷ x) (b ∷ y) = rw (pointwise-same x y)
 
 pub same-exactly : (x y : List ℕ) → SameExactly x y
-same-exactly x y = record { same = λ e. ap (same_bytes x) (sym e) ∙ bytes_same x; same-only = same_bytes_lem x y }
+same-exactly x y =
+    let d = bytes_eq-Decides x y in
+    let e = pointwise-same x y in
+    record { same = λ h. sym e ∙ d.1 h; same-only = λ h. d.0 (e ∙ h) }
 
 -- ---- rows that agree in their first p elements
 
@@ -54,6 +43,3 @@ no_truth false n = refl
 
 pub bytes-equal : {x y : List ℕ} → x ≡ y → true ≡ same_bytes x y
 bytes-equal {x} {y} e = sym ((same-exactly x y).same e)
-
-pub bytes-differ : {x y : List ℕ} → (x ≡ y → ⊥) → false ≡ same_bytes x y
-bytes-differ {x} {y} n = sym (no_truth (same_bytes x y) (λ e. n ((same-exactly x y).same-only e)))

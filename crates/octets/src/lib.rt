@@ -8,15 +8,5 @@ ghost use Rattle.octets.specs.Same.{same_bytes};
 pub fn same_bytes(x: &[u8], y: &[u8]) -> bool
     ensures { result ≡ same_bytes x.now y.now }
 {
-    if x.len() != y.len() {
-        return false;
-    }
-    let mut i: usize = 0;
-    while i < y.len() {
-        if x[i] != y[i] {
-            return false;
-        }
-        i += 1;
-    }
-    true
+    x == y
 }

@@ -1,8 +1,8 @@
 -- Opening an account (request E5): "An account is opened with a changeover count from 0 to 1,000,000". Assumes nothing.
-use Rattle.std.specs.Prelude.{ℕ, cond, leb, Result, Ok, Err}
-use Rattle.refusals.specs.declared.Refusal.{Refusal}
-use Rattle.refusals.specs.Number.{code}
+use Rattle.std.specs.Prelude.{ℕ, cond, leb}
+use Rattle.refusals.specs.Number.{number_of}
 use Rattle.power_account.specs.declared.Account.{Account}
+use Rattle.power_account.specs.declared.Opened.{Opened as Answered}
 use Rattle.power_account.specs.Power.{begun}
 
 -- "14: changeover, a count above 1,000,000, on opening only"; 0 is success
@@ -14,10 +14,9 @@ pub record Opened : Type 0 where
   pub number : ℕ
   pub account : Account
 
--- an answer read so: a refusal hands out an account with zero in every figure
-abbrev pub opened : Result Account Refusal → Opened
-opened (Ok a) = record { number = 0; account = a }
-opened (Err r) = record { number = code r; account = begun 0 }
+-- an answer read so
+abbrev pub opened : Answered → Opened
+opened o = record { number = number_of o.answer; account = o.account }
 
 -- for a changeover: the number, and an account at its beginning with the changeover; where it is refused, "the account then handed out has zero in
 -- every figure, its changeover included"

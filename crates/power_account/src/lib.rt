@@ -42,15 +42,28 @@ fn begin(changeover: u32) -> Account
     }
 }
 
-// Opens an account with a changeover, which is refused above 1,000,000.
+// What opening answers: whether the changeover is refused, and the account that is handed out in each case.
+#[derive(Clone, Copy)]
+pub struct Opened {
+    pub answer: Result<(), Refusal>,
+    pub account: Account,
+}
+
+// Opens an account with a changeover. Above 1,000,000 it is refused, and the account has zero in every figure.
 #[tactic(auto, unfolding(crate::specs::Opening::opened_with, crate::specs::Opening::opening_refusal))]
-pub fn open(changeover: u32) -> Result<Account, Refusal>
+pub fn open(changeover: u32) -> Opened
     ensures { opened result ≡ opened_with changeover }
 {
     if 1000000 < changeover {
-        return Err(Refusal::Changeover);
+        return Opened {
+            answer: Err(Refusal::Changeover),
+            account: begin(0),
+        };
     }
-    Ok(begin(changeover))
+    Opened {
+        answer: Ok(()),
+        account: begin(changeover),
+    }
 }
 
 // The number of the next frame: the count before it is sent, and below the changeover 0.

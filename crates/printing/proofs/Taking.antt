@@ -1,8 +1,8 @@
 -- What was handed to the writes, from place to place: the lines taken are those of the listing, one after the other. Assumes nothing.
-use Prim.Native.Nat.{ℕ, suc, ◌+◌, ◌*◌, ◌^◌, ◌≤◌, ◌<◌}
+use Prim.Native.Nat.{ℕ, suc, ◌+◌, ◌≤◌, ◌<◌}
 use mathlib.Core.Path.{◌≡◌, refl, sym, ap, ap₂, subst, subst⁻¹, ◌∙◌}
 use mathlib.Core.Bool.{Bool, true, false, ◌&&◌}
-use mathlib.Core.List.{List, [], ◌∷◌, ◌++◌}
+use mathlib.Core.List.{List, [], ◌∷◌}
 use native.Mathlib.Nat.{zero-add}
 use native.Mathlib.Numerals.{add-one}
 use native.Mathlib.Omega.{arith}
@@ -12,7 +12,7 @@ use lib.Dec.{T, ltb}
 use lib.ListN.{length, length-append}
 use Rattle.text.specs.Text.{Put}
 use Rattle.listing.specs.Listing.{listing_of}
-use Rattle.listing.specs.Places.{beginning, start_of, line_on, next_on, place_after, listed_to, line_into, next_into, beginning_into, start_into}
+use Rattle.listing.specs.Places.{beginning, line_on, next_on, place_after, listed_to, line_into, next_into, beginning_into, start_into}
 use Rattle.listing.specs.declared.Place.{Place}
 use Rattle.listing.proofs.Lines.{Inside, not-long, numbered-on, further, listed}
 use Rattle.listing.proofs.Room.{a-record, a-beginning}

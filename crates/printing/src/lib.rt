@@ -5,7 +5,7 @@ ghost use Rattle.std.specs.Prelude.{◌≡◌, true, ◌+◌, ◌^◌, ◌<◌, 
 ghost use Rattle.listing.specs.Listing.{listing_of};
 ghost use Rattle.listing.specs.Places.{place_after, listed_to};
 ghost use Rattle.printing.specs.Printing.{one_more, goes_on, nothing, PrintedBy, ListedBy};
-ghost use Rattle.printing.specs.Closing.{Status, closed as isClosed, ClosedBy};
+ghost use Rattle.printing.specs.Closing.{answer_of, closed as isClosed, ClosedBy};
 
 use listing::Place;
 use sheet_input::Input;
@@ -66,11 +66,7 @@ fn one_more(printed: Printed, bytes: usize, next: Place, whole: bool) -> Printed
 fn goes_on(printed: Printed, bytes: usize) -> bool
     ensures { result ≡ goes_on printed bytes }
 {
-    let place = printed.place;
-    if !printed.whole {
-        return false;
-    }
-    place.at < bytes
+    printed.whole && printed.place.at < bytes
 }
 
 // Writes the listing of the sheet, from place to place, until it ends or a write fails.
@@ -144,38 +140,30 @@ pub fn list<R: Read>(from: &mut R, to: i32) -> Listed
     Listed { input, printed }
 }
 
-// Whether the answer of a close says that the file was closed.
-fn closed(answer: i32) -> bool
-    ensures { result ≡ isClosed answer }
+// That some of what was written could not be kept.
+#[derive(Clone, Copy, Debug, PartialEq, Eq)]
+struct Unwritten;
+
+// Whether the answer says that the file was closed.
+fn closed(answer: Result<(), Unwritten>) -> bool
+    ensures { result ≡ isClosed (answer_of answer) }
 {
-    0 <= answer
+    answer.is_ok()
 }
 
-// What a file answers when all that was written to it has to be kept: 0, also where it keeps nothing, as a pipe or a terminal, or where its
-// name opens nothing; and -1 where some of it could not be written.
-fn settle<F: Files>(rt: &F, to: &str) -> i32
-    ensures { Status result }
-{
+// Settles a file, all that was written to which has to be kept. One that keeps nothing, as a pipe or a terminal, and a name that opens nothing
+// have nothing to keep.
+fn settle<F: Files>(rt: &F, to: &str) -> Result<(), Unwritten> {
     match fs::metadata(rt, to) {
-        Ok(m) => {
-            if !m.is_file() {
-                return 0;
-            }
-        }
-        Err(_) => return 0,
+        Ok(m) if m.is_file() => (),
+        _ => return Ok(()),
     }
-    match File::options().append(true).open(rt, to) {
-        Ok(file) => match file.sync_all() {
-            Ok(()) => 0,
-            Err(e) => {
-                if e.kind() == ErrorKind::InvalidInput {
-                    0
-                } else {
-                    -1
-                }
-            }
-        },
-        Err(_) => 0,
+    let Ok(file) = File::options().append(true).open(rt, to) else {
+        return Ok(());
+    };
+    match file.sync_all() {
+        Err(e) if e.kind() != ErrorKind::InvalidInput => Err(Unwritten),
+        _ => Ok(()),
     }
 }
 

@@ -1,14 +1,14 @@
 -- Request E4: a queue of messages of one kind and grade, end to end, sent in turn with an account. What sending one answers and leaves are
 -- the definitions of account and frames that sending with an account cites. Assumes nothing.
-use Rattle.std.specs.Prelude.{ℕ, zero, suc, ◌+◌, ◌*◌, ◌/◌, ◌%◌, ◌^◌, ◌<◌, cond, List, [], ◌∷◌, ◌++◌, Result, Ok, Err, eqb, ℤ, length, take, drop}
+use Rattle.std.specs.Prelude.{ℕ, zero, suc, ◌+◌, ◌*◌, ◌/◌, ◌%◌, ◌^◌, ◌<◌, cond, List, [], ◌∷◌, ◌++◌, eqb, ℤ, length, take, drop}
 use Rattle.e8.specs.Energy.{energy}
 use Rattle.frames.specs.Kind.{is_kind, is_grade, message_bytes}
 use Rattle.frames.specs.Sending.{unless, frame_after, LeastEnergy}
-use Rattle.refusals.specs.Number.{code}
+use Rattle.refusals.specs.Number.{number_of}
 use Rattle.power_account.specs.declared.Account.{Account}
 use Rattle.power_account.specs.Counted.{number_for}
 use Rattle.power_account.specs.History.{Call, answer, after}
-use Rattle.queue_turns.specs.declared.Stopped.{Stopped}
+use Rattle.queue_turns.specs.declared.Queued.{Queued as Answered}
 
 -- the tests before anything is sent, for so many message bytes and n coordinates: 1, 2, then 3 where the bytes are not a whole number of
 -- messages, and 4 where n is not a frame's length times their number. 0 where all are passed
@@ -40,10 +40,9 @@ pub record Queued : Type 0 where
   pub sent : ℕ
   pub account : Account
 
--- an answer with the account that it leaves, read so
-abbrev pub queued : Result ℕ Stopped → Account → Queued
-queued (Ok n) a = record { number = 0; sent = n; account = a }
-queued (Err s) a = record { number = code s.refusal; sent = s.sent; account = a }
+-- an answer read so
+abbrev pub queued : Answered → Queued
+queued q = record { number = number_of q.answer; sent = q.sent; account = q.account }
 
 -- a message was sent before those of q
 abbrev pub one_more : Queued → Queued

@@ -2,11 +2,13 @@
 // first that is refused. Definitions and laws only.
 #![tactic(auto)]
 
+use power_account::Account;
 use refusals::Refusal;
 
-// Where a queue stops: the refusal of the message there, or of the queue itself, and the number of messages sent before it.
-#[derive(Clone, Copy, Debug, PartialEq, Eq)]
-pub struct Stopped {
-    pub refusal: Refusal,
+// What sending a queue answers: the refusal of the message where it stops, or of the queue itself, the number of messages sent, and the account.
+#[derive(Clone, Copy)]
+pub struct Queued {
+    pub answer: Result<(), Refusal>,
     pub sent: usize,
+    pub account: Account,
 }

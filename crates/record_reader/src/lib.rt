@@ -1,60 +1,59 @@
 // The reader of records (request E11): the record at a place of a buffer, its frame tested strictly under the record's number.
 #![tactic(auto)]
 
-ghost use Rattle.std.specs.Prelude.{◌≡◌, true, ◌+◌, ◌*◌, ◌^◌, ◌≤◌, length, drop};
-ghost use Rattle.frames.specs.Kind.{is_kind};
+ghost use Rattle.std.specs.Prelude.{◌≡◌, true, OnOk, ◌+◌, ◌*◌, ◌^◌, ◌≤◌, length, drop};
+ghost use Rattle.frames.specs.Kind.{is_kind, is_grade};
 ghost use Rattle.frames.specs.Reading.{strict_refusal, message_after, energy_read};
 ghost use Rattle.four_bytes.specs.FourBytes.{coordinates_from};
-ghost use Rattle.records.specs.Record.{marked as isMarked};
-ghost use Rattle.records.specs.Reading.{head_refusal, refused_by, read_answer, frame_read};
+ghost use Rattle.refusals.specs.Number.{number_of, figure_of};
+ghost use Rattle.records.specs.Record.{marked as isMarked, kind_at, grade_at, end_at};
+ghost use Rattle.records.specs.Reading.{head_refusal, record_read, read_answer, frame_read};
 
 use four_bytes::{four_at, has_room, take_coordinates};
-use reading::{Reading, read_whole};
-use records::RecordRead;
+use reading::read_whole;
+use records::Record;
+use refusals::Refusal;
 
 // Whether the mark stands at place p.
+#[tactic(auto, unfolding(records::specs::Record::marked))]
 fn marked(s: &[u8], p: usize) -> bool
     ensures { result ≡ isMarked s.now p }
 {
-    if !has_room(s.len(), p, 2) {
-        return false;
-    }
-    if s[p] != 0x4C {
-        return false;
-    }
-    s[p + 1] == 0x46
+    has_room(s.len(), p, 2) && s[p] == 0x4C && s[p + 1] == 0x46
 }
 
 // The tests before those of the frame; n coordinates are lent.
-fn head(s: &[u8], p: usize, n: usize) -> u8
-    ensures { result ≡ head_refusal s.now p n }
+#[tactic(auto, using(crate::proofs::Steps::steps), unfolding(records::specs::Reading::head_refusal))]
+fn test_head(s: &[u8], p: usize, n: usize) -> Result<(), Refusal>
+    ensures number { number_of result ≡ head_refusal s.now p n }
+    ensures whole { OnOk result ((is_kind (kind_at s.now p) ≡ true) × (is_grade (grade_at s.now p) ≡ true) × (n ≡ 2 ^ kind_at s.now p)
+        × (end_at s.now p ≤ length s.now)) }
 {
     let room = s.len();
     if !marked(s, p) {
-        return 10;
+        return Err(Refusal::Mark);
     }
     if !has_room(room, p, 3) {
-        return 19;
+        return Err(Refusal::RecordEnd);
     }
     let kind = s[p + 2];
     if !kind_table::is_kind(kind) {
-        return 1;
+        return Err(Refusal::Kind);
     }
     if !has_room(room, p, 4) {
-        return 19;
+        return Err(Refusal::RecordEnd);
     }
-    let grade = s[p + 3];
-    if !kind_table::is_grade(grade) {
-        return 2;
+    if !kind_table::is_grade(s[p + 3]) {
+        return Err(Refusal::Grade);
     }
     let m = kind_table::positions(kind);
     if n != m {
-        return 4;
+        return Err(Refusal::FrameLength);
     }
     if !has_room(room, p, 8 + 4 * m) {
-        return 19;
+        return Err(Refusal::RecordEnd);
     }
-    0
+    Ok(())
 }
 
 // The strict reading of the frame whose bytes stand from place p on, which is taken into `copy`; its message goes to `message`.
@@ -66,44 +65,28 @@ fn test_frame(
     p: usize,
     copy: &mut [i32],
     message: &mut [u8],
-) -> Reading
+) -> Result<u64, Refusal>
     requires { (is_kind kind ≡ true) × (length copy.old ≡ 2 ^ kind) × (p + 4 * length copy.old ≤ length s.now) }
-    ensures number { result.number
+    ensures number { number_of result
         ≡ strict_refusal kind grade 0 number (coordinates_from (2 ^ kind) (drop p s.now)) (length message.old) }
-    ensures energy { result.energy ≡ energy_read result.number (coordinates_from (2 ^ kind) (drop p s.now)) }
+    ensures energy { figure_of result ≡ energy_read (number_of result) (coordinates_from (2 ^ kind) (drop p s.now)) }
     ensures copy { copy.new ≡ coordinates_from (2 ^ kind) (drop p s.now) }
     ensures message { message.new
-        ≡ message_after result.number kind grade 0 (coordinates_from (2 ^ kind) (drop p s.now)) message.old }
+        ≡ message_after (number_of result) kind grade 0 (coordinates_from (2 ^ kind) (drop p s.now)) message.old }
 {
     take_coordinates(s, p, copy);
     read_whole(kind, grade, number, copy, message)
 }
 
-// A refusal: its number, and 0 in every figure.
-fn refused(refusal: u8) -> RecordRead
-    ensures { result ≡ refused_by refusal }
-{
-    RecordRead {
-        refusal,
-        kind: 0,
-        grade: 0,
-        number: 0,
-        energy: 0,
-        next: 0,
-    }
-}
-
 // The reader: the record at a place of the buffer. Its frame is tested in a copy, and taken into the lent frame after all tests, so that a refusal writes
 // nothing. No message has more than 46 bytes.
-pub fn read_record(buffer: &[u8], place: usize, frame: &mut [i32]) -> RecordRead
-    ensures answer { result ≡ read_answer buffer.now place (length frame.old) }
+#[tactic(auto, using(crate::proofs::Steps::steps), unfolding(records::specs::Reading::read_refusal, records::specs::Reading::read_answer, records::specs::Reading::frame_read))]
+pub fn read_record(buffer: &[u8], place: usize, frame: &mut [i32]) -> Result<Record, Refusal>
+    ensures answer { record_read result ≡ read_answer buffer.now place (length frame.old) }
     ensures frame { frame.new ≡ frame_read buffer.now place frame.old }
 {
     let n = frame.len();
-    let first = head(buffer, place, n);
-    if first != 0 {
-        return refused(first);
-    }
+    test_head(buffer, place, n)?;
     let kind = buffer[place + 2];
     let grade = buffer[place + 3];
     let number = four_at(buffer, place + 4);
@@ -111,25 +94,21 @@ pub fn read_record(buffer: &[u8], place: usize, frame: &mut [i32]) -> RecordRead
     let bytes = kind_table::message_bytes(kind, grade as usize);
     let mut copy = [0i32; 64];
     let mut message = [0u8; 46];
-    let r = test_frame(
+    let energy = test_frame(
         kind,
         grade,
         number,
         buffer,
         start,
-        &mut copy[0..n],
-        &mut message[0..bytes],
-    );
-    if r.number != 0 {
-        return refused(r.number);
-    }
+        &mut copy[..n],
+        &mut message[..bytes],
+    )?;
     take_coordinates(buffer, start, frame);
-    RecordRead {
-        refusal: r.number,
+    Ok(Record {
         kind,
         grade,
         number,
-        energy: r.energy,
+        energy,
         next: place + (8 + 4 * n),
-    }
+    })
 }

@@ -1,32 +1,34 @@
 // The writer of records (request E11): sends a message and puts the sent frame's record at a place of a lent buffer.
 #![tactic(auto)]
 
-ghost use Rattle.std.specs.Prelude.{◌≡◌, true, ◌+◌, ◌*◌, ◌%◌, ◌^◌, ◌≤◌, length};
+ghost use Rattle.std.specs.Prelude.{◌≡◌, true, OnOk, ◌+◌, ◌*◌, ◌%◌, ◌^◌, ◌≤◌, length};
 ghost use Rattle.octets.specs.Place.{put_at};
 ghost use Rattle.frames.specs.Kind.{is_kind};
 ghost use Rattle.frames.specs.Free.{FreeMessage, quiet_frame};
+ghost use Rattle.frames.specs.Demands.{Sendable};
+ghost use Rattle.refusals.specs.Number.{number_of};
 ghost use Rattle.records.specs.Record.{record_of, sent_record, record_bytes};
-ghost use Rattle.records.specs.Writing.{write_refusal, write_answer, buffer_after};
+ghost use Rattle.records.specs.Writing.{write_refusal, record_written, write_answer, buffer_after};
 
 use four_bytes::{has_room, put_coordinates, put_four};
-use records::RecordWritten;
+use refusals::Refusal;
 
 // The tests: those of sending without 4, and then 19.
-fn refusal(kind: u8, grade: u8, message: &[u8], p: usize, room: usize) -> u8
-    ensures { result ≡ write_refusal kind grade message.now p room }
+#[tactic(auto, using(crate::proofs::Steps::steps), unfolding(records::specs::Writing::write_refusal, frames::specs::Sending::send_refusal))]
+fn test(kind: u8, grade: u8, message: &[u8], p: usize, room: usize) -> Result<(), Refusal>
+    ensures number { number_of result ≡ write_refusal kind grade message.now p room }
+    ensures good { OnOk result (Sendable kind grade 0 message.now (2 ^ kind)) }
+    ensures fits { OnOk result (p + record_bytes kind ≤ room) }
 {
     if !kind_table::is_kind(kind) {
-        return 1;
+        return Err(Refusal::Kind);
     }
     let n = kind_table::positions(kind);
-    let no = sending::test(kind, grade, 0, message, n);
-    if no != 0 {
-        return no;
-    }
+    sending::test(kind, grade, 0, message, n)?;
     if !has_room(room, p, 8 + 4 * n) {
-        return 19;
+        return Err(Refusal::RecordEnd);
     }
-    0
+    Ok(())
 }
 
 // Puts the record of a frame at place p.
@@ -43,6 +45,7 @@ fn put_record(kind: u8, grade: u8, number: u32, frame: &[i32], buffer: &mut [u8]
 }
 
 // Sends a message that passed the tests into a frame of its own, and puts the frame's record at place p.
+#[tactic(auto, unfolding(records::specs::Record::sent_record))]
 fn put_sent(
     kind: u8,
     grade: u8,
@@ -62,6 +65,7 @@ fn put_sent(
 }
 
 // The writer: sends a message under a number, puts the sent frame's record at a place of the buffer, and gives the place after it. A refusal writes nothing.
+#[tactic(auto, using(crate::proofs::Steps::steps), unfolding(records::specs::Writing::write_answer, records::specs::Writing::buffer_after))]
 pub fn write_record(
     kind: u8,
     grade: u8,
@@ -69,30 +73,13 @@ pub fn write_record(
     message: &[u8],
     buffer: &mut [u8],
     place: usize,
-) -> RecordWritten
-    ensures answer { result ≡ write_answer kind grade message.now place (length buffer.old) }
+) -> Result<usize, Refusal>
+    ensures answer { record_written result ≡ write_answer kind grade message.now place (length buffer.old) }
     ensures buffer { buffer.new ≡ buffer_after kind grade number message.now place buffer.old }
 {
-    let no = refusal(kind, grade, message, place, buffer.len());
-    if no != 0 {
-        return RecordWritten {
-            refusal: no,
-            next: 0,
-        };
-    }
+    test(kind, grade, message, place, buffer.len())?;
     let n = kind_table::positions(kind);
     let mut frame = [0i32; 64];
-    put_sent(
-        kind,
-        grade,
-        number,
-        message,
-        &mut frame[0..n],
-        buffer,
-        place,
-    );
-    RecordWritten {
-        refusal: no,
-        next: place + (8 + 4 * n),
-    }
+    put_sent(kind, grade, number, message, &mut frame[..n], buffer, place);
+    Ok(place + (8 + 4 * n))
 }

@@ -6,9 +6,8 @@ use mathlib.Core.List.{List}
 use lib.Ieee.{Float}
 use borrow.Author.Tests.{eq-eqb, ne_eqb, le-leb, lt-leb}
 use Rattle.octets.specs.Same.{same_bytes}
-use Rattle.recordings.specs.declared.Chosen.TheVariants.{First, Second, Neither}
 use Rattle.recordings.specs.Recording.{recording_number, recording_message, recording_distance}
-use Rattle.recordings.specs.Choice.{closer, both_heard, choice}
+use Rattle.recordings.specs.Choice.{First, Second, Neither, closer, both_heard, choice}
 
 module _ (k b : ℕ) (xs ys : List Float) where
   pub both-refused : (recording_number k b xs ≡ 0 → ⊥) → (recording_number k b ys ≡ 0 → ⊥) → Neither (recording_number k b xs) ≡ choice k b xs ys

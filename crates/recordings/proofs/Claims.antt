@@ -20,12 +20,10 @@ use Rattle.samples.specs.Sample.{samples_in_256ths}
 use Rattle.near_frames.specs.Near.{near_kind, nearness}
 use Rattle.near_frames.proofs.NearKinds.{near-is-kind}
 use Rattle.near_reading.specs.Answer.{near_distance}
-use Rattle.recordings.specs.declared.Chosen.{Chosen}
-use Rattle.recordings.specs.declared.Chosen.TheVariants.{First, Second, Neither}
 use Rattle.recordings.specs.Recording.{recording_number, recording_message, recording_distance, RecordingOf, NearTo, IsRefused}
-use Rattle.recordings.specs.Choice.{choice, handed, chosen_number, handed_back, closer_number}
-use Rattle.recordings.specs.Claims.{Judged, IsChoice, AtOdds, Equal, BothRefused, NumberExactly, HandedBack, NoFarther, ComparedExactly}
-use Rattle.recordings.specs.Claims.{exchanged, Exchange, ReadsBack, TwiceRecorded, DifferentSent}
+use Rattle.recordings.specs.Choice.{Chosen, First, Second, Neither, choice, handed, chosen_number, handed_back, closer_number}
+use Rattle.recordings.specs.Claims.{IsChoice, AtOdds, Equal, BothRefused, NumberExactly, HandedBack, NoFarther, ComparedExactly}
+use Rattle.recordings.specs.Claims.{exchanged, Exchange, TwiceRecorded, DifferentSent}
 use Rattle.recordings.proofs.Recording.{number-high, judged, closer-exact, distance-exact}
 use Rattle.recordings.proofs.Choices as by
 

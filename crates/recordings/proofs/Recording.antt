@@ -5,7 +5,6 @@ use mathlib.Core.Bool.{Bool, true, false, cond}
 use mathlib.Core.List.{List, []}
 use native.Mathlib.Omega.{arith}
 use lib.Dec.{eqb, ltb}
-use lib.IntN.{ℤ}
 use lib.ListN.{length, replicate, length-replicate}
 use lib.Ieee.{Float, lt}
 use lib.Ieee.Exact.{HasValue}
@@ -16,14 +15,14 @@ use Rattle.frames.specs.Sending.{unless}
 use Rattle.frames.specs.Reading.{open_message}
 use Rattle.samples.specs.Sample.{all_fit, samples_in_256ths}
 use Rattle.samples.proofs.Samples.{samples-length}
-use Rattle.near_frames.specs.Near.{near_kind, nearness, IsNear, some_near, near_frame}
+use Rattle.near_frames.specs.Near.{near_kind, IsNear, some_near, near_frame}
 use Rattle.near_frames.proofs.Frames.{near-is}
 use Rattle.near_reading.specs.Answer.{near_refusal, near_number, near_distance, near_message}
 use Rattle.near_reading.specs.Claims.{Readable}
 use Rattle.near_reading.proofs.Tests.{success}
 use Rattle.near_reading.proofs.Claims.{finds, found-one}
 use Rattle.recordings.specs.Recording.{recording_number, recording_message, recording_distance, NearTo}
-use Rattle.recordings.specs.Claims.{ReadsTo, Judged, ComparedExactly}
+use Rattle.recordings.specs.Claims.{ReadsTo, Judged}
 
 -- the number is that of the near reading with as many bytes lent as a message has
 pub as_read : (k b : ℕ) (xs : List Float) (n : ℕ) → n ≡ message_bytes k b → recording_number k b xs ≡ near_number k b xs n

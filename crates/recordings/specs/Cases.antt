@@ -2,8 +2,7 @@
 -- the first answers before all later ones, with everything wrong that is tested later. Assumes nothing.
 use Rattle.std.specs.Prelude.{◌≡◌, false, [], ◌∷◌, replicate, pos}
 use Rattle.std.specs.Float.{nan, fin}
-use Rattle.recordings.specs.declared.Chosen.TheVariants.{First, Second, Neither}
-use Rattle.recordings.specs.Choice.{closer, choice}
+use Rattle.recordings.specs.Choice.{First, Second, Neither, closer, choice}
 
 -- of 5 and 6 parts the smaller; of 5 and 5 the first
 pub record CloserCases : Type 0 where

@@ -1,9 +1,23 @@
 -- THE CHOICE between two recordings of one frame, sentence by sentence (request E9). Assumes nothing.
-use Rattle.std.specs.Prelude.{ℕ, Bool, cond, List, [], eqb, leb, Float}
+use Rattle.std.specs.Prelude.{ℕ, Bool, cond, List, [], eqb, leb, Float, Result, Ok, Err}
+use Rattle.refusals.specs.declared.Refusal.{Refusal}
+use Rattle.refusals.specs.Number.{code}
 use Rattle.octets.specs.Same.{same_bytes}
-use Rattle.recordings.specs.declared.Chosen.{Chosen}
-use Rattle.recordings.specs.declared.Chosen.TheVariants.{First, Second, Neither}
+use Rattle.recordings.specs.declared.Which.{Which}
+use Rattle.recordings.specs.declared.Which.TheVariants as which
 use Rattle.recordings.specs.Recording.{recording_number, recording_message, recording_distance}
+
+-- which recording is chosen; neither, by a number
+pub data Chosen : Type 0 where
+  First : Chosen
+  Second : Chosen
+  Neither : ℕ → Chosen
+
+-- what the code answers: the recording that is chosen, or the refusal
+abbrev pub chosen_of : Result Which Refusal → Chosen
+chosen_of (Ok which.First) = First
+chosen_of (Ok which.Second) = Second
+chosen_of (Err r) = Neither (code r)
 
 -- the recording is not refused: a frame is near
 abbrev pub is_heard : ℕ → ℕ → List Float → Bool

@@ -8,10 +8,8 @@ use Rattle.frames.specs.Message.{Message}
 use Rattle.frames.specs.Frame.{numbered_frame}
 use Rattle.near_frames.specs.Near.{near_kind}
 use Rattle.near_reading.specs.Answer.{near_number, near_distance, near_message}
-use Rattle.recordings.specs.declared.Chosen.{Chosen}
-use Rattle.recordings.specs.declared.Chosen.TheVariants.{First, Second, Neither}
 use Rattle.recordings.specs.Recording.{recording_number, recording_message, recording_distance, RecordingOf, NearTo, IsRefused}
-use Rattle.recordings.specs.Choice.{choice, handed_back, closer_number}
+use Rattle.recordings.specs.Choice.{Chosen, First, Second, Neither, choice, handed_back, closer_number}
 
 -- ---- one recording
 

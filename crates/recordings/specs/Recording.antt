@@ -1,5 +1,5 @@
 -- One recording of a frame: its near reading (request E6) where no message buffer is lent (request E9). Assumes nothing.
-use Rattle.std.specs.Prelude.{ℕ, ◌^◌, ◌<◌, ◌≡◌, Bool, true, List, [], eqb, length, ℤ, Float}
+use Rattle.std.specs.Prelude.{ℕ, ◌^◌, ◌<◌, ◌≡◌, true, List, [], eqb, length, ℤ, Float}
 use Rattle.frames.specs.Kind.{is_grade}
 use Rattle.frames.specs.Frame.{InCodingSet}
 use Rattle.frames.specs.Sending.{unless}

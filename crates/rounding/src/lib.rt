@@ -3,21 +3,11 @@
 
 ghost use Rattle.std.specs.Prelude.{◌≡◌, ◌^◌, ◌<◌, ◌≤◌, pos, nat_abs};
 ghost use Rattle.e8.specs.Energy.{Within};
-ghost use Rattle.mending.specs.Rounded.{rank_of, ranks_of, larger_of, smaller_of, among, Rounded};
+ghost use Rattle.mending.specs.Rounded.{rank_of, ranks_of, Rounded};
+ghost use Rattle.std.specs.List.{fold};
+ghost use Rattle.std.specs.Int.{int_max, int_min};
 
-// The larger of two.
-fn larger(a: i16, b: i16) -> i16
-    ensures { result ≡ larger_of a b }
-{
-    if a < b { b } else { a }
-}
-
-// The smaller of two.
-fn smaller(a: i16, b: i16) -> i16
-    ensures { result ≡ smaller_of a b }
-{
-    if a < b { a } else { b }
-}
+use std::array;
 
 // The rank of a coordinate as the one to change: the larger first; of equals those that are not negative, from the first on, then the negative ones,
 // from the last on.
@@ -34,42 +24,21 @@ fn ranks(c: [i32; 8]) -> [i16; 8]
     requires { Within (2 ^ 7) c }
     ensures { result ≡ ranks_of c 0 }
 {
-    let mut r = [0i16; 8];
-    let mut i: usize = 0;
-    while i < 8 {
-        let z = c[i];
-        r[i] = rank(z, i) as i16;
-        i += 1;
-    }
-    r
+    array::from_fn(|i| rank(c[i], i) as i16)
 }
 
-// The largest of eight, from the last to the first.
-fn largest(r: [i16; 8]) -> i16
-    ensures { result ≡ among larger_of r }
+// The largest of ranks.
+fn largest(r: &[i16]) -> i16
+    ensures { result ≡ fold int_max (pos 0) r.now }
 {
-    let mut m = r[7];
-    let mut i: usize = 7;
-    while 0 < i {
-        i -= 1;
-        let a = r[i];
-        m = larger(m, a);
-    }
-    m
+    r.iter().copied().fold(0, i16::max)
 }
 
-// The smallest of eight, likewise.
-fn smallest(r: [i16; 8]) -> i16
-    ensures { result ≡ among smaller_of r }
+// The smallest of ranks.
+fn smallest(r: &[i16]) -> i16
+    ensures { result ≡ fold int_min (pos 32767) r.now }
 {
-    let mut m = r[7];
-    let mut i: usize = 7;
-    while 0 < i {
-        i -= 1;
-        let a = r[i];
-        m = smaller(m, a);
-    }
-    m
+    r.iter().copied().fold(i16::MAX, i16::min)
 }
 
 // A block with every coordinate rounded, and what is to be known of it to choose the one to change, in the whole part and in the half part.
@@ -92,23 +61,22 @@ pub fn round(k: u32, h: i32, x: [i32; 8]) -> RoundedBlock
     let mut sum: i32 = 0;
     let mut halves: i32 = 0;
     let mut sizes: i32 = 0;
-    let mut i: usize = 8;
-    while i > 0 {
-        i -= 1;
+    for i in (0..8).rev() {
         let v = x[i];
         let f = coordinates::floor(k + 1, v + h);
         let c = v - f;
         r[i] = c;
-        sum = sum + f;
-        halves = halves + coordinates::floor(k + 1, v);
-        sizes = sizes + coordinates::magnitude(c);
+        sum += f;
+        halves += coordinates::floor(k + 1, v);
+        sizes += coordinates::magnitude(c);
     }
+    let ranks = ranks(r);
     RoundedBlock {
         block: r,
         sum,
         halves,
         sizes,
-        top: largest(ranks(r)) as i32,
-        low: smallest(ranks(r)) as i32,
+        top: i32::from(largest(&ranks)),
+        low: i32::from(smallest(&ranks)),
     }
 }

@@ -21,21 +21,17 @@ pub struct Energies {
 }
 
 // The energy of a shaped frame, and the largest of its blocks', block by block.
+#[tactic(auto, unfolding(e8::specs::Energy::energy, e8::specs::Largest::largest_to))]
 fn shaped_energies(frame: &[i32]) -> Energies
     requires { (length frame.now % 8 ≡ 0) × (length frame.now ≤ 1024) × Within (2 ^ 10) frame.now }
     ensures { (result.energy ≡ energyOf frame.now) × (result.largest ≡ largest_block frame.now) }
 {
-    let n = frame.len() / 8;
     let mut energy: u64 = 0;
     let mut largest: u64 = 0;
-    let mut j: usize = 0;
-    while j < n {
-        let s = 8 * j;
-        let e = s + 8;
-        let block = coordinates::block_energy(&frame[s..e]);
+    for j in 0..frame.len() / 8 {
+        let block = coordinates::block_energy(&frame[8 * j..8 * j + 8]);
         energy += block;
-        largest = coordinates::larger(largest, block);
-        j += 1;
+        largest = largest.max(block);
     }
     Energies { energy, largest }
 }

@@ -1,12 +1,17 @@
 -- What reads of the system make of a room, by what each of them answered: bytes came (1 or more), the input is at its end (0), or the
 -- read failed (below 0). Assumes nothing.
-use Rattle.std.specs.Prelude.{ℕ, ◌+◌, ◌-◌, ◌≤◌, min, ◌≡◌, true, false, ◌||◌, List, [], ◌∷◌, eqb, leb, ℤ, pos, negsuc}
+use Rattle.std.specs.Prelude.{ℕ, ◌+◌, ◌-◌, ◌≤◌, min, ◌≡◌, true, false, ◌||◌, List, [], ◌∷◌, eqb, leb, ℤ, pos, negsuc, Option, Some, None}
 use Rattle.sheet_input.specs.declared.Input.{Input}
 
 -- what a read that is lent a room of n bytes may answer: -1, or how many bytes came, at most n
 abbrev pub Moved : ℕ → ℤ → Type 0
 Moved n (pos k) = k ≤ n
 Moved n (negsuc k) = k ≡ 0
+
+-- the answer of a read, of which so many bytes came, or none where it failed
+abbrev pub answer_of : Option ℕ → ℤ
+answer_of (Some n) = pos n
+answer_of None = negsuc 0
 
 -- before the first read
 abbrev pub nothing : Input

@@ -3,7 +3,7 @@
 
 ghost use Rattle.std.specs.Prelude.{◌≡◌, ◌+◌, ◌^◌, ◌<◌, length};
 ghost use Rattle.io.specs.Counts.{IsPrefixLen};
-ghost use Rattle.sheet_input.specs.Reading.{Moved, after_read, ReadBy};
+ghost use Rattle.sheet_input.specs.Reading.{answer_of, Moved, after_read, ReadBy};
 
 use std::io::Read;
 
@@ -15,42 +15,30 @@ pub struct Input {
     pub failed: bool,
 }
 
-// What was read, after one more read that had so much room left and gave this answer.
-fn after_read(input: Input, left: usize, got: isize) -> Input
+// What was read, after one more read that had so much room left: how many bytes came, or none where the read failed.
+fn after_read(input: Input, left: usize, came: Option<usize>) -> Input
     requires { input.length + left < 2 ^ 64 }
-    ensures { result ≡ after_read input left got }
+    ensures { result ≡ after_read input left (answer_of came) }
 {
-    let length = input.length;
-    if got < 0 {
-        return Input {
-            length,
+    match came {
+        Some(n) => Input {
+            length: input.length + left.min(n),
+            over: n == 0 || left <= n,
+            failed: false,
+        },
+        None => Input {
             over: true,
             failed: true,
-        };
-    }
-    let came = got as usize;
-    if left <= came {
-        return Input {
-            length: length + left,
-            over: true,
-            failed: false,
-        };
-    }
-    Input {
-        length: length + came,
-        over: came == 0,
-        failed: false,
+            ..input
+        },
     }
 }
 
-// One read into a lent room, and its answer as a number: how many bytes came, or -1 where the read failed.
-fn read<R: Read>(from: &mut R, room: &mut [u8]) -> isize
-    ensures { Moved (length room.old) result }
+// One read into a lent room: how many bytes came, or none where the read failed.
+fn read<R: Read>(from: &mut R, room: &mut [u8]) -> Option<usize>
+    ensures { Moved (length room.old) (answer_of result) }
 {
-    match from.read(room) {
-        Ok(n) => n as isize,
-        Err(_) => -1,
-    }
+    from.read(room).ok()
 }
 
 // Reads until the room is full, the input ends or a read fails. After a read that brought nothing there is no other: on a terminal
@@ -65,10 +53,9 @@ pub fn read_sheet<R: Read>(from: &mut R, room: &mut [u8]) -> Input
         failed: false,
     };
     while !input.over {
-        let done = input.length;
-        let left = room.len() - done;
-        let got = read(from, &mut room[done..]);
-        input = after_read(input, left, got);
+        let rest = &mut room[input.length..];
+        let left = rest.len();
+        input = after_read(input, left, read(from, rest));
     }
     input
 }

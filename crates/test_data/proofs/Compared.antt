@@ -1,34 +1,22 @@
--- Frames and whole numbers compared: what the tests answer, by whether the two are the same. Assumes nothing.
-use mathlib.Core.Path.{◌≡◌, refl, sym, ap, ◌∙◌}
-use mathlib.Core.Bool.{Bool, true, false, true≢false}
-use mathlib.Core.List.{List, [], ◌∷◌}
-use lib.Dec.{eqb}
-use lib.IntN.{ℤ}
-use lib.ListN.{get_or}
-use borrow.Author.Tests.{eqb-true, eq-eqb}
-use mir.Syntax.{Width}
-use mir.Val.{SFits, to_z, of_z}
-use mir.Facts.{to_z-of_z}
-use Rattle.octets.proofs.Compared.{no_truth}
-use Rattle.frames.specs.Reading.{same_number, same_frame}
-use Rattle.frames.proofs.Refusals.{number_same, same-frame, frame_same}
+-- Frames compared: the library's test is that of the data. Assumes nothing.
+use Rattle.std.proofs.Common.{◌≡◌, Bool, true, false, List, ℤ, refl, ap, ◌∙◌}
+use Rattle.std.specs.Bool.{Decides}
+use Rattle.std.specs.Ordering.{int_eq}
+use Rattle.std.specs.Cmp.Lexicographic.{pointwise}
+use Rattle.std.proofs.lemmas.Slice.Eq.{slice_eq-Decides}
+use Rattle.std.proofs.lemmas.Bool.Decides.{Decides-int_eq}
+use Rattle.frames.specs.Reading.{same_frame}
+use Rattle.frames.proofs.Refusals.{same-frame, frame_same}
 
-pub frames-equal : {x y : List ℤ} → x ≡ y → true ≡ same_frame x y
-frames-equal {x} {y} e = sym (ap (same_frame x) (sym e) ∙ frame_same x)
+same_truth : (r s : Bool) → (r ≡ true → s ≡ true) → (s ≡ true → r ≡ true) → r ≡ s
+same_truth true true f g = refl
+same_truth true false f g = let e = f refl in cc
+same_truth false true f g = let e = g refl in cc
+same_truth false false f g = refl
 
-pub frames-differ : {x y : List ℤ} → (x ≡ y → ⊥) → false ≡ same_frame x y
-frames-differ {x} {y} n = sym (no_truth (same_frame x y) (λ e. n (same-frame x y e)))
+decided : (r : Bool) (x y : List ℤ) → Decides r (x ≡ y) → r ≡ same_frame x y
+decided r x y d = same_truth r (same_frame x y) (λ e. ap (λ z. same_frame z y) (d.0 e) ∙ frame_same y) (λ e. d.1 (same-frame x y e))
 
--- whole numbers compared by their bits
-pub bits-compared : (w : Width) (x y : ℤ) → SFits w x → SFits w y → eqb (of_z w x) (of_z w y) ≡ same_number x y
-unfolding same_frame
-bits-compared w x y fx fy = go (eqb (of_z w x) (of_z w y)) refl
-  where
-    go : (t : Bool) → eqb (of_z w x) (of_z w y) ≡ t → t ≡ same_number x y
-    go true e =
-        let s : x ≡ y = sym (to_z-of_z fx) ∙ ap (to_z w) (eqb-true (of_z w x) (of_z w y) e) ∙ to_z-of_z fy in
-        sym (ap (same_number x) (sym s) ∙ number_same x)
-    go false e = sym (no_truth (same_number x y) (λ t. differ e (same-frame (x ∷ []) (y ∷ []) (rw t refl))))
-      where
-        differ : eqb (of_z w x) (of_z w y) ≡ false → (x ∷ []) ≡ (y ∷ []) → ⊥
-        differ e s = true≢false (sym (eq-eqb (of_z w x) (of_z w y) (ap (λ (l : List ℤ). of_z w (get_or l 0 x)) s)) ∙ e)
+-- SAME FRAMES: the library's test holds exactly of a frame and itself, and so does that of the data
+pub pointwise-same : (x y : List ℤ) → pointwise int_eq x y ≡ same_frame x y
+pointwise-same x y = decided (pointwise int_eq x y) x y (slice_eq-Decides Decides-int_eq x y (pointwise int_eq x y) refl)

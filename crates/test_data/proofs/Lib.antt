@@ -1,4 +1,2 @@
 pub mod Compared
 pub mod Taken
-pub mod Patterns
-pub mod Parts

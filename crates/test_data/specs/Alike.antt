@@ -1,6 +1,6 @@
 -- When what a call left is what the data says: floats by their bits, accounts. For bytes it is same_bytes of octets, for coordinates same_frame of frames.
 -- Assumes nothing.
-use Rattle.std.specs.Prelude.{ℕ, Bool, ◌&&◌, eqb, Float}
+use Rattle.std.specs.Prelude.{Bool, ◌&&◌, eqb, Float}
 use Rattle.std.specs.Float.{binary64}
 use Rattle.std.specs.Float.Ieee.{to_bits}
 use Rattle.power_account.specs.declared.Account.{Account}

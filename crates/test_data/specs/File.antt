@@ -1,5 +1,5 @@
 -- What can be said of bytes that are read from a file, whatever stands there. Assumes nothing.
-use Rattle.std.specs.Prelude.{ℕ, ◌≤◌, ◌<◌, ◌≡◌, Bool, true, false, List, length, drop}
+use Rattle.std.specs.Prelude.{ℕ, ◌≤◌, ◌<◌, ◌≡◌, Bool, true, List, length, drop}
 
 -- the first n of the lent bytes read over: true only where there is room for them; the bytes from n on stay, and without room all do
 pub record ReadOver (n : ℕ) (lent : List ℕ) (read : Bool) (left : List ℕ) : Type 0 where

@@ -9,37 +9,28 @@ ghost use Rattle.test_data.specs.Held.{number_in, count_in, account_in};
 ghost use Rattle.test_data.specs.Alike.{same_account};
 ghost use Rattle.test_data.specs.File.{ReadOver};
 
-use account::Account;
-pub use float::{float_in, same_float, samples};
-pub use frame::{coordinates, same_answer, same_coordinates};
+pub use float::{float_in, same_float};
+pub use frame::{OfFour, same_answer, same_coordinates, take_from};
+use power_account::Account;
 use std::fs::File;
 
 // Standard output.
 pub const STDOUT: i32 = 1;
 
-fn wide(b: u8) -> u64
-    ensures { (result ≡ b) × (result ≤ 255) }
-{
-    b as u64
-}
-
 // A byte as a size.
 pub fn size(b: u8) -> usize
     ensures { (result ≡ b) × (result ≤ 255) }
 {
-    b as usize
+    usize::from(b)
 }
 
 // The number that the bytes hold, modulo 2^64.
 pub fn number(bytes: &[u8]) -> u64
     ensures { result ≡ number_in bytes.now }
 {
-    let n = bytes.len();
     let mut x: u64 = 0;
-    let mut i: usize = 0;
-    while i < n {
-        i += 1;
-        x = 256 * (x % 72057594037927936) + wide(bytes[n - i]);
+    for b in bytes.iter().rev() {
+        x = 256 * (x % 72057594037927936) + u64::from(*b);
     }
     x
 }
@@ -75,16 +66,10 @@ pub fn account_in(bytes: &[u8]) -> Account
 pub fn same_account(a: Account, b: Account) -> bool
     ensures { result ≡ same_account a b }
 {
-    if a.count != b.count {
-        return false;
-    }
-    if a.largest != b.largest {
-        return false;
-    }
-    if a.changeover != b.changeover {
-        return false;
-    }
-    same_float(a.sum, b.sum)
+    a.count == b.count
+        && a.largest == b.largest
+        && a.changeover == b.changeover
+        && same_float(a.sum, b.sum)
 }
 
 // Opens a data file for reading. Where it cannot be opened, its name and the error are said on standard error.
@@ -112,7 +97,7 @@ pub fn fill(fd: i32, n: usize, out: &mut [u8]) -> bool
 pub fn write(text: &[u8]) -> bool
     ensures { text.now ≡ [] → result ≡ true }
 {
-    if text.len() == 0 {
+    if text.is_empty() {
         return true;
     }
     io::write_all(STDOUT, text)

@@ -11,7 +11,7 @@ pub returns-clause-least : goal.returns-clause-least
 returns-clause-least c =
     let s = c.args in
     let n = length s.frame.now in
-    let accepted : counted_refusal s.kind s.grade s.free s.message.now n s.account.now ≡ 0 = omega arith in
-    let a = all-passed s.kind s.grade s.free s.message.now n (passed s.kind s.grade s.free s.message.now n s.account.now accepted) in
-    λ e. quiet-least s.kind s.grade s.free (number_for s.account.now) a.kind (grade-low s.grade a.grade) s.message.now
-    c.write_counted.ensures.frame c.write_counted.ensures.energy
+    let accepted : counted_refusal s.kind s.grade s.free s.message.now n s.account ≡ 0 = omega arith in
+    let a = all-passed s.kind s.grade s.free s.message.now n (passed s.kind s.grade s.free s.message.now n s.account accepted) in
+    λ e. quiet-least s.kind s.grade s.free (number_for s.account) a.kind (grade-low s.grade a.grade) s.message.now
+    c.write_counted-sent.ensures.frame c.write_counted-sent.ensures.energy

@@ -12,7 +12,7 @@ pub write_sent-sent-requires : goal.write_sent-sent-requires
 write_sent-sent-requires c =
     let s = c.args in
     let n = length s.frame.now in
-    let accepted : send_refusal s.kind s.grade s.free s.message.now n ≡ 0 = passed s.kind s.grade s.free s.message.now n s.account.now c.requires in
+    let accepted : send_refusal s.kind s.grade s.free s.message.now n ≡ 0 = passed s.kind s.grade s.free s.message.now n s.account c.requires in
     let a = (accepted-exactly s.kind s.grade s.free s.message.now n (λ i. (c.type_inv.message i).fits)).sendable accepted in
     (a.kind, grade-low s.grade a.grade, grade-high s.grade a.grade, free-few s.free a.few, a.message, a.coordinates)
 
@@ -20,15 +20,15 @@ pub grow-requires : goal.grow-requires
 grow-requires c =
     let s = c.args in
     let n = length s.frame.now in
-    let accepted : send_refusal s.kind s.grade s.free s.message.now n ≡ 0 = passed s.kind s.grade s.free s.message.now n s.account.now c.requires in
+    let accepted : send_refusal s.kind s.grade s.free s.message.now n ≡ 0 = passed s.kind s.grade s.free s.message.now n s.account c.requires in
     measured s.kind s.grade s.free _ s.message.now n accepted _ c.write_sent-sent.ensures.energy
 
 pub returns-clause-account : goal.returns-clause-account
 returns-clause-account c =
     let s = c.args in
     let n = length s.frame.now in
-    let accepted : send_refusal s.kind s.grade s.free s.message.now n ≡ 0 = passed s.kind s.grade s.free s.message.now n s.account.now c.requires in
+    let accepted : send_refusal s.kind s.grade s.free s.message.now n ≡ 0 = passed s.kind s.grade s.free s.message.now n s.account c.requires in
     let a = all-passed s.kind s.grade s.free s.message.now n accepted in
-    let r = room s.kind s.grade s.free s.message.now n s.account.now c.requires in
-    let long = a.coordinates ∙ sym (quiet-frame-long s.kind s.grade s.free (number_for s.account.now) a.kind (grade-low s.grade a.grade) s.message.now) in
+    let r = room s.kind s.grade s.free s.message.now n s.account c.requires in
+    let long = a.coordinates ∙ sym (quiet-frame-long s.kind s.grade s.free (number_for s.account) a.kind (grade-low s.grade a.grade) s.message.now) in
     simp (r, long, c.write_sent-sent.ensures.energy, c.write_sent-sent.ensures.largest, c.next_number-number.ensures) at c.grow.ensures
