@@ -19,4 +19,4 @@ returns-clause-least c =
     let accepted : send_refusal s.kind s.grade s.free s.message.now (length s.frame.now) ≡ 0 = omega arith in
     let a = (accepted-exactly s.kind s.grade s.free s.message.now (length s.frame.now) (λ i. (c.type_inv.message i).fits)).sendable accepted in
     λ e. quiet-least s.kind s.grade s.free s.number a.kind (grade-low s.grade a.grade) s.message.now
-    c.write_sent-sent.ensures.frame c.write_sent-sent.ensures.energy
+    c.write_sent-sent.ensures.frame (omega arith)

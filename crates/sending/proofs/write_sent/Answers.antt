@@ -44,7 +44,7 @@ fill_last-requires c =
     let g = c.args in
     let p = c.requires in
     let t = large g.kind g.grade g.message.now _ p.0 p.2 c.write_leader.ensures in
-    (omega (arith, some_level g.kind p.0), omega (arith, few-levels g.kind p.0), p.1, p.2, p.3, t.0, t.1)
+    (omega (arith, some_level g.kind p.0), omega (arith, few-levels g.kind p.0), p.1, p.2, omega arith, t.0, t.1)
 
 pub shape_leader-requires : goal.shape_leader-requires
 shape_leader-requires c =
