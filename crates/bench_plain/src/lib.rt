@@ -9,7 +9,11 @@ ghost use Rattle.e8.specs.Energy.{energy as energyOf};
 ghost use Rattle.frames.specs.Kind.{is_kind, degrees, level_bits, message_bytes};
 ghost use Rattle.frames.specs.Message.{widths, numbers, stacked, leader};
 ghost use Rattle.frames.specs.Frame.{numbered_frame};
+ghost use Rattle.frames.specs.Sending.{send_refusal, frame_after, energy_sent};
+ghost use Rattle.refusals.specs.Number.{number_of, figure_of};
 ghost use Rattle.answers.specs.Answer.{send_answer, send_frame};
+
+use refusals::Refusal;
 
 // Number o of the block whose message bits begin at `from`.
 fn number_at(message: &[u8], from: usize, grade: usize, o: usize) -> u64
@@ -17,10 +21,8 @@ fn number_at(message: &[u8], from: usize, grade: usize, o: usize) -> u64
     ensures { result ≡ get_or (numbers (message_bit message.now) from (widths grade)) o 0 }
 {
     let w = kind_table::width(grade, o);
-    if o == 0 {
-        return bits::bits_at(message, from, w);
-    }
-    bits::bits_at(message, from + grade * o - 1, w)
+    // The first number has one bit less than those between.
+    bits::bits_at(message, from + (grade * o).saturating_sub(1), w)
 }
 
 // s over the values of the levels at position p, each by the mask test: c0 + 2·(c1 + 2·(c2 + 2·s)) with three levels.
@@ -30,13 +32,10 @@ fn coordinate(kind: u8, message: &[u8], p: usize, s: u64) -> i32
 {
     let m = kind as usize;
     let row = kind_table::row(kind);
-    let degrees = row.degrees;
     let mut x = s;
     let mut from = row.bits;
-    let mut i = row.levels;
-    while 0 < i {
-        i -= 1;
-        let r = degrees[i];
+    for i in (0..row.levels).rev() {
+        let r = row.degrees[i];
         from -= level_tables::dimension_of(m, r);
         x = level_tables::value_at(message, from, m, r, p) as u64 + 2 * x;
     }
@@ -50,11 +49,9 @@ fn write_leader(kind: u8, grade: usize, message: &[u8], frame: &mut [i32])
     ensures { frame.new ≡ leader kind grade message.now }
 {
     let base = kind_table::level_bits(kind);
-    let mut p: usize = 0;
-    while p < frame.len() {
+    for (p, x) in frame.iter_mut().enumerate() {
         let s = number_at(message, base + 8 * grade * (p / 8), grade, p % 8);
-        frame[p] = coordinate(kind, message, p, s);
-        p += 1;
+        *x = coordinate(kind, message, p, s);
     }
 }
 
@@ -66,8 +63,18 @@ fn write_sent(kind: u8, grade: usize, number: u32, message: &[u8], frame: &mut [
     ensures energy { result ≡ energyOf (numbered_frame kind grade number message.now) }
 {
     write_leader(kind, grade, message, frame);
-    let sent = sending::shape_leader(kind, grade, number, frame);
-    sent.energy
+    sending::shape_leader(kind, grade, number, frame).energy
+}
+
+// Sends a message with no free bit: the tests, and then the frame is written.
+#[tactic(auto, unfolding(frames::specs::Sending::frame_after, frames::specs::Sending::energy_sent))]
+fn send(kind: u8, grade: u8, number: u32, message: &[u8], frame: &mut [i32]) -> Result<u64, Refusal>
+    ensures number { number_of result ≡ send_refusal kind grade 0 message.now (length frame.old) }
+    ensures frame { frame.new ≡ frame_after (number_of result) kind grade 0 number message.now frame.old }
+    ensures energy { figure_of result ≡ energy_sent (number_of result) kind grade 0 number message.now }
+{
+    sending::test(kind, grade, 0, message, frame.len())?;
+    Ok(write_sent(kind, grade as usize, number, message, frame))
 }
 
 // Sending by the mask test at every position: as `coder_send` where no bit is free, by the same contract.
@@ -75,10 +82,5 @@ pub fn plain_send(kind: u8, grade: u8, number: u32, message: &[u8], frame: &mut 
     ensures answer { result ≡ send_answer kind grade 0 number message.now (length frame.old) }
     ensures frame { frame.new ≡ send_frame kind grade 0 number message.now frame.old }
 {
-    let refusal = sending::test(kind, grade, 0, message, frame.len());
-    if refusal != 0 {
-        return answers::answer(refusal, 0);
-    }
-    let energy = write_sent(kind, grade as usize, number, message, frame);
-    answers::answer(refusal, energy)
+    answers::answered(send(kind, grade, number, message, frame))
 }
