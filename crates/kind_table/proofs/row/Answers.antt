@@ -27,4 +27,6 @@ returns-in-6 c = search rules
 -- in no row
 pub returns-in_default : goal.returns-in_default
 unfolding row_of levels level_bits degrees kinds
-returns-in_default c = rw (ne_eqb c.args.kind 3 (omega arith), ne_eqb c.args.kind 4 (omega arith), ne_eqb c.args.kind 5 (omega arith), ne_eqb c.args.kind 6 (omega arith))
+returns-in_default c =
+    let k = c.args.kind in
+    rw (ne_eqb k 3 (omega arith), ne_eqb k 4 (omega arith), ne_eqb k 5 (omega arith), ne_eqb k 6 (omega arith))
