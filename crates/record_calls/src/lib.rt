@@ -8,6 +8,7 @@ ghost use Rattle.records.specs.Reading.{frame_read};
 ghost use Rattle.answers.specs.Answer.{write_code, write_held, read_code, read_held, figures_of};
 
 // Writing a record: 0, or minus the refusal number. The place after it goes to `next`, stored to on success only.
+#[tactic(auto, unfolding(answers::specs::Answer::write_code, answers::specs::Answer::write_held))]
 pub fn write_call(
     kind: u8,
     grade: u8,
@@ -22,15 +23,17 @@ pub fn write_call(
     ensures next { next.new
         ≡ write_held kind grade message.now place (length buffer.old) next.old }
 {
-    let r = record_writer::write_record(kind, grade, number, message, buffer, place);
-    if r.refusal != 0 {
-        return answers::answer(r.refusal, 0);
+    match record_writer::write_record(kind, grade, number, message, buffer, place) {
+        Ok(after) => {
+            *next = after;
+            answers::answered(Ok(0))
+        }
+        Err(refusal) => answers::answered(Err(refusal)),
     }
-    *next = r.next;
-    answers::answer(0, 0)
 }
 
 // Reading a record: the energy of its frame, or minus the refusal number. Kind, grade, number and the place after it are stored on success only.
+#[tactic(auto, unfolding(answers::specs::Answer::read_code, answers::specs::Answer::read_held))]
 pub fn read_call(
     buffer: &[u8],
     place: usize,
@@ -46,13 +49,14 @@ pub fn read_call(
         ≡ read_held buffer.now place (length frame.old)
         (figures_of kind.old grade.old number.old next.old) }
 {
-    let r = record_reader::read_record(buffer, place, frame);
-    if r.refusal != 0 {
-        return answers::answer(r.refusal, 0);
+    match record_reader::read_record(buffer, place, frame) {
+        Ok(record) => {
+            *kind = record.kind;
+            *grade = record.grade;
+            *number = record.number;
+            *next = record.next;
+            answers::answered(Ok(record.energy))
+        }
+        Err(refusal) => answers::answered(Err(refusal)),
     }
-    *kind = r.kind;
-    *grade = r.grade;
-    *number = r.number;
-    *next = r.next;
-    answers::answer(0, r.energy)
 }
