@@ -14,8 +14,8 @@ const DIFFERENT: usize = 15;
 // A proved loop has to end, and nothing says that a file does: a longer file is reported.
 const MOST: u64 = 1000000;
 
-// The checks of a program, as an enum; and the records of its data file, each with a head of N bytes.
-pub trait Checks<const N: usize>: Copy {
+// The checks of a program, as an enum.
+pub trait Checks: Copy {
     ghost place: { Self → ℕ };
 
     // The place of a check in the tally.
@@ -27,7 +27,10 @@ pub trait Checks<const N: usize>: Copy {
 
     // What a line calls a record.
     fn record() -> &'static [u8];
+}
 
+// The records of its data file, each with a head of N bytes.
+pub trait Records<const N: usize>: Copy {
     // Takes record v from its head on, makes its checks, and answers whether it is whole, with room for it.
     fn take(fd: i32, v: u64, head: &[u8; N], tally: &mut [u64; 16]) -> bool
         ensures { GrownBy tally.old tally.new };
@@ -66,7 +69,7 @@ fn count(tally: &mut [u64; 16], check: usize, passed: bool)
 }
 
 // Counts a judgement of record v. One that did not pass is a difference, and has a line with v.
-pub fn judge<const N: usize, C: Checks<N>>(tally: &mut [u64; 16], v: u64, check: C, passed: bool)
+pub fn judge<C: Checks>(tally: &mut [u64; 16], v: u64, check: C, passed: bool)
     ensures { tally.new ≡ judged (C.place check) passed tally.old }
 {
     count(tally, check.place(), passed);
@@ -90,7 +93,7 @@ pub fn file_differs(tally: &mut [u64; 16])
 }
 
 // Takes record after record, to the end of the file or to one that is not whole.
-fn take_all<const N: usize, C: Checks<N>>(fd: i32, tally: &mut [u64; 16])
+fn take_all<const N: usize, R: Records<N>>(fd: i32, tally: &mut [u64; 16])
     requires { N ≤ 64 }
     ensures { GrownBy tally.old tally.new }
 {
@@ -100,12 +103,12 @@ fn take_all<const N: usize, C: Checks<N>>(fd: i32, tally: &mut [u64; 16])
         if got == 0 {
             return;
         }
-        if got < N || !C::take(fd, v, &head, tally) {
-            C::cut(v, tally);
+        if got < N || !R::take(fd, v, &head, tally) {
+            R::cut(v, tally);
             return;
         }
     }
-    C::cut(MOST, tally);
+    R::cut(MOST, tally);
 }
 
 // A line for a name.
@@ -117,7 +120,7 @@ fn print_line(name: &[u8], figure: u64) {
 }
 
 // A line for each check, and one for the differences.
-fn print<const N: usize, C: Checks<N>>(tally: &[u64; 16], checks: &[C]) {
+fn print<C: Checks>(tally: &[u64; 16], checks: &[C]) {
     for check in checks {
         let p = check.place();
         if p < DIFFERENT {
@@ -128,7 +131,7 @@ fn print<const N: usize, C: Checks<N>>(tally: &[u64; 16], checks: &[C]) {
 }
 
 // Takes the records of a data file, and prints a line for each check.
-pub fn run<const N: usize, C: Checks<N>>(rt: &HostRuntime, path: &str, checks: &[C])
+pub fn run<const N: usize, C: Checks + Records<N>>(rt: &HostRuntime, path: &str, checks: &[C])
     requires { N ≤ 64 }
 {
     let Some(file) = open_data(rt, path) else {

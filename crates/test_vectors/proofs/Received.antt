@@ -1,14 +1,13 @@
 -- The judgements of reading, by the first test that is not passed. Assumes nothing.
 use Prim.Native.Nat.{ℕ, ◌≤◌, ◌<◌}
 use mathlib.Core.Path.{◌≡◌, refl, sym, ap, ◌∙◌}
-use mathlib.Core.Bool.{Bool, true, false, cond}
+use mathlib.Core.Bool.{Bool, true, false}
 use mathlib.Core.List.{List}
-use lib.Dec.{eqb}
 use lib.IntN.{ℤ}
 use lib.ListN.{length}
 use borrow.Author.Tests.{le-leb, lt-leb, eq-eqb, ne_eqb}
 use Rattle.e8.specs.Energy.{energy}
-use Rattle.frames.specs.Reading.{open_message, message_after, energy_read}
+use Rattle.frames.specs.Reading.{message_after, energy_read}
 use Rattle.octets.specs.Same.{same_bytes}
 use Rattle.test_vectors.specs.declared.checks.Under.{Under}
 use Rattle.test_vectors.specs.Vector.{read_refusal, is_read_as, is_answered}

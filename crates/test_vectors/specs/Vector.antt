@@ -10,6 +10,24 @@ use Rattle.octets.specs.Same.{same_bytes}
 use Rattle.test_tally.specs.Tally.{Judgement}
 use Rattle.test_vectors.specs.declared.checks.Under.{Under}
 use Rattle.test_vectors.specs.declared.checks.Energies.{Energies}
+use Rattle.test_vectors.specs.declared.checks.Reading.{Reading}
+use Rattle.test_vectors.specs.declared.checks.Reading.TheVariants.{Openly, Strictly}
+use Rattle.test_vectors.specs.declared.Check.{Check}
+use Rattle.test_vectors.specs.declared.Check.TheVariants.{Record, Sent, Open, Strict, Passed, Refused, Whole, Half, One, Two, Four}
+
+-- the place of a check in the tally
+abbrev pub place : Check → ℕ
+place Record = 0
+place Sent = 1
+place Open = 2
+place Strict = 3
+place Passed = 4
+place Refused = 5
+place Whole = 6
+place Half = 7
+place One = 8
+place Two = 9
+place Four = 10
 
 -- ---- sending and reading
 
@@ -18,6 +36,11 @@ unfoldable pub is_sent_as : Under → List ℕ → List ℤ → ℕ → Bool
 is_sent_as u m f e =
     let sent = numbered_frame u.kind u.grade u.number m in
     leb (length f) 64 && (eqb (send_refusal u.kind u.grade 0 m (length f)) 0 && (eqb (energy sent) e && same_frame sent f))
+
+-- one of the two readings
+abbrev pub is_strict : Reading → Bool
+is_strict Openly = false
+is_strict Strictly = true
 
 -- what the strict reading or the open one answers of a frame; n message bytes are lent
 abbrev pub read_refusal : Bool → Under → List ℤ → ℕ → ℕ

@@ -7,111 +7,80 @@
 mod checks;
 mod record;
 
-ghost use Rattle.std.specs.Prelude.{◌≡◌};
-ghost use Rattle.test_tally.specs.Tally.{judged, GrownBy};
+ghost use Rattle.test_vectors.specs.Vector.{place};
 
-use std::os::fd::AsRawFd;
-use test_data::{STDOUT, open_data, write};
-use test_tally::DIFFERENT;
+use test_tally::{Checks, Records, judge, run};
 
 // The checks, by their places in the tally.
-const RECORD: usize = 0;
-
-const SENT: usize = 1;
-
-const OPEN: usize = 2;
-
-const STRICT: usize = 3;
-
-const PASSED: usize = 4;
-
-const REFUSED: usize = 5;
-
-const WHOLE: usize = 6;
-
-const HALF: usize = 7;
-
-const ONE: usize = 8;
-
-const TWO: usize = 9;
-
-const FOUR: usize = 10;
-
-fn write_name(check: usize) -> bool {
-    match check {
-        RECORD => write(b"vectors"),
-        SENT => write(b"sent"),
-        OPEN => write(b"read openly"),
-        STRICT => write(b"read strictly"),
-        PASSED => write(b"passed by the other parity"),
-        REFUSED => write(b"refused by the other parity"),
-        WHOLE => write(b"moved by a whole point"),
-        HALF => write(b"moved by a half point"),
-        ONE => write(b"moved by one"),
-        TWO => write(b"moved by two"),
-        FOUR => write(b"moved by four"),
-        _ => write(b"different"),
-    }
+#[derive(Clone, Copy)]
+enum Check {
+    Record,
+    Sent,
+    Open,
+    Strict,
+    Passed,
+    Refused,
+    Whole,
+    Half,
+    One,
+    Two,
+    Four,
 }
 
-// Counts a check. One that did not pass is a difference, and has a line with the number of its vector.
-fn judge(tally: &mut [u64; 16], number: u64, check: usize, passed: bool)
-    ensures { tally.new ≡ judged check passed tally.old }
-{
-    test_tally::judge(tally, check, passed);
-    if passed {
-        return;
+impl Checks for Check {
+    ghost place = { place };
+
+    fn place(self) -> usize {
+        self as usize
     }
-    write(b"different: ");
-    write_name(check);
-    write(b", number ");
-    io::print_decimal(STDOUT, number);
-    write(b"\n");
-}
 
-// A line for a check.
-fn print(tally: &[u64; 16], check: usize) {
-    if check < 16 {
-        write_name(check);
-        write(b" ");
-        io::print_decimal(STDOUT, tally[check]);
-        write(b"\n");
-    }
-}
-
-// A proved loop has to end, and nothing says that a file does: a longer file is reported.
-const MOST: u64 = 1000000;
-
-// Takes record after record, to the end of the file or to one that is not whole.
-fn take_all(fd: i32, tally: &mut [u64; 16])
-    ensures { GrownBy tally.old tally.new }
-{
-    let mut v: u64 = 0;
-    while v < MOST {
-        v += 1;
-        if !record::take(fd, v, tally) {
-            return;
+    fn name(self) -> &'static [u8] {
+        match self {
+            Check::Record => b"vectors",
+            Check::Sent => b"sent",
+            Check::Open => b"read openly",
+            Check::Strict => b"read strictly",
+            Check::Passed => b"passed by the other parity",
+            Check::Refused => b"refused by the other parity",
+            Check::Whole => b"moved by a whole point",
+            Check::Half => b"moved by a half point",
+            Check::One => b"moved by one",
+            Check::Two => b"moved by two",
+            Check::Four => b"moved by four",
         }
     }
-    judge(tally, v, RECORD, false);
+
+    fn record() -> &'static [u8] {
+        b"number"
+    }
+}
+
+impl Records<8> for Check {
+    fn take(fd: i32, v: u64, head: &[u8; 8], tally: &mut [u64; 16]) -> bool {
+        record::take(fd, v, head, tally)
+    }
+
+    fn cut(v: u64, tally: &mut [u64; 16]) {
+        judge(tally, v, Check::Record, false);
+    }
 }
 
 fn main(rt: HostRuntime) {
-    let mut tally = test_tally::zeros();
-    let Some(file) = open_data(&rt, "vectors.bin") else {
-        return;
-    };
-    take_all(file.as_raw_fd(), &mut tally);
-    print(&tally, RECORD);
-    print(&tally, SENT);
-    print(&tally, OPEN);
-    print(&tally, STRICT);
-    print(&tally, PASSED);
-    print(&tally, REFUSED);
-    print(&tally, WHOLE);
-    print(&tally, HALF);
-    print(&tally, ONE);
-    print(&tally, TWO);
-    print(&tally, FOUR);
-    print(&tally, DIFFERENT);
+    run(
+        &rt,
+        "vectors.bin",
+        &[
+            Check::Record,
+            Check::Sent,
+            Check::Open,
+            Check::Strict,
+            Check::Passed,
+            Check::Refused,
+            Check::Whole,
+            Check::Half,
+            Check::One,
+            Check::Two,
+            Check::Four,
+        ],
+    );
 }

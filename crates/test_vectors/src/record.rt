@@ -1,9 +1,10 @@
 // A record of the data: kind, grade, number, message, coordinates and energies, numbers lowest byte first.
 ghost use Rattle.test_tally.specs.Tally.{GrownBy};
 
+use super::Check;
 use super::checks::{Energies, Under, hold};
-use super::{RECORD, judge};
-use test_data::{count, fill, number, size};
+use test_data::{count, fill, number, size, take_from};
+use test_tally::judge;
 
 // Takes the coordinates and the energies, and puts the vector to the checks. Answers whether the record is whole, with room for it.
 fn take_frame(
@@ -28,7 +29,7 @@ fn take_frame(
     if !fill(fd, 24, &mut numbers) {
         return false;
     }
-    test_data::coordinates(&bytes, &mut frame);
+    take_from(&bytes, &mut frame);
     let energies = Energies {
         sent: number(&numbers[0..8]),
         whole: number(&numbers[8..16]),
@@ -53,20 +54,10 @@ fn take_rest(fd: i32, v: u64, under: Under, m: usize, tally: &mut [u64; 16]) -> 
     take_frame(fd, v, under, &message[0..m], n, tally)
 }
 
-// Takes record v, and answers whether there was one. A record that is cut short, or has more than 46 message bytes or 64
-// coordinates, is a difference, and the last one taken.
-pub fn take(fd: i32, v: u64, tally: &mut [u64; 16]) -> bool
+// Takes record v from its head on, and answers whether it is whole, with room for it: at most 46 message bytes and 64 coordinates.
+pub fn take(fd: i32, v: u64, head: &[u8; 8], tally: &mut [u64; 16]) -> bool
     ensures { GrownBy tally.old tally.new }
 {
-    let mut head = [0u8; 8];
-    let got = io::read_full(fd, &mut head);
-    if got == 0 {
-        return false;
-    }
-    if got < 8 {
-        judge(tally, v, RECORD, false);
-        return false;
-    }
     let under = Under {
         kind: head[0],
         grade: head[1],
@@ -74,6 +65,8 @@ pub fn take(fd: i32, v: u64, tally: &mut [u64; 16]) -> bool
         other: head[7],
     };
     let whole = take_rest(fd, v, under, size(head[2]), tally);
-    judge(tally, v, RECORD, whole);
+    if whole {
+        judge(tally, v, Check::Record, true);
+    }
     whole
 }
