@@ -16,6 +16,10 @@ ghost use Rattle.records.specs.Writing.{buffer_after};
 ghost use Rattle.records.specs.Reading.{frame_read};
 ghost use Rattle.answers.specs.Answer.{write_code, write_held, read_code, read_held, figures_of};
 
+use near_reading::NearReading;
+use recordings::Which;
+use refusals::Refusal;
+
 // Sending under a number, with free bits: the energy, or minus the refusal number.
 pub fn coder_send(
     kind: u8,
@@ -29,8 +33,7 @@ pub fn coder_send(
     ensures frame { frame.new ≡ send_frame kind grade free number message.now frame.old }
     ensures least { (e : ℕ) → result ≡ pos e → LeastOfFillings kind grade free number message.now frame.new e }
 {
-    let r = sending::send(kind, grade, number, free, message, frame);
-    answers::answer(r.number, r.energy)
+    answers::answered(sending::send(kind, grade, number, free, message, frame))
 }
 
 // The open reading, with free bits: the energy, or minus the refusal number.
@@ -38,8 +41,7 @@ pub fn coder_read_open(kind: u8, grade: u8, free: u8, frame: &[i32], message: &m
     ensures answer { result ≡ open_answer kind grade free frame.now (length message.old) }
     ensures message { message.new ≡ open_bytes kind grade free frame.now message.old }
 {
-    let r = reading::read_open(kind, grade, free, frame, message);
-    answers::answer(r.number, r.energy)
+    answers::answered(reading::read_open(kind, grade, free, frame, message))
 }
 
 // The strict reading under a number, with free bits: the energy, or minus the refusal number.
@@ -54,8 +56,7 @@ pub fn coder_read_strict(
     ensures answer { result ≡ strict_answer kind grade free number frame.now (length message.old) }
     ensures message { message.new ≡ strict_bytes kind grade free number frame.now message.old }
 {
-    let r = reading::read_strict(kind, grade, number, free, frame, message);
-    answers::answer(r.number, r.energy)
+    answers::answered(reading::read_strict(kind, grade, number, free, frame, message))
 }
 
 // Opening an account: 0, or minus the refusal number. The account goes to the four lent numbers, its changeover to `kept`; where it is refused, each is 0.
@@ -70,13 +71,13 @@ pub fn coder_open(
     ensures account { account_of count.new sum.new largest.new kept.new
         ≡ (opened_with changeover).account }
 {
-    let r = account::open(changeover);
-    let begun = r.account;
+    let opened = account::open(changeover);
+    let begun = opened.account;
     *count = begun.count;
     *sum = begun.sum;
     *largest = begun.largest;
     *kept = begun.changeover;
-    answers::answer(r.number, 0)
+    answers::answer(refusals::number(opened.answer), 0)
 }
 
 // Sending with free bits and an account that is held in three lent numbers, stored to on success only, and of a changeover, which stays: the energy, or
@@ -108,15 +109,17 @@ pub fn coder_send_counted(
         largest: *largest,
         changeover,
     };
-    let r = account::send_counted(kind, grade, free, message, frame, before);
-    if r.number != 0 {
-        return answers::answer(r.number, 0);
+    let counted = account::send_counted(kind, grade, free, message, frame, before);
+    match counted.answer {
+        Ok(energy) => {
+            let after = counted.account;
+            *count = after.count;
+            *sum = after.sum;
+            *largest = after.largest;
+            answers::answer(0, energy)
+        }
+        Err(refusal) => answers::answer(refusal.number(), 0),
     }
-    let after = r.account;
-    *count = after.count;
-    *sum = after.sum;
-    *largest = after.largest;
-    answers::answer(0, r.energy)
 }
 
 // Sending a queue with an account that is held in three lent numbers, and of a changeover, which stays: 0, or minus the refusal number. The number of
@@ -149,13 +152,13 @@ pub fn coder_send_queue(
         largest: *largest,
         changeover,
     };
-    let r = queue::send_queue(kind, grade, messages, frames, before);
-    let grown = r.account;
+    let queued = queue::send_queue(kind, grade, messages, frames, before);
+    let grown = queued.account;
     *count = grown.count;
     *sum = grown.sum;
     *largest = grown.largest;
-    *sent = r.sent;
-    answers::answer(r.number, 0)
+    *sent = queued.sent;
+    answers::answer(refusals::number(queued.answer), 0)
 }
 
 // The near reading of samples: 0, or minus the number. The squared distance goes to `distance`, stored to on success only.
@@ -170,14 +173,13 @@ pub fn coder_read_near(
     ensures message { message.new ≡ near_message kind grade samples.now message.old }
     ensures distance { distance.new ≡ near_held kind grade samples.now (length message.old) distance.old }
 {
-    let r = near_reading::read_near(kind, grade, samples, message);
-    match r {
-        near_reading::NearReading::Near(d) => {
+    match near_reading::read_near(kind, grade, samples, message) {
+        NearReading::Near(d) => {
             *distance = d;
             answers::answer(0, 0)
         }
-        near_reading::NearReading::Far => answers::answer(16, 0),
-        near_reading::NearReading::Refused(number) => answers::answer(number, 0),
+        NearReading::Far => answers::answer(Refusal::TooFar.number(), 0),
+        NearReading::Refused(refusal) => answers::answer(refusal.number(), 0),
     }
 }
 
@@ -185,11 +187,10 @@ pub fn coder_read_near(
 pub fn coder_closer(kind: u8, grade: u8, first: &[f32], second: &[f32]) -> i64
     ensures { result ≡ closer_code kind grade first.now second.now }
 {
-    let c = closer_recording::choose(kind, grade, first, second);
-    match c {
-        recordings::Chosen::First => answers::answer(0, 1),
-        recordings::Chosen::Second => answers::answer(0, 2),
-        recordings::Chosen::Neither(number) => answers::answer(number, 0),
+    match closer_recording::choose(kind, grade, first, second) {
+        Ok(Which::First) => answers::answer(0, 1),
+        Ok(Which::Second) => answers::answer(0, 2),
+        Err(neither) => answers::answer(neither.number(), 0),
     }
 }
 

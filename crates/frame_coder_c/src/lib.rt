@@ -1,4 +1,5 @@
 // The exported functions of the static library, which C calls: each is the function of that name of the crate frame_coder, with its clauses.
+// They stand beside their twins there, since the C interface needs each export by itself.
 #![tactic(auto)]
 
 ghost use Rattle.std.specs.Prelude.{◌≡◌, ℕ, pos, length};
