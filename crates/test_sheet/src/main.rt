@@ -32,22 +32,19 @@ fn list(fd: i32, v: u64) -> bool {
     write(b"sheet ");
     io::print_decimal(STDOUT, v);
     write(b"\n");
-    let printed = printing::write_listing(&sheet[0..n], STDOUT);
-    printed.whole
+    printing::write_listing(&sheet[0..n], STDOUT).whole
 }
 
 // Lists sheet after sheet, and answers how many there were.
 fn list_all(fd: i32) -> u64
     ensures { result ≤ 1000000 }
 {
-    let mut v: u64 = 0;
-    while v < MOST {
+    for v in 0..MOST {
         if !list(fd, v + 1) {
             return v;
         }
-        v += 1;
     }
-    v
+    MOST
 }
 
 // Prints the listing of the sheet in a file.

@@ -4,6 +4,17 @@ use Rattle.std.specs.Int.Bits.{bit_xor}
 use Rattle.std.specs.Int.Signed.{lt_z}
 use Rattle.frames.specs.Reading.{same_frame}
 use Rattle.answers.specs.Answer.{send_answer, send_frame}
+use Rattle.test_ways.specs.declared.Sort.{Sort}
+use Rattle.test_ways.specs.declared.Sort.TheVariants.{Alone, Sparse, Dense, Ties, Refused, Other}
+
+-- the place of a sort in the tally
+abbrev pub place : Sort → ℕ
+place Alone = 0
+place Sparse = 1
+place Dense = 2
+place Ties = 3
+place Refused = 4
+place Other = 15
 
 -- sent into two lent frames of the same length, which by their contracts answer one number: the frames come out the same; sort 4 is refused, and then
 -- nothing is written, and every other sort is sent

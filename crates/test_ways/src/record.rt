@@ -3,15 +3,17 @@
 ghost use Rattle.std.specs.Prelude.{◌≡◌, length};
 ghost use Rattle.answers.specs.Answer.{send_frame};
 ghost use Rattle.test_tally.specs.Tally.{GrownBy};
-ghost use Rattle.test_ways.specs.Both.{is_equal, nines, is_equal_in, is_equal_under};
+ghost use Rattle.test_ways.specs.Both.{is_equal, nines, is_equal_in, is_equal_under, place};
 
-use super::{REFUSED, file_differs, judge};
+use super::Sort;
 use test_data::{count, fill, same_coordinates, size};
+use test_tally::judge;
 
 // Sends a message both ways, into buffers that hold the same, and answers whether all came out equal, and as the sort has it: sent, or
 // refused with nothing written.
+#[tactic(auto, unfolding(crate::specs::Both::is_equal))]
 fn equal(
-    sort: usize,
+    sort: Sort,
     kind: u8,
     grade: u8,
     number: u32,
@@ -21,31 +23,23 @@ fn equal(
     before: &[i32],
 ) -> bool
     requires { length words.old ≡ length masks.old }
-    ensures equal { result ≡ is_equal sort kind grade number message.now words.old masks.old before.now }
+    ensures equal { result ≡ is_equal (place sort) kind grade number message.now words.old masks.old before.now }
     ensures words { words.new ≡ send_frame kind grade 0 number message.now words.old }
     ensures masks { masks.new ≡ send_frame kind grade 0 number message.now masks.old }
 {
     let new = frame_coder::coder_send(kind, grade, number, 0, message, words);
     let old = bench_plain::plain_send(kind, grade, number, message, masks);
-    if new != old {
+    if new != old || !same_coordinates(words, masks) {
         return false;
     }
-    if !same_coordinates(words, masks) {
-        return false;
+    match sort {
+        Sort::Refused => new < 0 && same_coordinates(words, before),
+        _ => 0 <= new,
     }
-    if new < 0 {
-        if sort != REFUSED {
-            return false;
-        }
-        return same_coordinates(words, before);
-    }
-    if sort == REFUSED {
-        return false;
-    }
-    true
 }
 
 // A frame of nines.
+#[tactic(auto, unfolding(crate::specs::Both::nines))]
 fn frame_of_nines() -> [i32; 64]
     ensures { (result ≡ nines) × (length result ≡ 64) }
 {
@@ -53,8 +47,9 @@ fn frame_of_nines() -> [i32; 64]
 }
 
 // The same with buffers of n coordinates, where there is room for them.
-fn equal_in(sort: usize, kind: u8, grade: u8, number: u32, message: &[u8], n: usize) -> bool
-    ensures { result ≡ is_equal_in sort kind grade number message.now n }
+#[tactic(auto, unfolding(crate::specs::Both::is_equal_in))]
+fn equal_in(sort: Sort, kind: u8, grade: u8, number: u32, message: &[u8], n: usize) -> bool
+    ensures { result ≡ is_equal_in (place sort) kind grade number message.now n }
 {
     let mut words = frame_of_nines();
     let mut masks = frame_of_nines();
@@ -75,31 +70,39 @@ fn equal_in(sort: usize, kind: u8, grade: u8, number: u32, message: &[u8], n: us
 }
 
 // The same under the number and under the one beside it, which has the other parity. There are no other sorts.
-fn equal_under(sort: usize, kind: u8, grade: u8, number: u32, message: &[u8], n: usize) -> bool
-    ensures { result ≡ is_equal_under sort kind grade number message.now n }
+#[tactic(auto, unfolding(crate::specs::Both::is_equal_under))]
+fn equal_under(sort: Sort, kind: u8, grade: u8, number: u32, message: &[u8], n: usize) -> bool
+    ensures { result ≡ is_equal_under (place sort) kind grade number message.now n }
 {
-    if REFUSED < sort {
-        return false;
+    match sort {
+        Sort::Other => false,
+        _ => equal_in(sort, kind, grade, number, message, n)
+            && equal_in(sort, kind, grade, number ^ 1, message, n),
     }
-    if !equal_in(sort, kind, grade, number, message, n) {
-        return false;
-    }
-    equal_in(sort, kind, grade, number ^ 1, message, n)
 }
 
-// Takes a record from its message on, and answers whether it is whole, with room for it.
-fn take_rest(fd: i32, v: u64, head: [u8; 9], tally: &mut [u64; 16]) -> bool
+// The sort of a number.
+fn sort_of(number: u8) -> Sort {
+    match number {
+        0 => Sort::Alone,
+        1 => Sort::Sparse,
+        2 => Sort::Dense,
+        3 => Sort::Ties,
+        4 => Sort::Refused,
+        _ => Sort::Other,
+    }
+}
+
+// Takes record v from its head on, and answers whether it is whole, with room for it: at most 47 message bytes.
+pub fn take(fd: i32, v: u64, head: &[u8; 9], tally: &mut [u64; 16]) -> bool
     ensures { GrownBy tally.old tally.new }
 {
     let mut message = [0u8; 47];
     let m = size(head[3]);
-    if 47 < m {
+    if 47 < m || !fill(fd, m, &mut message) {
         return false;
     }
-    if !fill(fd, m, &mut message) {
-        return false;
-    }
-    let sort = size(head[0]);
+    let sort = sort_of(head[0]);
     let number = count(&head[5..9]);
     let same = equal_under(
         sort,
@@ -110,26 +113,5 @@ fn take_rest(fd: i32, v: u64, head: [u8; 9], tally: &mut [u64; 16]) -> bool
         size(head[4]),
     );
     judge(tally, v, sort, same);
-    true
-}
-
-// Takes record v, and answers whether there was one. A record that is cut short, or has more than 47 message bytes, is a difference, and
-// the last one taken.
-pub fn take(fd: i32, v: u64, tally: &mut [u64; 16]) -> bool
-    ensures { GrownBy tally.old tally.new }
-{
-    let mut head = [0u8; 9];
-    let got = io::read_full(fd, &mut head);
-    if got == 0 {
-        return false;
-    }
-    if got < 9 {
-        file_differs(tally);
-        return false;
-    }
-    if !take_rest(fd, v, head, tally) {
-        file_differs(tally);
-        return false;
-    }
     true
 }
