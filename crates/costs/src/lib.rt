@@ -18,8 +18,8 @@ pub fn write_frame(samples: &[i32], a: u64, b: u64, frame: &mut [i32])
     requires { (length samples.now ≡ length frame.old) × (length samples.now ≤ 64) × Within 32768 samples.now }
     ensures { (p : ℕ) → p < length samples.now → get_or frame.new p (pos 0) ≡ candidate samples.now a b p }
 {
-    for (p, t) in samples.iter().enumerate() {
+    for p in 0..samples.len() {
         let c = bit(a, p) + 2 * bit(b, p);
-        frame[p] = nearest_number(*t, c);
+        frame[p] = nearest_number(samples[p], c);
     }
 }
