@@ -40,8 +40,10 @@ pub fn put_coordinates(frame: &[i32], out: &mut [u8], p: usize)
 {
     for i in 0..frame.len() / 2 {
         let at = p + 8 * i;
-        put_four(frame[2 * i].cast_unsigned(), out, at);
-        put_four(frame[2 * i + 1].cast_unsigned(), out, at + 4);
+        let first = frame[2 * i];
+        let second = frame[2 * i + 1];
+        put_four(first.cast_unsigned(), out, at);
+        put_four(second.cast_unsigned(), out, at + 4);
     }
 }
 
