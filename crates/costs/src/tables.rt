@@ -29,7 +29,8 @@ pub fn nearest_word(samples: &[i32], a: u64, costs: &mut [u32]) -> u64
         let c = bit(a, p);
         let zero = gap_of(t, c, 512);
         let one = gap_of(t, c + 2, 512);
-        if one < zero {
+        let set = one < zero;
+        if set {
             costs[2 * p] = one;
             costs[2 * p + 1] = zero;
             word = 2 * word + 1;

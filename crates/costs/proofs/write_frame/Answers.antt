@@ -16,6 +16,6 @@ loop-p-preserved c q l =
     let z = get_or c.args.samples.now c.loop-p.p (pos 0) in
     let back : to_z w32 (of_z w32 z) ≡ z = search rules in
     let written = tz {w = w32} refl (record { sfits = c.nearest_number.type_inv }) ∙ c.nearest_number.ensures
-        ∙ ap₂ (λ (y : ℤ) (r : ℕ). pos 4 *ℤ nearest 512 (y -ℤ pos (256 * r)) +ℤ pos r) back
-        (ap₂ (λ (x y : ℕ). x + 2 * y) c.bit.ensures c.bit-in-loop-p.ensures) in
+    ∙ ap₂ (λ (y : ℤ) (r : ℕ). pos 4 *ℤ nearest 512 (y -ℤ pos (256 * r)) +ℤ pos r) back
+    (ap₂ (λ (x y : ℕ). x + 2 * y) c.bit.ensures c.bit-in-loop-p.ensures) in
     stored_more (pos 0) (candidate c.args.samples.now c.args.a c.args.b) c.loop-p.frame c.loop-p.p _ (omega arith) written c.loop-p.invariant q l

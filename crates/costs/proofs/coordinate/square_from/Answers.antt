@@ -1,4 +1,4 @@
-use Rattle.std.proofs.Common.{◌≡◌, ◌*◌, ◌≤◌, ap, ap₂, ◌∙◌, ℤ, pos, ◌-ℤ◌, ◌*ℤ◌, nat_abs, w32, to_z, arith}
+use Rattle.std.proofs.Common.{◌≡◌, ◌≤◌, ap, ap₂, ◌∙◌, ℤ, pos, ◌-ℤ◌, ◌*ℤ◌, nat_abs, w32, to_z, arith}
 use mir.Facts.{to_z_pos}
 use Rattle.integers.proofs.Zed.{tz}
 use Rattle.e8.specs.Energy.{sq}

@@ -1,4 +1,4 @@
-use Rattle.std.proofs.Common.{◌≡◌, ℕ, ◌+◌, ◌-◌, ◌*◌, ◌≤◌, ◌<◌, get_or, sym, ap₂, ◌∙◌, inr, refl, subst, ℤ, pos, ◌-ℤ◌, nat_abs, w32, to_z, of_z, arith, rules}
+use Rattle.std.proofs.Common.{◌≡◌, ℕ, ◌+◌, ◌-◌, ◌*◌, ◌≤◌, get_or, sym, ap₂, ◌∙◌, inr, refl, subst, ℤ, pos, ◌-ℤ◌, nat_abs, w32, to_z, of_z, arith, rules}
 use Rattle.e8.proofs.Within.{within-at}
 use Rattle.bits.specs.Number.{bit_of}
 use Rattle.costs.specs.Costs.{gap, cost_at}
@@ -19,8 +19,8 @@ gap_of-one-requires c =
     let back : to_z w32 (of_z w32 z) ≡ z = search rules in
     (subst (λ (y : ℤ). nat_abs y ≤ 32768) (sym back) (within-at 32768 c.args.samples.now q c.requires.2), omega (arith, c.bit-c.ensures), inr refl)
 
-pub loop-p-preserved-then-one-zero : goal.loop-p-preserved-then-one-zero
-loop-p-preserved-then-one-zero c =
+pub loop-p-preserved-then-set : goal.loop-p-preserved-then-set
+loop-p-preserved-then-set c =
     let ts = c.args.samples.now in
     let q : ℕ = c.loop-p.p - 1 in
     let z = get_or ts q (pos 0) in

@@ -1,4 +1,4 @@
-use Rattle.std.proofs.Common.{◌≡◌, ℕ, ◌+◌, ◌*◌, ◌/◌, ◌%◌, ◌≤◌, ◌<◌, length, get_or, sym, ap, ap₂, ◌∙◌, inl, refl, subst, ℤ, pos, ◌-ℤ◌, nat_abs, w32, to_z, of_z, arith, rules}
+use Rattle.std.proofs.Common.{◌≡◌, ◌+◌, ◌*◌, ◌/◌, ◌%◌, ◌≤◌, ◌<◌, length, get_or, sym, ap, ap₂, ◌∙◌, inl, refl, subst, ℤ, pos, ◌-ℤ◌, nat_abs, w32, to_z, of_z, arith, rules}
 use Rattle.e8.proofs.Within.{within-at}
 use Rattle.costs.specs.Costs.{gap, cost_at}
 use Rattle.costs.proofs.Stored.{stored-two}
