@@ -1,4 +1,5 @@
-use Rattle.std.proofs.Common.{◌≡◌, ℕ, ◌+◌, ◌-◌, ◌*◌, ◌/◌, ◌%◌, ◌^◌, ◌≤◌, ◌<◌, List, map, length, get_or, sym, ap, subst, ◌∙◌, ℤ, pos, nat_abs, true, take, drop, arith}
+use Rattle.std.proofs.Common.{◌≡◌, ℕ, ◌+◌, ◌-◌, ◌*◌, ◌/◌, ◌%◌, ◌^◌, ◌≤◌, ◌<◌}
+use Rattle.std.proofs.Common.{List, map, length, get_or, sym, ap, subst, ◌∙◌, ℤ, pos, nat_abs, true, take, drop, arith}
 use lib.Dec.{T}
 use lib.Signed.{non_neg}
 use Rattle.bits.specs.Number.{number}
@@ -22,7 +23,8 @@ use Rattle.frame_message.proofs.Writing.{Carried, carried-length, carried-ext, c
 use Rattle.frame_message.proofs.write_message.Goals as goal
 
 -- the numbers of a block
-numbers-are : (k b j : ℕ) (f : List ℤ) {a : ℕ} {ns : List ℤ} → a ≡ levels k → ns ≡ ints (reduced (2 ^ (b - 1)) (quotients a (take (8 * j + 8 - 8 * j) (drop (8 * j) f))))
+numbers-are : (k b j : ℕ) (f : List ℤ) {a : ℕ} {ns : List ℤ} → a ≡ levels k
+    → ns ≡ ints (reduced (2 ^ (b - 1)) (quotients a (take (8 * j + 8 - 8 * j) (drop (8 * j) f))))
     → ns ≡ ints (reduced (2 ^ (b - 1)) (part j (quotients (levels k) f)))
 numbers-are k b j f {a} e is =
     is ∙ ap (λ (x : List ℤ). ints (reduced (2 ^ (b - 1)) (quotients a x))) (part-is j f)

@@ -29,7 +29,8 @@ loop-p-preserved-then-set c =
     c.gap_of-zero.ensures ∙ ap₂ (λ (y : ℤ) (b : ℕ). gap 512 (y -ℤ pos (256 * b))) back c.bit-c.ensures in
     let change : c.gap_of-one.result ≡ cost_at 512 ts q (bit_of c.args.a q + 2) =
     c.gap_of-one.ensures ∙ ap₂ (λ (y : ℤ) (b : ℕ). gap 512 (y -ℤ pos (256 * (b + 2)))) back c.bit-c.ensures in
-    chosen-one ts c.args.a c.loop-p.costs c.loop-p.word c.loop-p.p c.loop-p.invariant c.loop-p-test.true c.gap_of-zero.result c.gap_of-one.result keep change (omega arith)
+    chosen-one ts c.args.a c.loop-p.costs c.loop-p.word c.loop-p.p c.loop-p.invariant
+    c.loop-p-test.true c.gap_of-zero.result c.gap_of-one.result keep change (omega arith)
 
 pub loop-p-preserved : goal.loop-p-preserved
 loop-p-preserved c =
@@ -41,7 +42,8 @@ loop-p-preserved c =
     c.gap_of-zero.ensures ∙ ap₂ (λ (y : ℤ) (b : ℕ). gap 512 (y -ℤ pos (256 * b))) back c.bit-c.ensures in
     let change : c.gap_of-one.result ≡ cost_at 512 ts q (bit_of c.args.a q + 2) =
     c.gap_of-one.ensures ∙ ap₂ (λ (y : ℤ) (b : ℕ). gap 512 (y -ℤ pos (256 * (b + 2)))) back c.bit-c.ensures in
-    chosen-zero ts c.args.a c.loop-p.costs c.loop-p.word c.loop-p.p c.loop-p.invariant c.loop-p-test.true c.gap_of-zero.result c.gap_of-one.result keep change (omega arith)
+    chosen-zero ts c.args.a c.loop-p.costs c.loop-p.word c.loop-p.p c.loop-p.invariant
+    c.loop-p-test.true c.gap_of-zero.result c.gap_of-one.result keep change (omega arith)
 
 pub returns-clause-word : goal.returns-clause-word
 returns-clause-word c =

@@ -1,4 +1,5 @@
-use Rattle.std.proofs.Common.{◌≡◌, ◌+◌, ◌*◌, ◌/◌, ◌%◌, ◌≤◌, ◌<◌, length, get_or, sym, ap, ap₂, ◌∙◌, inl, refl, subst, ℤ, pos, ◌-ℤ◌, nat_abs, w32, to_z, of_z, arith, rules}
+use Rattle.std.proofs.Common.{◌≡◌, ◌+◌, ◌*◌, ◌/◌, ◌%◌, ◌≤◌, ◌<◌, length, get_or, sym, ap, ap₂, ◌∙◌, inl, refl, subst}
+use Rattle.std.proofs.Common.{ℤ, pos, ◌-ℤ◌, nat_abs, w32, to_z, of_z, arith, rules}
 use Rattle.e8.proofs.Within.{within-at}
 use Rattle.costs.specs.Costs.{gap, cost_at}
 use Rattle.costs.proofs.Stored.{stored-two}
@@ -32,7 +33,8 @@ loop-p-preserved c i h =
     let odd : c.gap_of-in-loop-p.result ≡ cost_at 256 ts ((2 * p + 1) / 2) ((2 * p + 1) % 2) =
     c.gap_of-in-loop-p.ensures ∙ ap (λ (y : ℤ). gap 256 (y -ℤ pos (256 * 1))) back ∙ ap₂ (cost_at 256 ts) q' r' in
     let room : 2 * p + 1 < length c.loop-p.costs = omega arith in
-    stored-two 0 (λ i. cost_at 256 ts (i / 2) (i % 2)) c.loop-p.costs (2 * p) c.gap_of.result c.gap_of-in-loop-p.result room even odd c.loop-p.invariant i (omega arith)
+    stored-two 0 (λ i. cost_at 256 ts (i / 2) (i % 2)) c.loop-p.costs (2 * p) c.gap_of.result c.gap_of-in-loop-p.result
+    room even odd c.loop-p.invariant i (omega arith)
 
 pub returns : goal.returns
 returns c =
