@@ -30,16 +30,12 @@ pub fn packed(s: [i32; 8], grade: usize) -> u64
     requires { (1 ≤ grade) × (grade ≤ 4) × ((i : ℕ) → T (non_neg (get_or s i (pos 0)))) }
     ensures { result ≡ number (8 * grade) (λ t. get_or (all_digits (widths grade) (map nat_abs s)) t 0) }
 {
-    if grade == 1 {
-        return packed_by(s, 1);
+    match grade {
+        1 => packed_by(s, 1),
+        2 => packed_by(s, 2),
+        3 => packed_by(s, 3),
+        _ => packed_by(s, 4),
     }
-    if grade == 2 {
-        return packed_by(s, 2);
-    }
-    if grade == 3 {
-        return packed_by(s, 3);
-    }
-    packed_by(s, 4)
 }
 
 // A block's coordinates without their level bits, divided by 2^a.
@@ -47,14 +43,7 @@ pub fn floor_quotients(a: usize, x: [i32; 8]) -> [i32; 8]
     requires { a < 32 }
     ensures { result ≡ quotients a x }
 {
-    let mut r = x;
-    let mut i: usize = 0;
-    while i < 8 {
-        let z = x[i];
-        r[i] = z >> a;
-        i += 1;
-    }
-    r
+    x.map(|z| z >> a)
 }
 
 // A block, reduced to its numbers s1 to s8.

@@ -7,6 +7,8 @@ ghost use Rattle.e8.specs.Energy.{Within};
 ghost use Rattle.e8.specs.Lattice.{bit};
 ghost use Rattle.mending.specs.Rounded.{across, whole_first, member_of, members};
 
+use std::array;
+
 // One of two numbers.
 fn choose(t: bool, a: i32, b: i32) -> i32
     ensures { result ≡ cond t a b }
@@ -35,14 +37,7 @@ pub fn candidate(at: i32, elsewhere: i32, t: i32, c: [i32; 8]) -> [i32; 8]
     requires { (nat_abs at ≤ 2 ^ 7) × (nat_abs elsewhere ≤ 2 ^ 7) × (t ≡ pos (nat_abs t)) × Within (2 ^ 7) c }
     ensures { result ≡ members at elsewhere (nat_abs t) 0 c }
 {
-    let mut r = c;
-    let mut i: usize = 0;
-    while i < 8 {
-        let z = c[i];
-        r[i] = member(at, elsewhere, t, z, i);
-        i += 1;
-    }
-    r
+    array::from_fn(|i| member(at, elsewhere, t, c[i], i))
 }
 
 // What changing a coordinate costs, where the sum leaves a remainder; nothing where it does not.
@@ -88,13 +83,5 @@ pub fn chosen(t: i32, a: [i32; 8], b: [i32; 8]) -> [i32; 8]
     requires { (t ≡ pos (bit (lt_z (pos 0) t))) × Within (2 ^ 8) a × Within (2 ^ 8) b }
     ensures { result ≡ cond (lt_z (pos 0) t) a b }
 {
-    let mut r = a;
-    let mut i: usize = 0;
-    while i < 8 {
-        let x = a[i];
-        let y = b[i];
-        r[i] = pick(t, x, y);
-        i += 1;
-    }
-    r
+    array::from_fn(|i| pick(t, a[i], b[i]))
 }

@@ -1,7 +1,7 @@
 -- What samples cost, cited by the contracts of these functions and of `search`: the nearest multiple of an even number, and the squared distances
 -- of samples from the numbers that level words leave. A word is held in a number: bit p is its value at p. Samples are counted in 256ths, squared
 -- distances in parts of 1 / 65,536. Assumes nothing.
-use Rattle.std.specs.Prelude.{ℕ, ◌+◌, ◌*◌, ◌/◌, ◌%◌, ◌^◌, ◌≡◌, ◌⊎◌, List, ltb, length, get_or, ℤ, pos, ◌+ℤ◌, ◌-ℤ◌, ◌*ℤ◌}
+use Rattle.std.specs.Prelude.{ℕ, ◌+◌, ◌*◌, ◌/◌, ◌%◌, ◌≡◌, ◌⊎◌, List, ltb, length, get_or, ℤ, pos, ◌+ℤ◌, ◌-ℤ◌, ◌*ℤ◌}
 use Rattle.std.specs.Int.Signed.{shr_z}
 use Rattle.bits.specs.Number.{sum_to, table, number, given, bit_of}
 use Rattle.e8.specs.Energy.{sq}

@@ -18,13 +18,8 @@ pub fn write_frame(samples: &[i32], a: u64, b: u64, frame: &mut [i32])
     requires { (length samples.now ≡ length frame.old) × (length samples.now ≤ 64) × Within 32768 samples.now }
     ensures { (p : ℕ) → p < length samples.now → get_or frame.new p (pos 0) ≡ candidate samples.now a b p }
 {
-    let n = samples.len();
-    let mut p: usize = 0;
-    while p < n {
-        let t = samples[p];
+    for p in 0..samples.len() {
         let c = bit(a, p) + 2 * bit(b, p);
-        let z = nearest_number(t, c);
-        frame[p] = z;
-        p += 1;
+        frame[p] = nearest_number(samples[p], c);
     }
 }

@@ -11,13 +11,9 @@ pub fn parity_costs(samples: &[i32], costs: &mut [u32])
     requires { (length costs.old ≡ 2 * length samples.now) × (length samples.now ≤ 64) × Within 32768 samples.now }
     ensures { costs.new ≡ parity_costs samples.now }
 {
-    let n = samples.len();
-    let mut p: usize = 0;
-    while p < n {
-        let t = samples[p];
-        costs[2 * p] = gap_of(t, 0, 256);
-        costs[2 * p + 1] = gap_of(t, 1, 256);
-        p += 1;
+    for (p, t) in samples.iter().enumerate() {
+        costs[2 * p] = gap_of(*t, 0, 256);
+        costs[2 * p + 1] = gap_of(*t, 1, 256);
     }
 }
 
@@ -28,14 +24,13 @@ pub fn nearest_word(samples: &[i32], a: u64, costs: &mut [u32]) -> u64
     ensures costs { costs.new ≡ change_costs samples.now a (nearest_word samples.now a) }
 {
     let mut word: u64 = 0;
-    let mut p = samples.len();
-    while 0 < p {
-        p -= 1;
+    for p in (0..samples.len()).rev() {
         let t = samples[p];
         let c = bit(a, p);
         let zero = gap_of(t, c, 512);
         let one = gap_of(t, c + 2, 512);
-        if one < zero {
+        let set = one < zero;
+        if set {
             costs[2 * p] = one;
             costs[2 * p + 1] = zero;
             word = 2 * word + 1;

@@ -229,3 +229,7 @@ none_last a b l some =
     let zero-filling : quiet_of a b 0 x ≡ 0 = omega (arith, quiet-below a b 0 x) in
     ap (λ (y : List ℤ). take (length l - 8) l ++ y) (ap (λ (φ : ℕ). filled_block a b 0 φ x) zero-filling ∙ none_filled a b x (simp length-drop (omega arith)))
     ∙ take-append-drop (length l - 8) l
+
+-- a filling of no bits changes nothing
+pub unfilled : (a b f : ℕ) (l : List ℤ) → f ≡ 0 → 8 ≤ length l → l ≡ quiet_last a b f l
+unfilled a b f l none h = sym (ap (λ (n : ℕ). quiet_last a b n l) none ∙ none_last a b l h)

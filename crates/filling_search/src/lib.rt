@@ -99,6 +99,7 @@ pub fn is_quietest(a: usize, grade: usize, free: usize, phi: usize, x: [i32; 8])
 }
 
 // Puts the filling that is taken into a leader whose free bits are 0, with a levels below its numbers. Where no bit is free, nothing is searched.
+#[tactic(auto, using(crate::proofs::Tried::unfilled))]
 pub fn fill_last(a: usize, grade: usize, free: usize, leader: &mut [i32])
     requires { (1 ≤ a) × (a ≤ 3) × (1 ≤ grade) × (grade ≤ 4) × (free ≤ 4) × (8 ≤ length leader.old) × Within (2 ^ 9) leader.old }
     ensures { leader.new ≡ quiet_last a grade free leader.old }

@@ -6,16 +6,15 @@ use mathlib.Core.List.{List, [], ◌∷◌, ◌++◌, append_assoc}
 use native.Mathlib.Nat.{mod-eq_of_lt, div-div-eq-div-mul}
 use native.Mathlib.Omega.{arith}
 use lib.Dec.{ltb}
-use lib.IntN.{ℤ, pos, negsuc, ◌+ℤ◌, ◌-ℤ◌}
+use lib.IntN.{ℤ, pos, negsuc}
 use lib.ListN.{length, get_or, take, drop}
 use lib.Seq.{get_or-drop}
-use lib.Signed.{mag}
-use mir.Syntax.{w32, w64}
-use mir.Val.{SFits, to_z, of_z}
-use mir.Facts.{to_z_pos}
+use mir.Syntax.{w32}
+use mir.Val.{Fits, SFits, to_z, of_z}
+use mir.Facts.{of_z-to_z}
 use borrow.Author.Tests.{lt-ltb, le-ltb, ltb-true, ltb-false}
 use Rattle.integers.specs.Integer.{mod_z}
-use Rattle.integers.proofs.Zed.{`◌, #◌, ◌⊕◌, ◌⊖◌, eq!, tz}
+use Rattle.integers.proofs.Zed.{`◌, #◌, ◌⊖◌, eq!}
 use Rattle.four_bytes.specs.FourBytes.{four_bytes, of_four, four_at, twos, signed, coordinate_bytes, coordinates_from}
 
 -- ---- four bytes
@@ -79,57 +78,15 @@ signed-twos (negsuc n) f =
     let b : 4294967295 - (4294967295 - n) ≡ n = omega (arith, f.sfits) in
     ap signed e ∙ signed_high (4294967295 - n) (omega (arith, f.sfits)) (omega arith) ∙ ap negsuc b
 
--- what is read is in the range of 32 bits
-signed-go : (w : ℕ) → w < 4294967296 → (t : Bool) → ltb w 2147483648 ≡ t → mag (signed w) < 2147483648
-signed-go w h true e = rw (signed_low w (ltb-true w 2147483648 e)) (ltb-true w 2147483648 e)
-signed-go w h false e = rw (signed_high w (ltb-false w 2147483648 e) h) (omega (arith, ltb-false w 2147483648 e))
+-- ---- the same as the casts of the library
 
-pub signed-fits : (w : ℕ) → w < 4294967296 → SFits w32 (signed w)
-signed-fits w h = record { sfits = signed-go w h (ltb w 2147483648) refl }
-
--- ---- the same by sums, as the code has it
-
--- z + 2^32, which is never negative
-abbrev pub lifted : ℤ → ℕ
-lifted (pos n) = n + 4294967296
-lifted (negsuc n) = 4294967296 - suc n
-
-module _ (z : ℤ) (f : SFits w32 z) where
-  pub wide : SFits w64 z
-  wide = record { sfits = omega (arith, f.sfits) }
-
-lifted-is : (z : ℤ) → SFits w32 z → z +ℤ pos 4294967296 ≡ pos (lifted z)
-lifted-is (pos n) f = refl
-lifted-is (negsuc n) f = eq! (` (negsuc n) ⊕ # 4294967296) (# (4294967296 - suc n)) (omega (arith, f.sfits))
-
-pub lifted-below : (z : ℤ) → SFits w32 z → lifted z < 8589934592
-lifted-below (pos n) f = omega (arith, f.sfits)
-lifted-below (negsuc n) f = omega arith
-
-pub lifted-twos : (z : ℤ) → SFits w32 z → lifted z % 4294967296 ≡ twos z
+pub twos-is : (z : ℤ) → SFits w32 z → twos z ≡ of_z w32 z
 unfolding twos
-lifted-twos (pos n) f = omega (arith, f.sfits)
-lifted-twos (negsuc n) f = omega (arith, f.sfits)
+twos-is (pos n) f = omega (arith, f.sfits)
+twos-is (negsuc n) f = omega (arith, f.sfits)
 
--- z as the code reads it, made wider
-pub wide_read : (z : ℤ) → SFits w32 z → to_z w64 (of_z w64 (to_z w32 (of_z w32 z))) +ℤ pos 4294967296 ≡ pos (lifted z)
-wide_read z f = ap (λ (y : ℤ). y +ℤ pos 4294967296) (tz (tz refl f) (wide z f)) ∙ lifted-is z f
-
-pub lifted-fits : (z : ℤ) → SFits w32 z → SFits w64 (pos (lifted z))
-lifted-fits z f = record { sfits = omega (arith, lifted-below z f) }
-
-pub lifted-read : (z : ℤ) → SFits w32 z
-    → to_z w64 (of_z w64 (to_z w64 (of_z w64 (to_z w32 (of_z w32 z))) +ℤ pos 4294967296)) ≡ pos (lifted z)
-lifted-read z f = tz (wide_read z f) (lifted-fits z f)
-
--- and back, from 2^31 on
-module _ (w : ℕ) (h : 2147483648 ≤ w) (l : w < 4294967296) where
-  pub less : to_z w64 w -ℤ pos 4294967296 ≡ signed w
-  unfolding signed
-  less = ap (λ (y : ℤ). y -ℤ pos 4294967296) (to_z_pos w64 {n = w} (omega arith)) ∙ rw (le-ltb w 2147483648 h)
-
-  pub less-fits : SFits w64 (signed w)
-  less-fits = wide (signed w) (signed-fits w l)
+pub signed-is : {z : ℤ} {w : ℕ} → Fits w32 w → SFits w32 z → z ≡ to_z w32 w → z ≡ signed w
+signed-is {z} f g e = sym (signed-twos z g) ∙ ap signed (twos-is z g ∙ ap (of_z w32) e ∙ of_z-to_z f)
 
 -- ---- the bytes of coordinates
 

@@ -23,15 +23,13 @@ fn block_energy(part: &[i32]) -> u64
 {
     let mut even: f64 = 0.0;
     let mut odd: f64 = 0.0;
-    let mut i: usize = 0;
-    while i < 4 {
+    for i in 0..4 {
         let p = 2 * i;
         let q = p + 1;
         let y = part[p];
         let z = part[q];
-        even = even + square(y);
-        odd = odd + square(z);
-        i += 1;
+        even += square(y);
+        odd += square(z);
     }
     let sum = (even + odd) as i64;
     sum as u64
@@ -44,12 +42,10 @@ pub fn energy_by_blocks(frame: &[i32]) -> u64
 {
     let n = frame.len() / 8;
     let mut sum: u64 = 0;
-    let mut j: usize = 0;
-    while j < n {
+    for j in 0..n {
         let s = 8 * j;
         let e = s + 8;
         sum += block_energy(&frame[s..e]);
-        j += 1;
     }
     sum
 }

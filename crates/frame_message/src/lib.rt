@@ -17,40 +17,26 @@ pub fn write_levels(kind: u8, words: [u64; 3], out: &mut [u8]) -> u64
     ensures out { out.new ≡ written_over (level_bits kind / 8) (held_messages kind 0 (degrees kind) words) out.old }
     ensures rest { result ≡ number (level_bits kind % 8) (λ t. get_or (held_messages kind 0 (degrees kind) words) (8 * (level_bits kind / 8) + t) 0) }
 {
-    if kind == 3 {
-        return level_message::message_held(words[0], 3, 4);
+    match kind {
+        3 => level_message::message_held(words[0], 3, 4),
+        4 => {
+            let low = level_message::message_held(words[0], 4, 5);
+            let high = level_message::message_held(words[1], 4, 15);
+            bits::put_bytes(low ^ (high << 5), 2, out, 0)
+        }
+        5 => {
+            let low = level_message::message_held(words[0], 5, 6);
+            let high = level_message::message_held(words[1], 5, 26);
+            bits::put_bytes(low ^ (high << 6), 4, out, 0)
+        }
+        _ => {
+            let low = level_message::message_held(words[0], 6, 7);
+            let middle = level_message::message_held(words[1], 6, 42);
+            let high = level_message::message_held(words[2], 6, 63);
+            let rest = bits::put_bytes(low ^ (middle << 7), 6, out, 0);
+            bits::put_bytes(rest ^ (high << 1), 8, out, 6)
+        }
     }
-    if kind == 4 {
-        let low = level_message::message_held(words[0], 4, 5);
-        return bits::put_bytes(
-            low ^ (level_message::message_held(words[1], 4, 15) << 5),
-            2,
-            out,
-            0,
-        );
-    }
-    if kind == 5 {
-        let low = level_message::message_held(words[0], 5, 6);
-        return bits::put_bytes(
-            low ^ (level_message::message_held(words[1], 5, 26) << 6),
-            4,
-            out,
-            0,
-        );
-    }
-    let low = level_message::message_held(words[0], 6, 7);
-    let rest = bits::put_bytes(
-        low ^ (level_message::message_held(words[1], 6, 42) << 7),
-        6,
-        out,
-        0,
-    );
-    bits::put_bytes(
-        rest ^ (level_message::message_held(words[2], 6, 63) << 1),
-        8,
-        out,
-        6,
-    )
 }
 
 // The whole message: every lent byte, spare bits 0. The bits of a byte that is begun are carried in `rest` from piece to piece,
@@ -62,19 +48,15 @@ pub fn write_message(kind: u8, grade: u8, frame: &[i32], words: [u64; 3], out: &
 {
     let a = kind_table::levels(kind);
     let b = grade as usize;
-    let n = frame.len() / 8;
     let count = kind_table::level_bits(kind);
     let over = count % 8;
     let mut at = count / 8;
     let mut rest = write_levels(kind, words, out);
-    let mut j: usize = 0;
-    while j < n {
+    for j in 0..frame.len() / 8 {
         let s = 8 * j;
-        let e = s + 8;
-        let numbers = block_numbers(a, b, &frame[s..e]);
+        let numbers = block_numbers(a, b, &frame[s..s + 8]);
         rest = bits::put_bytes(rest ^ (packed(numbers, b) << over), b, out, at);
         at += b;
-        j += 1;
     }
     if over != 0 {
         bits::put_bytes(rest, 1, out, at);

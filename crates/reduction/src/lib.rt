@@ -11,14 +11,7 @@ fn lowered(h: i32, x: [i32; 8]) -> [i32; 8]
     requires { (nat_abs h ≤ 2 ^ 25) × Within (2 ^ 24) x }
     ensures { result ≡ lowered h x }
 {
-    let mut r = x;
-    let mut i: usize = 0;
-    while i < 8 {
-        let v = x[i];
-        r[i] = v - h;
-        i += 1;
-    }
-    r
+    x.map(|v| v - h)
 }
 
 // The rows of matrix (39) after the first, taken off a block, for h = 2^k: each changes its own place and the last.

@@ -29,12 +29,9 @@ fn to_256ths(x: f32) -> i32
 pub fn all_fit(samples: &[f32]) -> bool
     ensures { result ≡ all_fit samples.now }
 {
-    let mut out: u32 = 0;
-    let mut i: usize = 0;
-    while i < samples.len() {
-        let x = samples[i];
-        out = out | unfit(x);
-        i += 1;
+    let mut out = 0;
+    for x in samples {
+        out |= unfit(*x);
     }
     out == 0
 }
@@ -44,11 +41,7 @@ pub fn all_256ths(samples: &[f32], out: &mut [i32])
     requires { (length samples.now ≡ length out.old) × (all_fit samples.now ≡ true) }
     ensures { out.new ≡ samples_in_256ths samples.now }
 {
-    let mut i: usize = 0;
-    while i < samples.len() {
-        let x = samples[i];
-        let z = to_256ths(x);
-        out[i] = z;
-        i += 1;
+    for (i, x) in samples.iter().enumerate() {
+        out[i] = to_256ths(*x);
     }
 }

@@ -30,7 +30,7 @@ fn signed(turn: bool, z: i32) -> i32
     requires { nat_abs z ≤ 2 ^ 24 }
     ensures { result ≡ cond turn (neg_ℤ z) z }
 {
-    if turn { 0 - z } else { z }
+    if turn { -z } else { z }
 }
 
 // A block, likewise.
@@ -38,14 +38,7 @@ fn turned(turn: bool, x: [i32; 8]) -> [i32; 8]
     requires { Within (2 ^ 24) x }
     ensures { result ≡ cond turn (negated x) x }
 {
-    let mut r = x;
-    let mut i: usize = 0;
-    while i < 8 {
-        let z = x[i];
-        r[i] = signed(turn, z);
-        i += 1;
-    }
-    r
+    x.map(|z| signed(turn, z))
 }
 
 // The member of a block's class that is sent by either tie rule: among equals the first in reading order, or where `last` is set the last, which is the
@@ -60,20 +53,18 @@ fn least_by(last: bool, k: u32, x: [i32; 8]) -> [i32; 8]
 }
 
 // Shapes a frame in place, block by block, for the scale M = 2^(k + 1), by either tie rule. In the library `least` is called for this alone and has no
-// branch: the compiler lays it into the loop, and takes four blocks side by side.
+// branch: the compiler lays it into the loop, and takes four blocks side by side. By index: of what `chunks_exact_mut` lends nothing is known afterwards.
 pub fn shape(last: bool, k: u32, frame: &mut [i32])
     requires { (k ≤ 6) × (length frame.old % 8 ≡ 0) × (length frame.old ≤ 1024)
         × Within (2 ^ 24) frame.old × (8 ≤ length frame.old) }
     ensures { frame.new ≡ least_frame_by last (2 ^ k) (length frame.old / 8) frame.old }
 {
     let all = frame.len() / 8;
-    let mut j: usize = 0;
-    while j < all {
+    for j in 0..all {
         let s = 8 * j;
         let e = s + 8;
         let x = coordinates::load(&frame[s..e]);
         let y = least_by(last, k, x);
         coordinates::store(y, &mut frame[s..e]);
-        j += 1;
     }
 }

@@ -12,12 +12,8 @@ fn copy_part(frame: &[i32], copy: &mut [i32], a: usize, n: usize)
     requires { (a + n ≤ 64) × (a + n ≤ length frame.now) × (length copy.old ≡ length frame.now) × (take a copy.old ≡ take a frame.now) }
     ensures { copy.new ≡ take (a + n) frame.now ++ drop (a + n) copy.old }
 {
-    let mut i: usize = 0;
-    while i < n {
-        let p = a + i;
-        let z = frame[p];
-        copy[p] = z;
-        i += 1;
+    for p in a..a + n {
+        copy[p] = frame[p];
     }
 }
 
@@ -46,7 +42,7 @@ pub fn copied(kind: u8, frame: &[i32], copy: &mut [i32])
 fn differs(a: i32, b: i32) -> u32
     ensures { result ≡ cond (same_number a b) 0 1 }
 {
-    if a != b { 1 } else { 0 }
+    u32::from(a != b)
 }
 
 // Whether two frames of the same length are the same. Every coordinate is compared, so that the compiler takes many at once.
@@ -54,14 +50,9 @@ fn same(a: &[i32], b: &[i32]) -> bool
     requires { length a.now ≡ length b.now }
     ensures { result ≡ same_frame a.now b.now }
 {
-    let n = a.len();
-    let mut d: u32 = 0;
-    let mut i: usize = 0;
-    while i < n {
-        let z = a[i];
-        let y = b[i];
-        d = d | differs(z, y);
-        i += 1;
+    let mut d = 0;
+    for i in 0..a.len() {
+        d |= differs(a[i], b[i]);
     }
     d == 0
 }

@@ -18,12 +18,9 @@ pub fn put_text(out: &mut [u8], at: usize, s: &[u8]) -> usize
     requires { at + length s.now ≤ length out.old }
     ensures { Put out.old at s.now result out.new }
 {
-    let mut i: usize = 0;
-    while i < s.len() {
-        out[at + i] = s[i];
-        i += 1;
-    }
-    at + i
+    let end = at + s.len();
+    out[at..end].copy_from_slice(s);
+    end
 }
 
 // A number in decimal.
@@ -36,25 +33,18 @@ pub fn put_decimal(out: &mut [u8], at: usize, n: u64) -> usize
     put_text(out, at, &text[..k])
 }
 
-// The absolute value, also of the least number.
-fn magnitude(z: i32) -> u64
-    ensures { result ≡ nat_abs z }
-{
-    let w = z as i64;
-    if w < 0 { (0 - w) as u64 } else { w as u64 }
-}
-
 // An integer in decimal.
 pub fn put_signed(out: &mut [u8], at: usize, z: i32) -> usize
     requires { at + length (signed_of z) ≤ length out.old }
     ensures { Put out.old at (signed_of z) result out.new }
 {
-    let m = magnitude(z);
+    let m = u64::from(z.unsigned_abs());
     if z < 0 {
         let a = put_byte(out, at, b'-');
-        return put_decimal(out, a, m);
+        put_decimal(out, a, m)
+    } else {
+        put_decimal(out, at, m)
     }
-    put_decimal(out, at, m)
 }
 
 // A space and a coordinate.
@@ -74,11 +64,8 @@ fn put_coordinates(out: &mut [u8], at: usize, frame: &[i32]) -> usize
     ensures short { result ≤ at + 12 * length frame.now }
 {
     let mut a = at;
-    let mut i: usize = 0;
-    while i < frame.len() {
-        let z = frame[i];
-        a = put_coordinate(out, a, z);
-        i += 1;
+    for z in frame {
+        a = put_coordinate(out, a, *z);
     }
     a
 }

@@ -1,17 +1,9 @@
-use Rattle.std.proofs.Common.{◌≡◌, ℕ, ◌-◌, ◌^◌, ◌<◌, List, ◌++◌, length, take, sym, ap, ◌∙◌, subst, ℤ, arith}
+use Rattle.std.proofs.Common.{ℕ, ◌-◌, ◌^◌, ◌<◌, List, ◌++◌, length, take, sym, ap, ◌∙◌, subst, ℤ, arith}
 use Rattle.e8.specs.Energy.{Within}
 use Rattle.e8.proofs.Within.{within-drop}
 use Rattle.filling_search.specs.Filling.{filled_block, quiet_of, quiet_last}
-use Rattle.filling_search.proofs.Tried.{quiet-below, last_block, put_last, none_last}
+use Rattle.filling_search.proofs.Tried.{quiet-below, last_block, put_last}
 use Rattle.filling_search.proofs.fill_last.Goals as goal
-
--- where no bit is free, the filling is 0, and changes nothing
-pub returns-then-free-eq0 : goal.returns-then-free-eq0
-returns-then-free-eq0 c =
-    let g = c.args in
-    let l = g.leader.now in
-    let none : g.free ≡ 0 = omega arith in
-    sym (ap (λ (f : ℕ). quiet_last g.a g.grade f l) none ∙ none_last g.a g.grade l c.requires.5)
 
 pub quietest-phi-requires : goal.quietest-phi-requires
 quietest-phi-requires c =

@@ -52,7 +52,8 @@ module _ {message : List ℕ} {from b n : ℕ} {words : List ℕ} {q : ℕ} wher
         ∙ over-more n i (λ t. digit (get_or words t 0) (q + o)) (own message from b o));
   }
 
-  all_there : {x : List ℕ} → Stands message from b n words q 0 x → x ≡ table 8 (λ o. over_levels n (λ i. digit (get_or words i 0) (q + o)) (own message from b o))
+  all_there : {x : List ℕ} → Stands message from b n words q 0 x
+      → x ≡ table 8 (λ o. over_levels n (λ i. digit (get_or words i 0) (q + o)) (own message from b o))
   all_there s = s.is ∙ table-ext 8 (λ o l. let z : n - 0 ≡ n = omega arith in
       ap (λ (m : ℕ). over_levels m (λ t. digit (get_or words (0 + t) 0) (q + o)) (own message from b o)) z
       ∙ over-ext n (own message from b o) (λ i u. ap (λ (t : ℕ). digit (get_or words t 0) (q + o)) (zero-add i)))

@@ -101,21 +101,27 @@ unfolding level_bits kinds degrees dimension masks of_weight table ones
 bits-of-6 e = ap level_bits e
 
 pub bits_at-requires-in_default : goal.bits_at-requires-in_default
-bits_at-requires-in_default c = let e : c.args.kind ≡ 6 = omega (arith, tabled c.args.kind c.requires.0) in (omega arith, omega arith, omega (arith, bits-of-6 e))
+bits_at-requires-in_default c =
+    let e : c.args.kind ≡ 6 = omega (arith, tabled c.args.kind c.requires.0) in
+    (omega arith, omega arith, omega (arith, bits-of-6 e))
 
 pub codeword_held-requires-in_default : goal.codeword_held-requires-in_default
 unfolding dimension masks of_weight table ones
 codeword_held-requires-in_default c = (omega arith, omega arith, held_below c.bits_at-in_default.ensures (λ t l. message-small _ _))
 
 pub bits_at-requires-in_default-2 : goal.bits_at-requires-in_default-2
-bits_at-requires-in_default-2 c = let e : c.args.kind ≡ 6 = omega (arith, tabled c.args.kind c.requires.0) in (omega arith, omega arith, omega (arith, bits-of-6 e))
+bits_at-requires-in_default-2 c =
+    let e : c.args.kind ≡ 6 = omega (arith, tabled c.args.kind c.requires.0) in
+    (omega arith, omega arith, omega (arith, bits-of-6 e))
 
 pub codeword_held-requires-in_default-2 : goal.codeword_held-requires-in_default-2
 unfolding dimension masks of_weight table ones
 codeword_held-requires-in_default-2 c = (omega arith, omega arith, held_below c.bits_at-in_default-2.ensures (λ t l. message-small _ _))
 
 pub bits_at-requires-in_default-3 : goal.bits_at-requires-in_default-3
-bits_at-requires-in_default-3 c = let e : c.args.kind ≡ 6 = omega (arith, tabled c.args.kind c.requires.0) in (omega arith, omega arith, omega (arith, bits-of-6 e))
+bits_at-requires-in_default-3 c =
+    let e : c.args.kind ≡ 6 = omega (arith, tabled c.args.kind c.requires.0) in
+    (omega arith, omega arith, omega (arith, bits-of-6 e))
 
 pub codeword_held-requires-in_default-3 : goal.codeword_held-requires-in_default-3
 unfolding dimension masks of_weight table ones

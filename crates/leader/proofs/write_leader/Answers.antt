@@ -16,7 +16,8 @@ made : (k b : ℕ) → is_kind k ≡ true → (bytes : List ℕ) → Made (block
 made k b kind bytes = taken_made (blocks-of k) (leader k b bytes) (long k b kind bytes)
 
 -- the frame keeps its length
-same : (k b : ℕ) {j : ℕ} {f₀ f : List ℤ} (bytes : List ℕ) → is_kind k ≡ true → length f₀ ≡ 2 ^ k → Over (λ i. take (8 * i) (leader k b bytes)) f₀ j f → length f ≡ 2 ^ k
+same : (k b : ℕ) {j : ℕ} {f₀ f : List ℤ} (bytes : List ℕ) → is_kind k ≡ true → length f₀ ≡ 2 ^ k
+    → Over (λ i. take (8 * i) (leader k b bytes)) f₀ j f → length f ≡ 2 ^ k
 same k b bytes kind l h = over-same (made k b kind bytes) (l ∙ sym (whole-blocks k kind)) h ∙ l
 
 pub codewords-words-requires : goal.codewords-words-requires
@@ -27,7 +28,8 @@ pub overflow_add-base : goal.overflow_add-base
 overflow_add-base c =
     let k = c.args.kind in
     let b = c.args.grade in
-    let inside : c.loop-j.j < blocks-of k = omega (arith, same k b c.args.message.now c.requires.0 c.requires.4 c.loop-j.invariant, whole-blocks k c.requires.0) in
+    let whole = whole-blocks k c.requires.0 in
+    let inside : c.loop-j.j < blocks-of k = omega (arith, same k b c.args.message.now c.requires.0 c.requires.4 c.loop-j.invariant, whole) in
     let piece = block-piece k b c.loop-j.j c.requires.0 c.requires.2 inside in
     record { fits = omega (arith, c.level_bits-base.ensures, piece.inside, few-message-bits k b c.requires.0 c.requires.2) }
 
@@ -35,7 +37,8 @@ pub block-x-requires : goal.block-x-requires
 block-x-requires c =
     let k = c.args.kind in
     let b = c.args.grade in
-    let inside : c.loop-j.j < blocks-of k = omega (arith, same k b c.args.message.now c.requires.0 c.requires.4 c.loop-j.invariant, whole-blocks k c.requires.0) in
+    let whole = whole-blocks k c.requires.0 in
+    let inside : c.loop-j.j < blocks-of k = omega (arith, same k b c.args.message.now c.requires.0 c.requires.4 c.loop-j.invariant, whole) in
     let piece = block-piece k b c.loop-j.j c.requires.0 c.requires.2 inside in (
       c.requires.1,
       c.requires.2,
