@@ -14,7 +14,7 @@ use mir.Val.{Fits, SFits, to_z, of_z}
 use mir.Facts.{of_z-to_z}
 use borrow.Author.Tests.{lt-ltb, le-ltb, ltb-true, ltb-false}
 use Rattle.integers.specs.Integer.{mod_z}
-use Rattle.integers.proofs.Zed.{`◌, #◌, ◌⊖◌, eq!}
+use Rattle.integers.proofs.Zed.{`◌, #◌, ◌⊖◌, eq! }
 use Rattle.four_bytes.specs.FourBytes.{four_bytes, of_four, four_at, twos, signed, coordinate_bytes, coordinates_from}
 
 -- ---- four bytes
