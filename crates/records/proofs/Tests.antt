@@ -1,11 +1,11 @@
 -- The answers of the writer and of the reader by the tests that were passed, and what an answer of 0 says. Assumes nothing.
 use Prim.Native.Nat.{ℕ, ◌+◌, ◌^◌, ◌≤◌}
 use mathlib.Core.Path.{◌≡◌, refl, sym, ◌∙◌}
-use mathlib.Core.Bool.{Bool, true, false, cond, and-false}
+use mathlib.Core.Bool.{Bool, true, false, cond}
 use mathlib.Core.List.{List}
 use lib.Dec.{eqb, leb}
 use lib.IntN.{ℤ}
-use lib.ListN.{length, get_or}
+use lib.ListN.{length}
 use borrow.Author.Tests.{eq-eqb, ne_eqb, eqb-true, eqb-false, leb-true}
 use Rattle.e8.specs.Energy.{energy}
 use Rattle.frames.specs.Kind.{is_kind, is_grade}
@@ -26,23 +26,9 @@ first-zero x next e = go (eqb x 0) refl e
 
 -- ---- the writer
 
-module _ (k b : ℕ) (bytes : List ℕ) (p l : ℕ) where
-  pub wrong-kind : is_kind k ≡ false → 1 ≡ write_refusal k b bytes p l
-  unfolding write_refusal send_refusal
-  wrong-kind e = simp e
-
-  pub not-sent : (send_refusal k b 0 bytes (2 ^ k) ≡ 0 → ⊥) → send_refusal k b 0 bytes (2 ^ k) ≡ write_refusal k b bytes p l
-  unfolding write_refusal
-  not-sent n = rw (ne_eqb (send_refusal k b 0 bytes (2 ^ k)) 0 n)
-
-  module _ (sent : send_refusal k b 0 bytes (2 ^ k) ≡ 0) where
-    pub no_room : leb (p + record_bytes k) l ≡ false → 19 ≡ write_refusal k b bytes p l
-    unfolding write_refusal
-    no_room e = rw (eq-eqb (send_refusal k b 0 bytes (2 ^ k)) 0 sent, e)
-
-    pub room : leb (p + record_bytes k) l ≡ true → 0 ≡ write_refusal k b bytes p l
-    unfolding write_refusal
-    room e = rw (eq-eqb (send_refusal k b 0 bytes (2 ^ k)) 0 sent, e)
+pub room : (k b : ℕ) (bytes : List ℕ) (p l : ℕ) → send_refusal k b 0 bytes (2 ^ k) ≡ 0 → leb (p + record_bytes k) l ≡ true → 0 ≡ write_refusal k b bytes p l
+unfolding write_refusal
+room k b bytes p l sent e = rw (eq-eqb (send_refusal k b 0 bytes (2 ^ k)) 0 sent, e)
 
 -- back: what is written
 pub record Writable (k b : ℕ) (bytes : List ℕ) (p l : ℕ) : Type 0 where
@@ -77,52 +63,14 @@ module _ (s : List ℕ) (p : ℕ) where
   unfolding marked
   mark-cut h = simp h
 
-  pub mark-first : (get_or s p 0 ≡ 76 → ⊥) → false ≡ marked s p
-  unfolding marked
-  mark-first n = simp (ne_eqb _ _ n, and-false (leb (p + 2) (length s)))
+  pub no-mark : (n : ℕ) → marked s p ≡ false → 10 ≡ head_refusal s p n
+  unfolding head_refusal
+  no-mark n e = simp e
 
-  pub mark-second : leb (p + 2) (length s) ≡ true → get_or s p 0 ≡ 76 → eqb (get_or s (p + 1) 0) 70 ≡ marked s p
-  unfolding marked
-  mark-second h e = simp (h, eq-eqb _ _ e)
-
-  module _ (n : ℕ) where
-    pub no-mark : marked s p ≡ false → 10 ≡ head_refusal s p n
-    unfolding head_refusal
-    no-mark e = simp e
-
-    module _ (mark : marked s p ≡ true) where
-      pub no-kind-byte : leb (p + 3) (length s) ≡ false → 19 ≡ head_refusal s p n
-      unfolding head_refusal
-      no-kind-byte h = simp (mark, h)
-
-      module _ (h₃ : leb (p + 3) (length s) ≡ true) where
-        pub no_kind : is_kind (kind_at s p) ≡ false → 1 ≡ head_refusal s p n
-        unfolding head_refusal
-        no_kind e = simp (mark, h₃, e)
-
-        module _ (kind : is_kind (kind_at s p) ≡ true) where
-          pub no-grade-byte : leb (p + 4) (length s) ≡ false → 19 ≡ head_refusal s p n
-          unfolding head_refusal
-          no-grade-byte h = simp (mark, h₃, kind, h)
-
-          module _ (h₄ : leb (p + 4) (length s) ≡ true) where
-            pub no-grade : is_grade (grade_at s p) ≡ false → 2 ≡ head_refusal s p n
-            unfolding head_refusal
-            no-grade e = simp (mark, h₃, kind, h₄, e)
-
-            module _ (grade : is_grade (grade_at s p) ≡ true) where
-              pub other_length : (n ≡ 2 ^ kind_at s p → ⊥) → 4 ≡ head_refusal s p n
-              unfolding head_refusal
-              other_length e = simp (mark, h₃, kind, h₄, grade, ne_eqb _ _ e)
-
-              module _ (long : n ≡ 2 ^ kind_at s p) where
-                pub cut : leb (end_at s p) (length s) ≡ false → 19 ≡ head_refusal s p n
-                unfolding head_refusal
-                cut h = simp (mark, h₃, kind, h₄, grade, eq-eqb _ _ long, h)
-
-                pub whole : leb (end_at s p) (length s) ≡ true → 0 ≡ head_refusal s p n
-                unfolding head_refusal
-                whole h = simp (mark, h₃, kind, h₄, grade, eq-eqb _ _ long, h)
+  pub whole : (n : ℕ) → marked s p ≡ true → leb (p + 3) (length s) ≡ true → is_kind (kind_at s p) ≡ true → leb (p + 4) (length s) ≡ true
+      → is_grade (grade_at s p) ≡ true → n ≡ 2 ^ kind_at s p → leb (end_at s p) (length s) ≡ true → 0 ≡ head_refusal s p n
+  unfolding head_refusal
+  whole n mark h₃ kind h₄ grade long h = simp (mark, h₃, kind, h₄, grade, eq-eqb _ _ long, h)
 
 -- back: a whole record
 pub record Whole (s : List ℕ) (p n : ℕ) : Type 0 where
@@ -162,16 +110,6 @@ module _ (s : List ℕ) (p : ℕ) (f : List ℤ) where
   pub answer-refused : (read_refusal s p (length f) ≡ 0 → ⊥) → (refused_by (read_refusal s p (length f)) ≡ read_answer s p (length f)) × (f ≡ frame_read s p f)
   unfolding read_answer frame_read
   answer-refused n = let q : eqb (read_refusal s p (length f)) 0 ≡ false = ne_eqb _ _ n in (rw q, rw q)
-
-  by-head : (head_refusal s p (length f) ≡ 0 → ⊥) → head_refusal s p (length f) ≡ read_refusal s p (length f)
-  unfolding read_refusal
-  by-head n = rw (ne_eqb (head_refusal s p (length f)) 0 n)
-
-  pub head-refused : (refusal : ℕ) → refusal ≡ head_refusal s p (length f) → (refusal ≡ 0 → ⊥)
-      → (refused_by refusal ≡ read_answer s p (length f)) × (f ≡ frame_read s p f)
-  head-refused refusal e n =
-      let q : refusal ≡ read_refusal s p (length f) = e ∙ by-head (λ z. n (e ∙ z)) in
-      let t = answer-refused (λ z. n (q ∙ z)) in (rw q t.0, t.1)
 
   module _ (head : head_refusal s p (length f) ≡ 0) where
     strictly : strict_at s p ≡ read_refusal s p (length f)
