@@ -23,6 +23,7 @@ use Rattle.recordings.specs.Recording.{recording_number, recording_message, reco
 use Rattle.recordings.proofs.Recording.{as_read, heard-message}
 use Rattle.closer_recording.specs.Room.{room_for}
 
+-- as many as a message has
 room-good : (k b : ℕ) → is_kind k ≡ true → is_grade b ≡ true → message_bytes k b ≡ room_for k b
 unfolding room_for
 room-good k b p q = rw (p, q)

@@ -79,6 +79,7 @@ fn read_fit(
     let Some(cost) = search::locate(kind, whole, frame) else {
         return Err(Refusal::TooFar);
     };
+    // It is taken: a near frame passes every test of the open reading.
     let _ = reading::read_open(kind, grade, 0, frame, message);
     Ok(cost)
 }
@@ -112,6 +113,7 @@ pub fn read_near(kind: u8, grade: u8, samples: &[f32], message: &mut [u8]) -> Ne
 {
     match read_cost(kind, grade, samples, message) {
         Ok(cost) => NearReading::Near(distance_of(cost)),
+        // A match of its own: past an arm `Err(Refusal::TooFar)` the proof is not told that another refusal is left.
         Err(refusal) => match refusal {
             Refusal::TooFar => NearReading::Far,
             _ => NearReading::Refused(refusal),
