@@ -3,17 +3,17 @@ use Rattle.std.proofs.Common.{◌≡◌, ℕ, ◌+◌, ◌-◌, ◌*◌, ◌/◌
 use lib.IntN.{ℤ}
 use native.Mathlib.Nat.{mul-le-mul_left}
 use lib.ListN.{length-take, length-drop}
-use borrow.Rule.Slice.PartMut.{put_mid, put_same}
+use borrow.Rule.Slice.PartMut.{put_mid}
 use Rattle.refusals.specs.declared.Refusal.{Refusal}
 use Rattle.refusals.specs.Number.{code}
 use Rattle.frames.specs.Kind.{message_bytes}
 use Rattle.frames.specs.Free.{quiet_frame}
-use Rattle.frames.specs.Sending.{frame_after}
-use Rattle.frames.proofs.Accepted.{sent-leaves, refused-leaves}
 use Rattle.frames.proofs.Rows.{grade-high}
 use Rattle.power_account.specs.declared.Account.{Account}
-use Rattle.power_account.specs.Counted.{number_for, counted_refusal, counted_account}
+use Rattle.power_account.specs.Power.{grown}
+use Rattle.power_account.specs.Counted.{number_for, counted_refusal}
 use Rattle.power_account.specs.History.{answer}
+use Rattle.power_account.proofs.Answers.{account-sent}
 use Rattle.queue_turns.specs.Queue.{messages_in, calls_of, in_turn, frames_in_turn, piece}
 use Rattle.queue_turns.proofs.Tests.{fits, some_bytes}
 use Rattle.queue_turns.proofs.Turns.{SoFar, call_at, none_yet, all-answer, all-frames, stop-answer, stop-frames, one_further}
@@ -37,37 +37,32 @@ within n {i} {q} {long} h e = omega (arith, e, mul-le-mul_left n h)
 module _ {k b : ℕ} {messages : List ℕ} {f₀ : List ℤ} {a₀ : Account} {i : ℕ} {f : List ℤ} {a : Account}
     (s : SoFar k b messages f₀ a₀ i f a) (h : i < messages_in k b messages)
     {m n : ℕ} (bytes : m ≡ message_bytes k b) (coordinates : n ≡ 2 ^ k) (room : n * i + n ≤ length f) where
-  -- what it is lent
+  -- what it sends
   abbrev message : List ℕ
   message = take (m * i + m - m * i) (drop (m * i) messages)
 
-  abbrev lent : List ℤ
-  lent = take (n * i + n - n * i) (drop (n * i) f)
-
-  module _ {q : ℕ} (e : q ≡ counted_refusal k b 0 message (length lent) a) where
+  module _ {q : ℕ} (e : q ≡ counted_refusal k b 0 message n a) where
     answer-is : q ≡ answer a (call_at k b messages i)
-    answer-is = e ∙ ap₂ (λ (x : List ℕ) (y : ℕ). counted_refusal k b 0 x y a) (part-is i messages bytes) (part-long n i f room ∙ coordinates)
+    answer-is = e ∙ ap₂ (λ (x : List ℕ) (y : ℕ). counted_refusal k b 0 x y a) (part-is i messages bytes) coordinates
 
     -- it is refused
     module _ (no : q ≡ 0 → ⊥) where
       stops : record { number = q; sent = i; account = a } ≡ in_turn a₀ (calls_of k b messages)
       stops = ap (λ (v : ℕ). record { number = v; sent = i; account = a }) answer-is ∙ stop-answer k b messages s h (λ z. no (answer-is ∙ z))
 
-      keeps : {g : List ℤ} → g ≡ frame_after q k b 0 (number_for a) message lent
-          → put_mid (n * i) (n * i + n - n * i) f g ≡ frames_in_turn a₀ (calls_of k b messages) f₀
-      keeps {g} p =
-          ap (put_mid (n * i) (n * i + n - n * i) f) (p ∙ (refused-leaves q k b 0 (number_for a) message lent no).0)
-          ∙ put_same (n * i) (n * i + n - n * i) f ∙ stop-frames k b messages s h (λ z. no (answer-is ∙ z))
+      keeps : f ≡ frames_in_turn a₀ (calls_of k b messages) f₀
+      keeps = stop-frames k b messages s h (λ z. no (answer-is ∙ z))
 
     -- it is sent
-    goes-on : q ≡ 0 → {g : List ℤ} → g ≡ frame_after q k b 0 (number_for a) message lent → {x : Account} → x ≡ counted_account q k b 0 message a
+    goes-on : q ≡ 0 → {g : List ℤ} → g ≡ quiet_frame k b 0 (number_for a) message → {x : Account} → x ≡ grown a (quiet_frame k b 0 (number_for a) message)
         → SoFar k b messages f₀ a₀ (i + 1) (put_mid (n * i) (n * i + n - n * i) f g) x
     goes-on z {g} p {x} r =
         let c = call_at k b messages i in
-        let part = part-is i messages bytes in
-        let is = p ∙ (sent-leaves q k b 0 (number_for a) message lent z).0 ∙ ap (λ (y : List ℕ). quiet_frame k b 0 (number_for a) y) part in
-        one_further k b messages s h (sym answer-is ∙ z) (subst (λ (y : ℕ). y * i + y ≤ length f) coordinates room) is (sym coordinates)
-        (sym (r ∙ ap₂ (λ (v : ℕ) (y : List ℕ). counted_account v k b 0 y a) answer-is part))
+        let zero : answer a c ≡ 0 = sym answer-is ∙ z in
+        let frame : quiet_frame k b 0 (number_for a) message ≡ quiet_frame k b 0 (number_for a) c.message =
+        ap (λ (y : List ℕ). quiet_frame k b 0 (number_for a) y) (part-is i messages bytes) in
+        one_further k b messages s h zero (subst (λ (y : ℕ). y * i + y ≤ length f) coordinates room) (p ∙ frame) (sym coordinates)
+        (account-sent (answer a c) k b 0 c.message a zero ∙ sym (r ∙ ap (grown a) frame))
 
 -- no refusal is a success
 no-success : (r : Refusal) → code r ≡ 0 → ⊥
@@ -92,22 +87,31 @@ pub returns-in-Err-clause-queued : goal.returns-in-Err-clause-queued
 returns-in-Err-clause-queued c =
     let l = c.loop-sent in
     let h : l.sent < messages_in c.args.kind c.args.grade c.args.messages.now = rw c.message_bytes-m.ensures at c.loop-sent-test.true in
-    stops l.invariant.so_far h c.message_bytes-m.ensures c.positions-n.ensures (within _ c.loop-sent-test.true l.invariant.frames) (rw c.in-Err.is at c.send_counted-counted.ensures.number)
-    (no-success c.in-Err.refusal)
+    let room = within _ c.loop-sent-test.true l.invariant.frames in
+    stops l.invariant.so_far h c.message_bytes-m.ensures c.positions-n.ensures room c.in-Err.ensures (no-success c.in-Err.refusal)
 
 pub returns-in-Err-clause-frames : goal.returns-in-Err-clause-frames
 returns-in-Err-clause-frames c =
     let l = c.loop-sent in
     let h : l.sent < messages_in c.args.kind c.args.grade c.args.messages.now = rw c.message_bytes-m.ensures at c.loop-sent-test.true in
-    keeps l.invariant.so_far h c.message_bytes-m.ensures c.positions-n.ensures (within _ c.loop-sent-test.true l.invariant.frames) (rw c.in-Err.is at c.send_counted-counted.ensures.number)
-    (no-success c.in-Err.refusal) (rw c.in-Err.is at c.send_counted-counted.ensures.frame)
+    let room = within _ c.loop-sent-test.true l.invariant.frames in
+    keeps l.invariant.so_far h c.message_bytes-m.ensures c.positions-n.ensures room c.in-Err.ensures (no-success c.in-Err.refusal)
+
+pub write_counted-requires : goal.write_counted-requires
+write_counted-requires c =
+    let l = c.loop-sent in
+    let m = c.message_bytes-m.result in
+    let message = take (m * l.sent + m - m * l.sent) (drop (m * l.sent) c.args.messages.now) in
+    let long = part-long c.positions-n.result l.sent l.frames (within _ c.loop-sent-test.true l.invariant.frames) in
+    ap (λ (y : ℕ). counted_refusal c.args.kind c.args.grade 0 message y l.grown) long ∙ sym c.in_default.ensures
 
 pub loop-sent-preserved : goal.loop-sent-preserved
 loop-sent-preserved c =
     let l = c.loop-sent in
     let h : l.sent < messages_in c.args.kind c.args.grade c.args.messages.now = rw c.message_bytes-m.ensures at c.loop-sent-test.true in
-    let next = goes-on l.invariant.so_far h c.message_bytes-m.ensures c.positions-n.ensures (within _ c.loop-sent-test.true l.invariant.frames) (rw c.in-Ok.is at c.send_counted-counted.ensures.number) refl
-    (rw c.in-Ok.is at c.send_counted-counted.ensures.frame) (rw c.in-Ok.is at c.send_counted-counted.ensures.account) in record {
+    let room = within _ c.loop-sent-test.true l.invariant.frames in
+    let w = c.write_counted.ensures in
+    let next = goes-on l.invariant.so_far h c.message_bytes-m.ensures c.positions-n.ensures room c.in_default.ensures refl w.frame w.account in record {
       so_far = next;
       frames = next.long ∙ sym l.invariant.so_far.long ∙ l.invariant.frames;
     }
