@@ -32,7 +32,8 @@ unfolding levels-of
 over-small k bytes s p from i x kind h e =
     let rs : List ℕ = drop i (degrees k) in
     let l : length rs ≤ 3 = omega (arith, length-drop i (degrees k), few-levels k kind) in
-    let f : 2 ^ length rs * (s + 1) ≤ 2 ^ 3 * 2 ^ 16 = mul-le-mul {n₁ = 2 ^ length rs} {m₁ = s + 1} {n₂ = 2 ^ 3} {m₂ = 2 ^ 16} (pow_mono {j = 3} l) (omega arith) in
+    let f : 2 ^ length rs * (s + 1) ≤ 2 ^ 3 * 2 ^ 16 =
+    mul-le-mul {n₁ = 2 ^ length rs} {m₁ = s + 1} {n₂ = 2 ^ 3} {m₂ = 2 ^ 16} (pow_mono {j = 3} l) (omega arith) in
     omega (arith, stacked-below k rs (message_bit bytes) from s p)
 
 -- what a turn knows of its level: it is one of the kind, its degree, and its piece of the message
@@ -124,7 +125,8 @@ loop-i-preserved c =
     let t = turn k _ c.row-row.ensures c.requires.0 l.i l.from (omega arith) l.invariant.inside l.invariant.begins in
     let e : l.from ≡ f + dimension r k = omega (arith, t.begins, ap (λ (n : ℕ). dimension n k) t.degree) in
     let n : l.i ≡ suc i = omega arith in
-    let x : l.x ≡ over k s.message.now s.s s.p (f + dimension r k) (suc i) = l.invariant.stands ∙ ap₂ (λ (g j : ℕ). over k s.message.now s.s s.p g j) e n in
+    let x : l.x ≡ over k s.message.now s.s s.p (f + dimension r k) (suc i) =
+    l.invariant.stands ∙ ap₂ (λ (g j : ℕ). over k s.message.now s.s s.p g j) e n in
     let v : c.value_at.result ≡ codeword r k (λ t. bit (f + t)) s.p = c.value_at.ensures ∙ ap (λ (r : ℕ). codeword r k (λ t. bit (f + t)) s.p) t.degree in record {
       inside = omega arith;
       begins = omega (arith, t.begins);

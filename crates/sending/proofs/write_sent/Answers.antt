@@ -1,4 +1,5 @@
--- `write_sent` meets its contract: with the filling that is taken in its last block the leader is that filling's, and shaped the frame that is sent. Assumes nothing.
+-- `write_sent` meets its contract: with the filling that is taken in its last block the leader is that filling's, and shaped the frame that is sent.
+-- Assumes nothing.
 use Rattle.std.proofs.Common.{◌≡◌, ℕ, ◌^◌, ◌≤◌, true, List, length, sym, ap, ap₂, ◌∙◌, subst, arith, rules}
 use lib.IntN.{ℤ}
 use Rattle.e8.specs.Energy.{energy, Within}
@@ -50,7 +51,8 @@ pub shape_leader-requires : goal.shape_leader-requires
 shape_leader-requires c =
     let g = c.args in
     let p = c.requires in
-    let is = filled_is g.kind g.grade g.free g.number g.message.now p.0 p.1 p.2 p.3 p.4 c.levels.result _ _ c.levels.ensures c.write_leader.ensures (search rules) in
+    let is = filled_is g.kind g.grade g.free g.number g.message.now p.0 p.1 p.2 p.3 p.4 c.levels.result _ _ c.levels.ensures c.write_leader.ensures
+    (search rules) in
     let t = leader-takes g.kind g.grade (quiet g.kind g.grade g.free g.number g.message.now) c.fill_last.new.leader is p.0 p.2 in
     (p.0, p.1, p.2, t.0, t.1)
 
@@ -58,19 +60,22 @@ pub returns-clause-frame : goal.returns-clause-frame
 returns-clause-frame c =
     let g = c.args in
     let p = c.requires in
-    let is = filled_is g.kind g.grade g.free g.number g.message.now p.0 p.1 p.2 p.3 p.4 c.levels.result _ _ c.levels.ensures c.write_leader.ensures (search rules) in
+    let is = filled_is g.kind g.grade g.free g.number g.message.now p.0 p.1 p.2 p.3 p.4 c.levels.result _ _ c.levels.ensures c.write_leader.ensures
+    (search rules) in
     c.shape_leader.ensures.frame ∙ sent g.kind g.grade g.free g.number g.message.now c.fill_last.new.leader is
 
 pub returns-clause-energy : goal.returns-clause-energy
 returns-clause-energy c =
     let g = c.args in
     let p = c.requires in
-    let is = filled_is g.kind g.grade g.free g.number g.message.now p.0 p.1 p.2 p.3 p.4 c.levels.result _ _ c.levels.ensures c.write_leader.ensures (search rules) in
+    let is = filled_is g.kind g.grade g.free g.number g.message.now p.0 p.1 p.2 p.3 p.4 c.levels.result _ _ c.levels.ensures c.write_leader.ensures
+    (search rules) in
     c.shape_leader.ensures.energy ∙ ap energy (sent g.kind g.grade g.free g.number g.message.now c.fill_last.new.leader is)
 
 pub returns-clause-largest : goal.returns-clause-largest
 returns-clause-largest c =
     let g = c.args in
     let p = c.requires in
-    let is = filled_is g.kind g.grade g.free g.number g.message.now p.0 p.1 p.2 p.3 p.4 c.levels.result _ _ c.levels.ensures c.write_leader.ensures (search rules) in
+    let is = filled_is g.kind g.grade g.free g.number g.message.now p.0 p.1 p.2 p.3 p.4 c.levels.result _ _ c.levels.ensures c.write_leader.ensures
+    (search rules) in
     c.shape_leader.ensures.largest ∙ ap largest_block (sent g.kind g.grade g.free g.number g.message.now c.fill_last.new.leader is)
