@@ -7,6 +7,14 @@ use Rattle.frames.specs.Reading.{same_number}
 use Rattle.recordings.specs.Choice.{handed_back, closer_number}
 use Rattle.answers.specs.Answer.{answer_of, closer_code}
 use Rattle.test_recordings.specs.declared.judging.Pair.{Pair}
+use Rattle.test_recordings.specs.declared.Check.{Check}
+use Rattle.test_recordings.specs.declared.Check.TheVariants.{Slice, Number, Exported}
+
+-- the place of a check in the tally
+abbrev pub place : Check → ℕ
+place Slice = 0
+place Number = 1
+place Exported = 2
 
 -- two f32 have the same bits
 abbrev pub same_sample : Float → Float → Bool

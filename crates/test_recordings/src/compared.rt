@@ -1,17 +1,8 @@
-// Samples compared by their bits. A NaN's bits say nothing more: every one counts as the same.
+// Samples compared by their bits, since no float equals a NaN. A NaN's bits say nothing more: every one counts as the same.
 ghost use Rattle.std.specs.Prelude.{◌≡◌};
-ghost use Rattle.std.specs.Float.{binary32};
-ghost use Rattle.std.specs.Float.Ieee.{to_bits};
 ghost use Rattle.test_recordings.specs.Judged.{same_samples};
 
-fn bits_of(x: f32) -> u32
-    ensures { result ≡ to_bits binary32 x }
-{
-    if x != x {
-        return 0x7FC00000;
-    }
-    f32::to_bits(x)
-}
+use std::num::f32_to_bits_with_nan;
 
 // Whether there are as many samples in both, and the same.
 pub fn same_samples(x: &[f32], y: &[f32]) -> bool
@@ -20,12 +11,12 @@ pub fn same_samples(x: &[f32], y: &[f32]) -> bool
     if x.len() != y.len() {
         return false;
     }
-    let mut i: usize = 0;
-    while i < y.len() {
-        if bits_of(x[i]) != bits_of(y[i]) {
+    for (i, a) in x.iter().enumerate() {
+        let one = f32_to_bits_with_nan(*a);
+        let other = f32_to_bits_with_nan(y[i]);
+        if one != other {
             return false;
         }
-        i += 1;
     }
     true
 }

@@ -3,9 +3,10 @@ ghost use Rattle.std.specs.Prelude.{◌≡◌};
 ghost use Rattle.test_tally.specs.Tally.{judged};
 ghost use Rattle.test_recordings.specs.Judged.{is_handed, slice_right, number_right, exported_right};
 
+use super::Check;
 use super::compared::same_samples;
-use super::{EXPORTED, NUMBER, SLICE, judge};
 use test_data::same_answer;
+use test_tally::judge;
 
 // A pair without its samples: which recording has to be chosen, 1 or 2, or 0 for neither, and the number.
 #[derive(Clone, Copy)]
@@ -17,11 +18,12 @@ pub struct Pair {
 }
 
 // Whether the part is the recording that the data names, or empty where it names neither.
+#[tactic(auto, unfolding(crate::specs::Judged::is_handed))]
 fn is_handed(chosen: u8, part: &[f32], first: &[f32], second: &[f32]) -> bool
     ensures { result ≡ is_handed chosen part.now first.now second.now }
 {
     match chosen {
-        0 => part.len() == 0,
+        0 => part.is_empty(),
         1 => same_samples(part, first),
         2 => same_samples(part, second),
         _ => false,
@@ -29,6 +31,7 @@ fn is_handed(chosen: u8, part: &[f32], first: &[f32], second: &[f32]) -> bool
 }
 
 // Whether the library hands it back.
+#[tactic(auto, unfolding(crate::specs::Judged::slice_right))]
 fn slice<'a>(q: Pair, first: &'a [f32], second: &'a [f32]) -> bool
     ensures { result ≡ slice_right q first.now second.now }
 {
@@ -37,6 +40,7 @@ fn slice<'a>(q: Pair, first: &'a [f32], second: &'a [f32]) -> bool
 }
 
 // Whether the library gives the number.
+#[tactic(auto, unfolding(crate::specs::Judged::number_right))]
 fn number(q: Pair, first: &[f32], second: &[f32]) -> bool
     ensures { result ≡ number_right q first.now second.now }
 {
@@ -44,6 +48,7 @@ fn number(q: Pair, first: &[f32], second: &[f32]) -> bool
 }
 
 // Whether the exported function answers what is chosen, or minus the number.
+#[tactic(auto, unfolding(crate::specs::Judged::exported_right))]
 fn exported(q: Pair, first: &[f32], second: &[f32]) -> bool
     ensures { result ≡ exported_right q first.now second.now }
 {
@@ -58,7 +63,7 @@ pub fn hold<'a>(v: u64, q: Pair, first: &'a [f32], second: &'a [f32], tally: &mu
         (judged 1 (number_right q first.now second.now)
         (judged 0 (slice_right q first.now second.now) tally.old)) }
 {
-    judge(tally, v, SLICE, slice(q, first, second));
-    judge(tally, v, NUMBER, number(q, first, second));
-    judge(tally, v, EXPORTED, exported(q, first, second));
+    judge(tally, v, Check::Slice, slice(q, first, second));
+    judge(tally, v, Check::Number, number(q, first, second));
+    judge(tally, v, Check::Exported, exported(q, first, second));
 }

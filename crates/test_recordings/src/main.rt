@@ -7,87 +7,52 @@ mod compared;
 mod judging;
 mod record;
 
-ghost use Rattle.std.specs.Prelude.{◌≡◌, false};
-ghost use Rattle.test_tally.specs.Tally.{judged, GrownBy};
+ghost use Rattle.test_recordings.specs.Judged.{place};
 
-use std::os::fd::AsRawFd;
-use test_data::{STDOUT, open_data, write};
-use test_tally::DIFFERENT;
+use test_tally::{Checks, Records, file_differs, run};
 
-// The three checks of a pair, as the tally has them.
-const SLICE: usize = 0;
+// The checks, by their places in the tally.
+#[derive(Clone, Copy)]
+enum Check {
+    Slice,
+    Number,
+    Exported,
+}
 
-const NUMBER: usize = 1;
+impl Checks for Check {
+    ghost place = { place };
 
-const EXPORTED: usize = 2;
-
-fn write_name(check: usize) -> bool {
-    match check {
-        SLICE => write(b"slice"),
-        NUMBER => write(b"number"),
-        EXPORTED => write(b"exported"),
-        _ => write(b"different"),
+    fn place(self) -> usize {
+        self as usize
     }
-}
 
-// Counts a check of pair v. One that did not pass is a difference, and has a line with v.
-fn judge(tally: &mut [u64; 16], v: u64, check: usize, passed: bool)
-    ensures { tally.new ≡ judged check passed tally.old }
-{
-    test_tally::judge(tally, check, passed);
-    if passed {
-        return;
-    }
-    write(b"different: ");
-    write_name(check);
-    write(b", pair ");
-    io::print_decimal(STDOUT, v);
-    write(b"\n");
-}
-
-// A file that is cut short, or too long, is a difference.
-fn file_differs(tally: &mut [u64; 16])
-    ensures { tally.new ≡ judged 15 false tally.old }
-{
-    test_tally::judge(tally, DIFFERENT, false);
-    write(b"different: the file\n");
-}
-
-// A line for a check, or for the differences.
-fn print(tally: &[u64; 16], check: usize) {
-    if check < 16 {
-        write_name(check);
-        write(b" ");
-        io::print_decimal(STDOUT, tally[check]);
-        write(b"\n");
-    }
-}
-
-// A proved loop has to end, and nothing says that a file does: a longer file is reported.
-const MOST: u64 = 1000000;
-
-// Takes record after record, to the end of the file or to one that is cut short.
-fn take_all(fd: i32, tally: &mut [u64; 16])
-    ensures { GrownBy tally.old tally.new }
-{
-    let mut v: u64 = 0;
-    while v < MOST {
-        v += 1;
-        if !record::take(fd, v, tally) {
-            return;
+    fn name(self) -> &'static [u8] {
+        match self {
+            Check::Slice => b"slice",
+            Check::Number => b"number",
+            Check::Exported => b"exported",
         }
     }
-    file_differs(tally);
+
+    fn record() -> &'static [u8] {
+        b"pair"
+    }
+}
+
+impl Records<8> for Check {
+    fn take(fd: i32, v: u64, head: &[u8; 8], tally: &mut [u64; 16]) -> bool {
+        record::take(fd, v, head, tally)
+    }
+
+    fn cut(_v: u64, tally: &mut [u64; 16]) {
+        file_differs(tally);
+    }
 }
 
 fn main(rt: HostRuntime) {
-    let mut tally = test_tally::zeros();
-    let Some(file) = open_data(&rt, "pairs.bin") else {
-        return;
-    };
-    take_all(file.as_raw_fd(), &mut tally);
-    print(&tally, SLICE);
-    print(&tally, NUMBER);
-    print(&tally, EXPORTED);
-    print(&tally, DIFFERENT);
+    run(
+        &rt,
+        "pairs.bin",
+        &[Check::Slice, Check::Number, Check::Exported],
+    );
 }

@@ -1,9 +1,8 @@
 // A record of the data: two recordings of one frame, and what has to be chosen (tools/second-coder/README.md).
 ghost use Rattle.test_tally.specs.Tally.{GrownBy};
 
-use super::file_differs;
 use super::judging::{Pair, hold};
-use test_data::{fill, samples, size};
+use test_data::{fill, size, take_from};
 
 // Takes pair v from its n and m samples on, and makes its checks; answers whether the record is whole, with room for it.
 fn take_rest(fd: i32, v: u64, q: Pair, n: usize, m: usize, tally: &mut [u64; 16]) -> bool
@@ -12,47 +11,30 @@ fn take_rest(fd: i32, v: u64, q: Pair, n: usize, m: usize, tally: &mut [u64; 16]
     let mut bytes = [0u8; 272];
     let mut first = [0.0f32; 68];
     let mut second = [0.0f32; 68];
-    if 68 < n {
-        return false;
-    }
-    if 68 < m {
+    if 68 < n || 68 < m {
         return false;
     }
     if !fill(fd, 4 * n, &mut bytes) {
         return false;
     }
-    samples(&bytes, &mut first);
+    take_from(&bytes, &mut first);
     if !fill(fd, 4 * m, &mut bytes) {
         return false;
     }
-    samples(&bytes, &mut second);
+    take_from(&bytes, &mut second);
     hold(v, q, &first[0..n], &second[0..m], tally);
     true
 }
 
-// Takes record v, and answers whether there was one. A record that is cut short, or for which there is no room, is a difference, and the
-// last one taken.
-pub fn take(fd: i32, v: u64, tally: &mut [u64; 16]) -> bool
+// Takes record v from its head on, and answers whether it is whole, with room for it.
+pub fn take(fd: i32, v: u64, head: &[u8; 8], tally: &mut [u64; 16]) -> bool
     ensures { GrownBy tally.old tally.new }
 {
-    let mut head = [0u8; 8];
-    let got = io::read_full(fd, &mut head);
-    if got == 0 {
-        return false;
-    }
-    if got < 8 {
-        file_differs(tally);
-        return false;
-    }
     let q = Pair {
         kind: head[0],
         grade: head[1],
         chosen: head[4],
         number: head[5],
     };
-    if take_rest(fd, v, q, size(head[2]), size(head[3]), tally) {
-        return true;
-    }
-    file_differs(tally);
-    false
+    take_rest(fd, v, q, size(head[2]), size(head[3]), tally)
 }
