@@ -165,6 +165,3 @@ module _ (k b : ℕ) (xs : List Float) (bytes : List ℕ) where
   pub message-kept : (near_number k b xs (length bytes) ≡ 0 → ⊥) → near_message k b xs bytes ≡ bytes
   unfolding near_message message_after
   message-kept h = rw (ne_eqb (near_number k b xs (length bytes)) 0 h)
-
-  pub message-refused : (near_refusal k b xs (length bytes) ≡ 0 → ⊥) → bytes ≡ near_message k b xs bytes
-  message-refused h = sym (message-kept (λ e. h (sym (number-refused k b xs (length bytes) h) ∙ e)))
