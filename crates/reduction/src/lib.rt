@@ -21,13 +21,11 @@ fn later_rows(k: u32, y: [i32; 8]) -> [i32; 8]
 {
     let mut r = y;
     let mut q: i32 = 0;
-    let mut i: usize = 1;
-    while i < 7 {
+    for i in 1..7 {
         let z = y[i];
         let s = coordinates::remainder(k + 1, z);
         r[i] = s;
         q = q + (z - s);
-        i += 1;
     }
     let z = y[7];
     let s = coordinates::remainder(k + 2, z - q);
