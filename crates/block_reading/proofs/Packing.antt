@@ -11,6 +11,7 @@ use Rattle.bits.proofs.Table.{table_at}
 use Rattle.bits.proofs.Message.{number-ext, number-join, number_digits}
 use Rattle.bits.proofs.Digits.{digit}
 use Rattle.e8.specs.Rows.{ints}
+use Rattle.frames.specs.Message.{widths}
 use Rattle.frames.specs.Reading.{digits, all_digits}
 use Rattle.frames.proofs.Numbers.{total, digits-length}
 
@@ -57,3 +58,12 @@ sizes-length (z ∷ s) = ap suc (sizes-length s)
 pub sizes-ints : (ss : List ℕ) → map nat_abs (ints ss) ≡ ss
 sizes-ints [] = refl
 sizes-ints (s ∷ ss) = ap (λ (l : List ℕ). s ∷ l) (sizes-ints ss)
+
+-- ---- the numbers of a block of grade b from i on
+
+-- their bits, and these bits as a number
+abbrev pub row_from : ℕ → List ℤ → ℕ → List ℕ
+row_from b s i = all_digits (drop i (widths b)) (drop i (map nat_abs s))
+
+abbrev pub packed_from : ℕ → List ℤ → ℕ → ℕ
+packed_from b s i = number (total (drop i (widths b))) (λ t. get_or (row_from b s i) t 0)

@@ -15,9 +15,7 @@ fn packed_by(s: [i32; 8], grade: usize) -> u64
     ensures { result ≡ number (8 * grade) (λ t. get_or (all_digits (widths grade) (map nat_abs s)) t 0) }
 {
     let mut bits: u64 = 0;
-    let mut i: usize = 8;
-    while 0 < i {
-        i -= 1;
+    for i in (0..8).rev() {
         let w = kind_table::width(grade, i);
         let z = s[i];
         bits = (bits << w) + (z as u64) % (1u64 << w);
