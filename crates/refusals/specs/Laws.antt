@@ -1,7 +1,7 @@
--- THE NUMBERS TELL THE ANSWERS APART: 0 is success alone, and no two refusals have one number. Assumes nothing.
-use Rattle.std.specs.Prelude.{ℕ, ◌≡◌, Result, Ok, Err}
+-- THE NUMBERS TELL THE REFUSALS APART: none is 0, which is the number of success, and no two have one number. Assumes nothing.
+use Rattle.std.specs.Prelude.{◌≡◌}
 use Rattle.refusals.specs.declared.Refusal.{Refusal}
-use Rattle.refusals.specs.Number.{code, number_of}
+use Rattle.refusals.specs.Number.{code}
 
 abbrev pub NoneIsZero : Type 0
 NoneIsZero = (r : Refusal) → code r ≡ 0 → ⊥
