@@ -1,4 +1,6 @@
-use Rattle.std.proofs.Common.{◌≡◌, ℕ, suc, ◌+◌, ◌*◌, ◌-◌, ◌^◌, ◌%◌, ◌<◌, ◌≤◌, ℤ, pos, nat_abs, List, ◌++◌, map, length, get_or, drop, to_z, of_z, w32, refl, sym, ◌∙◌, ap, ap₂, subst, arith, rules}
+-- Before the turn at number i the numbers after it are packed: number i comes below them
+use Rattle.std.proofs.Common.{◌≡◌, ℕ, suc, ◌+◌, ◌*◌, ◌-◌, ◌^◌, ◌%◌, ◌<◌, ◌≤◌, ℤ, pos, nat_abs, List, ◌++◌, map, length, get_or, drop, to_z, of_z, w32}
+use Rattle.std.proofs.Common.{refl, sym, ◌∙◌, ap, ap₂, subst, arith, rules}
 use lib.Pow.{pow_mono}
 use Rattle.bits.specs.Number.{sum_to, number}
 use Rattle.bits.proofs.Message.{number_lt}
