@@ -40,6 +40,7 @@ pub fn reduce(k: u32, v: [i32; 8]) -> [i32; 8]
 {
     let x = v[0];
     let s = coordinates::remainder(k, x);
-    let y = lowered(x - s, v);
+    let off = x - s;
+    let y = lowered(off, v);
     later_rows(k, y)
 }

@@ -73,8 +73,8 @@ array-copy-out-x c = search rules
 remainder-requires : tie.Need-remainder-s-requires
 remainder-requires c κs = let s = c.before in (omega (arith, s.requires.0), subst (λ (z : ℤ). nat_abs z ≤ 2 ^ 30) (sym (is s)) (omega (arith, small s)))
 
-sub-lowered : tie.Need-overflow_sub-x
-sub-lowered c = sfits-to refl (search (gap-fits, x-size (start c), rest-size c))
+sub-off : tie.Need-overflow_sub-off
+sub-off c = sfits-to refl (search (gap-fits, x-size (start c), rest-size c))
 
 lowered-requires : tie.Need-lowered-y-requires
 lowered-requires c κs = (search (gap-size, x-size (start c), rest-size c), c.before.before.requires.1)
@@ -101,7 +101,7 @@ reduce_spec =
     (tie.spec
     array-copy-out-x
     remainder-requires
-    sub-lowered
+    sub-off
     lowered-requires
     later-rows-requires
     returns)
