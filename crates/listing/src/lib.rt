@@ -1,9 +1,8 @@
 // The listing of a sheet, line by line into a lent buffer.
 #![tactic(auto)]
 
-ghost use Rattle.std.specs.Prelude.{◌≡◌, ◌+◌, ◌%◌, ◌^◌, ◌<◌, ◌≤◌, length, IfOk, OnErr};
-ghost use Rattle.refusals.specs.Number.{number_of};
-ghost use Rattle.sheet_record.specs.Record.{record_number};
+ghost use Rattle.std.specs.Prelude.{◌≡◌, ◌+◌, ◌%◌, ◌^◌, ◌<◌, ◌≤◌, length};
+ghost use Rattle.sheet_record.specs.Record.{record_refusal};
 ghost use Rattle.text.specs.Text.{Put};
 ghost use Rattle.listing.specs.Places.{beginning, start_of, line_on, next_on, line_into, next_into, beginning_into, start_into, ended};
 
@@ -52,26 +51,26 @@ fn end_of(sheet: &[u8], number: u32) -> Place
     }
 }
 
-// The line of the record at the place, where it is whole and its message is sent. Nothing is put for one that is refused.
-#[tactic(auto, unfolding(sheet_record::specs::Record::record_number))]
-fn sent_record(sheet: &[u8], place: Place, out: &mut [u8]) -> Result<Written, Refusal>
-    requires { (place.at < length sheet.now) × (1024 ≤ length out.old) }
-    ensures number { number_of result ≡ record_number sheet.now place.at }
-    ensures line { IfOk result (λ w. Put out.old 0 (line_on sheet.now place) w.length out.new) }
-    ensures short { IfOk result (λ w. w.length ≤ 1024) }
-    ensures next { IfOk result (λ w. w.next ≡ next_on sheet.now place) }
-    ensures refused { OnErr result (out.new ≡ out.old) }
+// The line of the record at the place, whose tests are passed. With one whose message is refused the listing ends.
+#[tactic(auto, unfolding(crate::specs::Places::next_on))]
+fn message_line(sheet: &[u8], place: Place, out: &mut [u8]) -> Written
+    requires { (place.at < length sheet.now) × (record_refusal sheet.now place.at ≡ 0) × (1024 ≤ length out.old) }
+    ensures line { Put out.old 0 (line_on sheet.now place) result.length out.new × (result.length ≤ 1024) }
+    ensures next { (result.next ≡ next_on sheet.now place) × (place.at < result.next.at) }
 {
-    sheet_record::test_record(sheet, place.at)?;
     let kind = sheet[place.at + 2];
     let grade = sheet[place.at + 3];
     let start = place.at + 4;
     let end = start + kind_table::message_bytes(kind, grade as usize);
-    let length = sheet_line::put_message(kind, grade, place.number, &sheet[start..end], out)?;
-    Ok(Written {
-        length,
-        next: place.next(end),
-    })
+    let line = sheet_line::put_message(kind, grade, place.number, &sheet[start..end], out);
+    let next = match line.answer {
+        Ok(()) => end,
+        Err(_) => sheet.len(),
+    };
+    Written {
+        length: line.length,
+        next: place.next(next),
+    }
 }
 
 // The line of the record at the place, where there is room for it: of one that is refused, its refusal, with which the listing ends.
@@ -81,8 +80,8 @@ fn record_line(sheet: &[u8], place: Place, out: &mut [u8]) -> Written
     ensures line { Put out.old 0 (line_on sheet.now place) result.length out.new × (result.length ≤ 1024) }
     ensures next { (result.next ≡ next_on sheet.now place) × (place.at < result.next.at) }
 {
-    match sent_record(sheet, place, out) {
-        Ok(written) => written,
+    match sheet_record::test_record(sheet, place.at) {
+        Ok(()) => message_line(sheet, place, out),
         Err(refusal) => Written {
             length: text::put_refused(out, 0, refusal.number()),
             next: place.next(sheet.len()),

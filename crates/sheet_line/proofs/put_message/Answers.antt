@@ -28,22 +28,22 @@ slice_bounds-frame-end c = sym (lent c.positions.result (omega (arith, few-posit
 tests : (k b : ℕ) (m : List ℕ) (n : ℕ) → n ≤ 64 → n ≡ 2 ^ k → send_refusal k b 0 m (length (take n room)) ≡ send_refusal k b 0 m (2 ^ k)
 tests k b m n h e = ap (send_refusal k b 0 m) (lent n h ∙ e)
 
-pub returns-in_err-energy-clause-number : goal.returns-in_err-energy-clause-number
-returns-in_err-energy-clause-number c =
+pub returns-in-Ok-clause-number : goal.returns-in-Ok-clause-number
+returns-in-Ok-clause-number c =
     let s = c.args in
     let few : c.positions.result ≤ 64 = omega (arith, few-positions s.kind c.requires.0) in
     rw (← tests s.kind s.grade s.message.now c.positions.result few c.positions.ensures) (search rules)
 
-pub returns-clause-number : goal.returns-clause-number
-returns-clause-number c =
+pub returns-in-Ok-clause-sent : goal.returns-in-Ok-clause-sent
+returns-in-Ok-clause-sent c z =
+    let s = c.args in
+    let e = c.in-Ok.ensures in
+    subst (λ (t : List ℕ). Put s.out.now 0 t c.put_line.result c.put_line.new.out)
+    (sent-shown s.kind s.grade s.number s.message.now (take c.positions.result room) c.send.new.frame c.in-Ok.energy e.frame e.energy)
+    c.put_line.ensures.text
+
+pub returns-in-Err-clause-number : goal.returns-in-Err-clause-number
+returns-in-Err-clause-number c =
     let s = c.args in
     let few : c.positions.result ≤ 64 = omega (arith, few-positions s.kind c.requires.0) in
-    c.in_ok-energy.ensures.number ∙ tests s.kind s.grade s.message.now c.positions.result few c.positions.ensures
-
-pub returns-clause-sent : goal.returns-clause-sent
-returns-clause-sent c =
-    let s = c.args in
-    let e = c.in_ok-energy.ensures in
-    subst (λ (t : List ℕ). Put s.out.now 0 t c.put_line.result c.put_line.new.out)
-    (sent-shown s.kind s.grade s.number s.message.now (take c.positions.result room) c.send.new.frame c.in_ok-energy.energy e.frame e.energy)
-    c.put_line.ensures.text
+    rw (← tests s.kind s.grade s.message.now c.positions.result few c.positions.ensures) (search rules)
