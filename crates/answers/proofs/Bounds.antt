@@ -23,7 +23,7 @@ use Rattle.free_bits.proofs.Strict.{strict-passed}
 use Rattle.power_account.specs.declared.Account.{Account}
 use Rattle.power_account.specs.Counted.{number_for, counted_refusal}
 use Rattle.power_account.proofs.Answers.{passed}
-use Rattle.near_reading.specs.Answer.{NearReading, Near, Far, Refused, near_number, near_distance, near_answer}
+use Rattle.near_reading.specs.Answer.{near_number, near_distance}
 use Rattle.answers.specs.Answer.{answer_of, send_answer, open_answer, strict_answer, account_of, counted_answer, near_code, near_held}
 
 -- the energy that stands with a refusal number says nothing
@@ -109,12 +109,6 @@ module _ (k b f : ℕ) (bytes : List ℕ) (n : ℕ) (a : Account) (refusal : ℕ
 pub account-of : (a : Account) (changeover : ℕ) → a.changeover ≡ changeover → account_of a.count a.sum a.largest changeover ≡ a
 account-of a changeover e = ap (account_of a.count a.sum a.largest) (sym e)
 
--- 1 for a refusal, 0 for another answer of the near reading
-is-refused : NearReading → ℕ
-is-refused (Near d) = 0
-is-refused Far = 0
-is-refused (Refused m) = 1
-
 -- ---- the near reading: its answer, and the distance that is held, by the number
 
 module _ (k b : ℕ) (xs : List Float) (n : ℕ) where
@@ -129,11 +123,3 @@ module _ (k b : ℕ) (xs : List Float) (n : ℕ) where
   pub near-left : (lent : Float) → (near_number k b xs n ≡ 0 → ⊥) → lent ≡ near_held k b xs n lent
   unfolding near_held
   near-left lent h = sym (ap (λ (t : Bool). cond t (near_distance k b xs n) lent) (ne_eqb (near_number k b xs n) 0 h))
-
-  -- a refusal has another number than 0
-  pub refused-number : (m : ℕ) → Refused m ≡ near_answer k b xs n → near_number k b xs n ≡ 0 → ⊥
-  unfolding near_answer is-refused
-  refused-number m e z =
-      let at-0 : near_answer k b xs n ≡ Near (near_distance k b xs n) = rw (eq-eqb (near_number k b xs n) 0 z) in
-      let o : ◌≡◌ {A = ℕ} 1 0 = ap is-refused (e ∙ at-0) in
-      omega (arith, o)
