@@ -4,7 +4,6 @@ use Rattle.refusals.specs.declared.Refusal.{Refusal}
 use Rattle.refusals.specs.Number.{code}
 use Rattle.power_account.specs.declared.Account.{Account}
 use Rattle.power_account.specs.Counted.{counted_refusal, counted_account}
-use Rattle.power_account.specs.History.{Call}
 use Rattle.power_account.proofs.History.{after-changeover}
 use Rattle.answers.specs.Answer.{counted_held}
 

@@ -1,8 +1,7 @@
 -- What is left to show of `coder_closer`: the choice, case by case. Assumes nothing.
-use Rattle.std.proofs.Common.{ℕ, sym, ap, ◌∙◌}
+use Rattle.std.proofs.Common.{ℕ, ap, ◌∙◌}
 use mir.Facts.{to_z-of_z}
 use mir.Syntax.{w64}
-use Rattle.recordings.specs.Choice.{chosen_of}
 use Rattle.answers.specs.Answer.{answer_of, chosen_code, closer_code}
 use Rattle.frame_coder.proofs.coder_closer.Goals as goal
 

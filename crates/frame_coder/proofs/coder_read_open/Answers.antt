@@ -1,5 +1,5 @@
 -- What is left to show of `coder_read_open`: the energy fits, and the answer is that of the definitions. Assumes nothing.
-use Rattle.std.proofs.Common.{◌≡◌, length, ap, ◌∙◌, arith}
+use Rattle.std.proofs.Common.{length, ap, ◌∙◌, arith}
 use mir.Facts.{to_z-of_z}
 use mir.Syntax.{w64}
 use Rattle.refusals.specs.Number.{number_of}
@@ -14,4 +14,5 @@ pub returns-clause-answer : goal.returns-clause-answer
 returns-clause-answer c =
     let s = c.args in
     let r = number_of c.read_open.result in
-    to_z-of_z {w = w64} (record { sfits = c.answered.type_inv }) ∙ c.answered.ensures ∙ ap (answer_of r) c.read_open.ensures.energy ∙ open-answer r s.kind s.grade s.free s.frame.now (length s.message.now) c.read_open.ensures.number
+    to_z-of_z {w = w64} (record { sfits = c.answered.type_inv }) ∙ c.answered.ensures ∙ ap (answer_of r) c.read_open.ensures.energy
+    ∙ open-answer r s.kind s.grade s.free s.frame.now (length s.message.now) c.read_open.ensures.number

@@ -1,5 +1,5 @@
 -- What is left to show of `coder_send`: the energy fits, and the answer is that of the definitions. Assumes nothing.
-use Rattle.std.proofs.Common.{◌≡◌, length, ap, ◌∙◌, arith}
+use Rattle.std.proofs.Common.{length, ap, ◌∙◌, arith}
 use mir.Facts.{to_z-of_z}
 use mir.Syntax.{w64}
 use Rattle.refusals.specs.Number.{number_of}

@@ -1,5 +1,5 @@
 -- What is left to show of `coder_send_queue`: what sending a queue ensures, in one number and the four lent ones. Assumes nothing.
-use Rattle.std.proofs.Common.{◌≡◌, ℕ, ap, ◌∙◌}
+use Rattle.std.proofs.Common.{ℕ, ap, ◌∙◌}
 use mir.Facts.{to_z-of_z}
 use mir.Syntax.{w64}
 use Rattle.queue_turns.specs.Queue.{Queued}
