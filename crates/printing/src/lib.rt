@@ -16,7 +16,7 @@ use std::io::{ErrorKind, Read};
 const STDERR: i32 = 2;
 
 // What was handed to the writes: how many lines after the beginning, how many bytes in all, the place after the last line, and
-// whether all of it was written.
+// whether all of it was written. A flag, and neither Option nor Result: the lines and bytes count also where a write failed.
 #[derive(Clone, Copy)]
 pub struct Printed {
     pub lines: usize,
@@ -25,7 +25,7 @@ pub struct Printed {
     pub whole: bool,
 }
 
-// A text handed to the writes: its bytes, and whether they were written.
+// A text handed to the writes: its bytes, which count also where a write failed (so no Result), and whether they were written.
 #[derive(Clone, Copy)]
 struct Handed {
     bytes: usize,
@@ -86,6 +86,7 @@ pub fn write_listing(sheet: &[u8], to: i32) -> Printed
         place: start,
         whole: handed.whole,
     };
+    // No `for`: how many turns there are the writes and the places decide, and what was printed stands in one value.
     while goes_on(printed, sheet.len()) {
         let place = printed.place;
         let line = listing::line(sheet, place, &mut out);

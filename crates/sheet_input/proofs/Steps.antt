@@ -14,8 +14,8 @@ after-within i left (pos k) = let m = min-le_right k left in omega arith
 after-within i left (negsuc k) = omega arith
 
 -- no more bytes come than there is room for
-pub made-within : (i r : Input) (left : ℕ) (z : ℤ) → r ≡ after_read i left z → r.length ≤ i.length + left
-made-within i r left z e = subst (λ (x : Input). x.length ≤ i.length + left) (sym e) (after-within i left z)
+pub made-within : {n left : ℕ} (i r : Input) (z : ℤ) → r ≡ after_read i left z → i.length ≤ n → left ≡ n - i.length → r.length ≤ n
+made-within {left = left} i r z e h q = omega (arith, subst (λ (x : Input). x.length ≤ i.length + left) (sym e) (after-within i left z), h, q)
 
 -- ---- the answers, one after the other
 
@@ -24,8 +24,8 @@ module _ (n : ℕ) where
   abbrev pub FromHere : Input → Type 0
   FromHere i = (l : List ℤ) (r : Input) → Reads n i l r → ReadBy n r
 
-  pub one-read : (i r : Input) (a : ℤ) {left : ℕ} → left ≡ n - i.length → r ≡ after_read i left a → i.over ≡ false → Moved left a → FromHere i → FromHere r
-  one-read i r a q e o m f l x h =
+  pub one-read : (i r : Input) (a : ℤ) {left : ℕ} → r ≡ after_read i left a → Moved left a → i.over ≡ false → left ≡ n - i.length → FromHere i → FromHere r
+  one-read i r a e m o q f l x h =
       f (a ∷ l) x
       (o, (subst (λ (k : ℕ). Moved k a) q m, subst (λ (y : Input). Reads n y l x) (e ∙ ap (λ (k : ℕ). after_read i k a) q) h))
 

@@ -8,6 +8,7 @@ ghost use Rattle.sheet_input.specs.Reading.{answer_of, Moved, after_read, ReadBy
 use std::io::Read;
 
 // What was read so far: how many bytes stand at the start of the room, whether the reading is over, and whether a read failed.
+// Flags, and neither Option nor Result: the length counts also where a read failed, and where the reading is over.
 #[derive(Clone, Copy)]
 pub struct Input {
     pub length: usize,
@@ -52,6 +53,7 @@ pub fn read_sheet<R: Read>(from: &mut R, room: &mut [u8]) -> Input
         over: false,
         failed: false,
     };
+    // No `for`: how many reads there are their answers decide, and what was read stands in one value.
     while !input.over {
         let rest = &mut room[input.length..];
         let left = rest.len();
