@@ -1,13 +1,18 @@
 -- When a near reading of the data passes: by the library's definitions, what it answers and leaves is what the data says. Assumes nothing.
 use Rattle.std.specs.Prelude.{ℕ, Bool, ◌&&◌, not, cond, List, ◌++◌, eqb, leb, length, take, drop, Float}
 use Rattle.frames.specs.Reading.{same_number}
-use Rattle.near_reading.specs.declared.NearReading.{NearReading}
-use Rattle.near_reading.specs.declared.NearReading.TheVariants.{Near, Far, Refused}
-use Rattle.near_reading.specs.Answer.{near_message, near_answer}
+use Rattle.near_reading.specs.Answer.{NearReading, Near, Far, Refused, near_message, near_answer}
 use Rattle.answers.specs.Answer.{answer_of, near_code, near_held}
 use Rattle.octets.specs.Same.{same_bytes}
 use Rattle.test_data.specs.Alike.{same_float}
 use Rattle.test_near.specs.declared.judging.Reading.{Reading}
+use Rattle.test_near.specs.declared.Check.{Check}
+use Rattle.test_near.specs.declared.Check.TheVariants.{Library, Exported}
+
+-- the place of a check in the tally
+abbrev pub place : Check → ℕ
+place Library = 0
+place Exported = 1
 
 -- the case answers the number and the distance: a distance for 0, too far for 16, a refusal for any other number
 unfoldable pub is_answer : NearReading → ℕ → Float → Bool
