@@ -15,8 +15,7 @@ use Rattle.frames.specs.Sending.{frame_after}
 use Rattle.power_account.specs.declared.Account.{Account}
 use Rattle.power_account.specs.Counted.{number_for, counted_refusal, counted_account}
 use Rattle.power_account.specs.History.{Call, answer, after}
-use Rattle.queue_turns.specs.declared.Queued.{Queued}
-use Rattle.queue_turns.specs.Queue.{calls_for, one_more, in_turn, frames_in_turn}
+use Rattle.queue_turns.specs.Queue.{Queued, calls_for, one_more, in_turn, frames_in_turn}
 use Rattle.power_account.proofs.History.{frame-of}
 use Rattle.queue_turns.proofs.Turns.{sent-answer, sent-frames, refused-answer, refused-frames}
 

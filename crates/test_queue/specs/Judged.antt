@@ -1,15 +1,19 @@
 -- When a queue of the data passes: by the library's definitions, what sending it answers and leaves is what the data says. Assumes nothing.
 use Rattle.std.specs.Prelude.{ℕ, zero, suc, ◌+◌, Bool, ◌&&◌, ◌||◌, cond, List, [], ◌∷◌, ◌++◌, eqb, leb, ℤ, pos, length, take, drop}
 use Rattle.frames.specs.Reading.{same_number, same_frame}
-use Rattle.queue_turns.specs.declared.Queued.{Queued}
-use Rattle.queue_turns.specs.Queue.{queue_outcome, queue_frames}
+use Rattle.queue_turns.specs.Queue.{Queued, queue_outcome, queue_frames}
 use Rattle.answers.specs.Answer.{answer_of, queue_answer}
 use Rattle.test_data.specs.Alike.{same_account}
 use Rattle.test_tally.specs.Tally.{judged}
 use Rattle.test_queue.specs.declared.judging.Queue.{Queue}
+use Rattle.test_queue.specs.declared.one_by_one.Answered.{Answered}
+
+-- an answer of this program, as the definitions have it
+abbrev pub answered : Answered → Queued
+answered q = record { number = q.number; sent = q.sent; account = q.account }
 
 -- what sending a queue gives, the same in every figure
-unfoldable pub same_queued : Queued → Queued → Bool
+unfoldable pub same_queued : Queued → Answered → Bool
 same_queued a b = eqb a.number b.number && (eqb a.sent b.sent && same_account a.account b.account)
 
 -- what sending the messages into n lent coordinates gives

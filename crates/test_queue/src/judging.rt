@@ -1,12 +1,11 @@
 // Whether a queue, sent one of three ways, gives the answer that the data says, and leaves the coordinates that it has to.
 ghost use Rattle.std.specs.Prelude.{◌≡◌, length};
-ghost use Rattle.queue_turns.specs.Queue.{queue_frames};
-ghost use Rattle.test_queue.specs.Judged.{same_queued, exported_answers, answers_by, laid_out, frames_left, passes, holds_by, is_begun, counted};
+ghost use Rattle.queue_turns.specs.Queue.{queue_outcome, queue_frames};
+ghost use Rattle.test_queue.specs.Judged.{answered, same_queued, exported_answers, answers_by, laid_out, frames_left, passes, holds_by, is_begun, counted};
 
-use super::one_by_one::one_by_one;
+use super::one_by_one::{Answered, one_by_one};
 use super::{EXPORTED, LIBRARY, ONE_BY_ONE, judge};
 use account::Account;
-use queue::Queued;
 use test_data::{same_account, same_answer, same_coordinates};
 
 // A queue without its messages: kind, grade, the account, and the answer.
@@ -15,11 +14,11 @@ pub struct Queue {
     pub kind: u8,
     pub grade: u8,
     pub account: Account,
-    pub answer: Queued,
+    pub answer: Answered,
 }
 
-fn same(a: Queued, b: Queued) -> bool
-    ensures { result ≡ same_queued a b }
+fn same(a: Answered, b: Answered) -> bool
+    ensures { result ≡ same_queued (answered a) b }
 {
     if a.number != b.number {
         return false;
@@ -68,6 +67,25 @@ fn exported(q: Queue, messages: &[u8], frames: &mut [i32]) -> bool
     same_account(grown, answer.account)
 }
 
+// Sends the queue in one call of the library, and gives the number of its answer.
+fn send_queue(
+    kind: u8,
+    grade: u8,
+    messages: &[u8],
+    frames: &mut [i32],
+    account: Account,
+) -> Answered
+    ensures queued { answered result ≡ queue_outcome kind grade messages.now (length frames.old) account }
+    ensures frames { frames.new ≡ queue_frames kind grade messages.now frames.old account }
+{
+    let q = queue::send_queue(kind, grade, messages, frames, account);
+    Answered {
+        number: refusals::number(q.answer),
+        sent: q.sent,
+        account: q.account,
+    }
+}
+
 // Whether the queue sent this way gives the answer.
 fn answers(way: usize, q: Queue, messages: &[u8], frames: &mut [i32]) -> bool
     ensures answer { result ≡ answers_by way q messages.now (length frames.old) }
@@ -83,7 +101,7 @@ fn answers(way: usize, q: Queue, messages: &[u8], frames: &mut [i32]) -> bool
         );
     }
     same(
-        queue::send_queue(q.kind, q.grade, messages, frames, q.account),
+        send_queue(q.kind, q.grade, messages, frames, q.account),
         q.answer,
     )
 }

@@ -34,7 +34,7 @@ fn write_name(way: usize) -> bool {
 fn judge(tally: &mut [u64; 16], number: u64, way: usize, passed: bool)
     ensures { tally.new ≡ judged way passed tally.old }
 {
-    test_tally::judge(tally, way, passed);
+    test_tally::count(tally, way, passed);
     if passed {
         return;
     }
@@ -49,7 +49,7 @@ fn judge(tally: &mut [u64; 16], number: u64, way: usize, passed: bool)
 fn file_differs(tally: &mut [u64; 16])
     ensures { tally.new ≡ judged 15 false tally.old }
 {
-    test_tally::judge(tally, DIFFERENT, false);
+    test_tally::count(tally, DIFFERENT, false);
     write(b"different: the file\n");
 }
 

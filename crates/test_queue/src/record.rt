@@ -4,7 +4,7 @@ ghost use Rattle.test_tally.specs.Tally.{GrownBy};
 
 use super::file_differs;
 use super::judging::{Queue, hold};
-use queue::Queued;
+use super::one_by_one::Answered;
 use test_data::{account_in, fill, size};
 
 // Takes a record from its messages of m bytes on, with n coordinates to lend, and answers whether it is whole, with room for it.
@@ -57,7 +57,7 @@ pub fn take(fd: i32, v: u64, tally: &mut [u64; 16]) -> bool
         kind: head[0],
         grade: head[1],
         account: account_in(&head[8..32]),
-        answer: Queued {
+        answer: Answered {
             number: head[6],
             sent: size(head[7]),
             account: account_in(&head[32..56]),

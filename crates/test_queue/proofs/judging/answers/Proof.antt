@@ -1,7 +1,7 @@
 -- `answers`: one of the three ways. Assumes nothing.
 use mathlib.Core.Path.{ap, ◌∙◌}
 use borrow.Author.Tests.{eq-eqb, ne_eqb}
-use Rattle.queue_turns.specs.declared.Queued.{Queued}
+use Rattle.queue_turns.specs.Queue.{Queued}
 use Rattle.test_queue.specs.Judged.{same_queued, answers_by}
 use borrow.Author.Rules.{rules}
 use Rattle.test_queue.proofs.judging.answers.Statement.{statement}
@@ -53,7 +53,7 @@ returns-3 c =
     let d = w.before.before.before in
     let q = d.before.before.args.q in
     let e = w.send_queue.ensures in
-    (rw (ne_eqb _ _ d.if-way-eq-EXPORTED.false) (c.same-2.ensures ∙ ap (λ (x : Queued). same_queued x q.answer) e.0), e.1.0)
+    (rw (ne_eqb _ _ d.if-way-eq-EXPORTED.false) (c.same-2.ensures ∙ ap (λ (x : Queued). same_queued x q.answer) e.0), e.1)
 
 pub answers_spec : {M : Type 1} → statement M
 answers_spec =
