@@ -2,11 +2,9 @@
 use Rattle.std.specs.Prelude.{ℕ, ◌-◌, Bool, ◌&&◌, cond, List, eqb, ℤ, length}
 use Rattle.octets.specs.Same.{same_bytes}
 use Rattle.frames.specs.Reading.{same_number, same_frame}
-use Rattle.records.specs.declared.RecordWritten.{RecordWritten}
-use Rattle.records.specs.declared.RecordRead.{RecordRead}
 use Rattle.records.specs.Record.{record_length}
-use Rattle.records.specs.Writing.{write_answer, buffer_after}
-use Rattle.records.specs.Reading.{read_answer, frame_read}
+use Rattle.records.specs.Writing.{RecordWritten, write_answer, buffer_after}
+use Rattle.records.specs.Reading.{RecordRead, read_answer, frame_read}
 use Rattle.answers.specs.Answer.{answer_of, write_code, write_held, read_code, Figures, figures_of, read_held}
 use Rattle.test_records.specs.declared.cases.Case.{Case}
 

@@ -41,7 +41,7 @@ fn write_name(check: usize) -> bool {
 fn judge(tally: &mut [u64; 16], v: u64, check: usize, passed: bool)
     ensures { tally.new ≡ judged check passed tally.old }
 {
-    test_tally::judge(tally, check, passed);
+    test_tally::count(tally, check, passed);
     if passed {
         return;
     }
@@ -56,7 +56,7 @@ fn judge(tally: &mut [u64; 16], v: u64, check: usize, passed: bool)
 fn file_differs(tally: &mut [u64; 16])
     ensures { tally.new ≡ judged 15 false tally.old }
 {
-    test_tally::judge(tally, DIFFERENT, false);
+    test_tally::count(tally, DIFFERENT, false);
     write(b"different: the file\n");
 }
 

@@ -1,6 +1,6 @@
 // Whether a record is read as the data says.
 ghost use Rattle.std.specs.Prelude.{◌≡◌};
-ghost use Rattle.records.specs.Reading.{frame_read};
+ghost use Rattle.records.specs.Reading.{frame_read, record_read};
 ghost use Rattle.frames.specs.Reading.{same_number};
 ghost use Rattle.answers.specs.Answer.{answer_of, figures_of};
 ghost use Rattle.test_tally.specs.Tally.{judged};
@@ -8,29 +8,33 @@ ghost use Rattle.test_records.specs.Judged.{same_read, reader_right, figures_bef
 
 use super::cases::Case;
 use super::{EXPORTED_READER, READER, judge};
-use records::RecordRead;
+use records::Record;
+use refusals::Refusal;
 use test_data::{same_answer, same_coordinates};
 
-// Whether the library's reader answers what the data says.
-fn same_read(r: RecordRead, q: Case) -> bool
-    ensures { result ≡ same_read r q }
+// Whether the library's reader answers what the data says: the record, or the refusal, for which there is 0 in every figure.
+#[tactic(auto, unfolding(crate::specs::Judged::same_read))]
+fn same_read(r: Result<Record, Refusal>, q: Case) -> bool
+    ensures { result ≡ same_read (record_read r) q }
 {
-    if r.refusal != q.refusal {
-        return false;
+    match r {
+        Ok(found) => {
+            q.refusal == 0
+                && found.kind == q.kind
+                && found.grade == q.grade
+                && found.number == q.number
+                && found.energy == q.energy
+                && found.next == q.next
+        }
+        Err(refusal) => {
+            refusal.number() == q.refusal
+                && q.kind == 0
+                && q.grade == 0
+                && q.number == 0
+                && q.energy == 0
+                && q.next == 0
+        }
     }
-    if r.kind != q.kind {
-        return false;
-    }
-    if r.grade != q.grade {
-        return false;
-    }
-    if r.number != q.number {
-        return false;
-    }
-    if r.energy != q.energy {
-        return false;
-    }
-    r.next == q.next
 }
 
 // Whether it does, and leaves the frame as it has to be.

@@ -1,23 +1,24 @@
 // Whether a record is written as the data says.
 ghost use Rattle.std.specs.Prelude.{◌≡◌};
-ghost use Rattle.records.specs.Writing.{buffer_after};
+ghost use Rattle.records.specs.Writing.{buffer_after, record_written};
 ghost use Rattle.test_tally.specs.Tally.{judged};
 ghost use Rattle.test_records.specs.Judged.{same_written, writer_right, held_next, exported_writer_right};
 
 use super::cases::Case;
 use super::{EXPORTED_WRITER, WRITER, judge};
 use octets::same_bytes;
-use records::RecordWritten;
+use refusals::Refusal;
 use test_data::same_answer;
 
-// Whether the library's writer answers what the data says.
-fn same_written(r: RecordWritten, q: Case) -> bool
-    ensures { result ≡ same_written r q }
+// Whether the library's writer answers what the data says: the place after the record, or the refusal, which has no place.
+#[tactic(auto, unfolding(crate::specs::Judged::same_written))]
+fn same_written(r: Result<usize, Refusal>, q: Case) -> bool
+    ensures { result ≡ same_written (record_written r) q }
 {
-    if r.refusal != q.refusal {
-        return false;
+    match r {
+        Ok(next) => q.refusal == 0 && next == q.next,
+        Err(refusal) => refusal.number() == q.refusal && q.next == 0,
     }
-    r.next == q.next
 }
 
 // Whether it does, and leaves the buffer as it has to be.
