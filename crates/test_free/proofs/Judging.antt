@@ -14,7 +14,7 @@ use borrow.Author.Tests.{eq-eqb, ne_eqb, eqb-true}
 use Rattle.frames.specs.Reading.{message_after, energy_read}
 use Rattle.power_account.specs.declared.Account.{Account}
 use Rattle.octets.specs.Same.{same_bytes}
-use Rattle.octets.proofs.Compared.{bytes_same}
+use Rattle.octets.proofs.Compared.{same-exactly}
 use Rattle.test_tally.specs.Tally.{judged, judged_all}
 use Rattle.test_tally.proofs.Counted.{then-judged}
 use Rattle.test_free.specs.declared.calls.Under.{Under}
@@ -67,7 +67,7 @@ module _ (strict : Bool) (u : Under) (x : List ℤ) (m : List ℕ) (expected : A
             e,
             ne_eqb expected.number 0 z,
             ne_eqb (read_refusal strict u x (length m)) 0 (λ r. z (sym (eqb-true (read_refusal strict u x (length m)) expected.number e) ∙ r)),
-            bytes_same lent,
+            (same-exactly lent lent).same refl,
           ) refl
       go false e = rw e refl
 

@@ -1,9 +1,11 @@
 // A call of the library, or of the exported function: the same is said of both.
 ghost use Rattle.std.specs.Prelude.{◌≡◌, true, length};
 ghost use Rattle.frames.specs.Reading.{message_after};
+ghost use Rattle.refusals.specs.Number.{number_of, figure_of};
 ghost use Rattle.test_free.specs.Judged.{answered, decoded, read_refusal, read_answer, sent_of, frame_left};
 
 use account::Account;
+use refusals::Refusal;
 
 // What a message is sent and a frame is read under.
 #[derive(Clone, Copy)]
@@ -28,13 +30,23 @@ pub struct Sent {
     pub account: Account,
 }
 
-// The answer of a function of the library, or of a record.
+// The answer that stands in a record.
 pub fn given(number: u8, energy: u64) -> Answer
     ensures { result ≡ answered number energy }
 {
     Answer {
         number: number as u64,
         energy,
+    }
+}
+
+// The answer of a function of the library.
+fn answered_by(r: Result<u64, Refusal>) -> Answer
+    ensures { result ≡ answered (number_of r) (figure_of r) }
+{
+    match r {
+        Ok(energy) => given(0, energy),
+        Err(refusal) => given(refusal.number(), 0),
     }
 }
 
@@ -70,10 +82,10 @@ pub fn read(outside: bool, strict: bool, u: Under, frame: &[i32], message: &mut 
     }
     if strict {
         let r = reading::read_strict(u.kind, u.grade, u.number, u.free, frame, message);
-        return given(r.number, r.energy);
+        return answered_by(r);
     }
     let r = reading::read_open(u.kind, u.grade, u.free, frame, message);
-    given(r.number, r.energy)
+    answered_by(r)
 }
 
 // The exported sending with an account.
@@ -123,10 +135,9 @@ pub fn send(
             return send_counted(u, message, frame, account);
         }
         let r = account::send_counted(u.kind, u.grade, u.free, message, frame, account);
-        let grown = r.account;
         return Sent {
-            answer: given(r.number, r.energy),
-            account: grown,
+            answer: answered_by(r.answer),
+            account: r.account,
         };
     }
     if outside {
@@ -138,7 +149,7 @@ pub fn send(
     }
     let r = sending::send(u.kind, u.grade, u.number, u.free, message, frame);
     Sent {
-        answer: given(r.number, r.energy),
+        answer: answered_by(r),
         account,
     }
 }

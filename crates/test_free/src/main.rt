@@ -52,7 +52,7 @@ fn write_name(check: usize) -> bool {
 fn judge(tally: &mut [u64; 16], number: u64, check: usize, passed: bool)
     ensures { tally.new ≡ judged check passed tally.old }
 {
-    test_tally::judge(tally, check, passed);
+    test_tally::count(tally, check, passed);
     if passed {
         return;
     }

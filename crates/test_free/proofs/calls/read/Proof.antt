@@ -53,8 +53,8 @@ returns-2 c =
 read-strict-requires : tie.Need-read_strict-r-requires
 read-strict-requires c κs = search rules
 
-given-requires : tie.Need-given-requires
-given-requires c κs = search rules
+answered-by-requires : tie.Need-answered_by-requires
+answered-by-requires c κs = search rules
 
 same-length-3 : tie.Need-shape_of-message-then-strict-2
 same-length-3 c = search rules
@@ -65,13 +65,13 @@ returns-3 c =
     let u = t in
     let s = u.args in
     let e = t.read_strict-r.ensures in
-    rw u.if-strict-2.true (read-given s.u.kind s.u.grade s.u.free c.given.ensures e.0 s.frame.now s.message.now e.1.0 e.1.1)
+    rw u.if-strict-2.true (read-given s.u.kind s.u.grade s.u.free c.answered_by.ensures e.0 s.frame.now s.message.now e.1.0 e.1.1)
 
 read-open-requires : tie.Need-read_open-r-requires
 read-open-requires c κs = search rules
 
-given-requires-2 : tie.Need-given-requires-2
-given-requires-2 c κs = search rules
+answered-by-requires-2 : tie.Need-answered_by-requires-2
+answered-by-requires-2 c κs = search rules
 
 same-length-4 : tie.Need-shape_of-message
 same-length-4 c = search rules
@@ -82,7 +82,7 @@ returns-4 c =
     let u = t in
     let s = u.args in
     let e = t.read_open-r.ensures in
-    rw u.if-strict-2.false (read-given s.u.kind s.u.grade s.u.free c.given-2.ensures e.0 s.frame.now s.message.now e.1.0 e.1.1)
+    rw u.if-strict-2.false (read-given s.u.kind s.u.grade s.u.free c.answered_by-2.ensures e.0 s.frame.now s.message.now e.1.0 e.1.1)
 
 pub read_spec : {M : Type 1} → statement M
 read_spec =
@@ -97,10 +97,10 @@ read_spec =
     same-length-2
     returns-2
     read-strict-requires
-    given-requires
+    answered-by-requires
     same-length-3
     returns-3
     read-open-requires
-    given-requires-2
+    answered-by-requires-2
     same-length-4
     returns-4)

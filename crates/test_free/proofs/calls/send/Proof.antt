@@ -24,8 +24,8 @@ returns c =
 send-counted-requires-2 : tie.Need-send_counted-r-requires
 send-counted-requires-2 c κs = search rules
 
-given-requires : tie.Need-given-requires
-given-requires c κs = search rules
+answered-by-requires : tie.Need-answered_by-requires
+answered-by-requires c κs = search rules
 
 same-length-2 : tie.Need-shape_of-frame-then-counted
 same-length-2 c = search rules
@@ -37,7 +37,7 @@ returns-2 c =
     let s = u.args in
     let e = t.send_counted-r.ensures in
     rw u.if-counted.true
-    (sent-given s.u.kind s.u.grade s.u.free c.given.ensures e.0 (number_for s.account) s.message.now s.frame.now
+    (sent-given s.u.kind s.u.grade s.u.free c.answered_by.ensures e.0 (number_for s.account) s.message.now s.frame.now
     (λ n. counted_account n s.u.kind s.u.grade s.u.free s.message.now s.account) e.1.0 e.1.1.0 e.1.1.1.0)
 
 coder-send-requires : tie.Need-coder_send-r-requires
@@ -62,8 +62,8 @@ returns-3 c =
 send-requires : tie.Need-send-r-requires
 send-requires c κs = search rules
 
-given-requires-2 : tie.Need-given-requires-2
-given-requires-2 c κs = search rules
+answered-by-requires-2 : tie.Need-answered_by-requires-2
+answered-by-requires-2 c κs = search rules
 
 same-length-4 : tie.Need-shape_of-frame
 same-length-4 c = search rules
@@ -75,7 +75,7 @@ returns-4 c =
     let s = u.args in
     let e = t.send-r.ensures in
     rw u.if-counted.false
-    (sent-given s.u.kind s.u.grade s.u.free c.given-2.ensures e.0 s.u.number s.message.now s.frame.now (λ n. s.account) e.1.0 e.1.1.0 refl)
+    (sent-given s.u.kind s.u.grade s.u.free c.answered_by-2.ensures e.0 s.u.number s.message.now s.frame.now (λ n. s.account) e.1.0 e.1.1.0 refl)
 
 pub send_spec : {M : Type 1} → statement M
 send_spec =
@@ -85,7 +85,7 @@ send_spec =
     same_length
     returns
     send-counted-requires-2
-    given-requires
+    answered-by-requires
     same-length-2
     returns-2
     coder-send-requires
@@ -93,6 +93,6 @@ send_spec =
     same-length-3
     returns-3
     send-requires
-    given-requires-2
+    answered-by-requires-2
     same-length-4
     returns-4)

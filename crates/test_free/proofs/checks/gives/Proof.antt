@@ -2,7 +2,6 @@
 use mathlib.Core.Path.{refl, sym, ap, ◌∙◌}
 use mathlib.Core.List.{List}
 use Prim.Native.Nat.{ℕ}
-use borrow.Author.Tests.{not-true, not-false}
 use Rattle.octets.specs.Same.{same_bytes}
 use Rattle.test_free.specs.declared.calls.Answer.{Answer}
 use Rattle.test_free.specs.Judged.{same_answer}

@@ -2,7 +2,7 @@
 use mathlib.Core.Path.{refl, sym, ap, ◌∙◌}
 use mathlib.Core.List.{List}
 use lib.IntN.{ℤ}
-use borrow.Author.Tests.{not-true, not-false, eq-eqb, ne_eqb}
+use borrow.Author.Tests.{eq-eqb, ne_eqb}
 use Rattle.frames.specs.Reading.{same_frame}
 use Rattle.test_free.specs.declared.calls.Sent.{Sent}
 use Rattle.test_free.specs.Judged.{same_sent, is_first}

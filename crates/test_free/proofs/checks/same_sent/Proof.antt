@@ -1,6 +1,5 @@
 -- `same_sent`: by the answers, and then by the accounts. Assumes nothing.
 use mathlib.Core.Path.{refl, sym, ◌∙◌}
-use borrow.Author.Tests.{not-true, not-false}
 use borrow.Author.Rules.{rules}
 use Rattle.test_free.proofs.checks.same_sent.Statement.{statement}
 use Rattle.test_free.proofs.checks.same_sent.Tie as tie
