@@ -1,7 +1,7 @@
 /* The shaping of one block for C99 and C++: link with libbench_block.a, which `tools/archives bench_block` makes in target/staticlib.
  *
  * A block is eight whole numbers, lent as a pointer and a length. The archive is for x86-64 Linux, as libframe_coder.a is; what
- * crates/frame_coder/frame_coder.h says for firmware holds for it too (1017 bytes of text, no undefined symbols, no data).
+ * crates/frame_coder/frame_coder.h says for firmware holds for it too (992 bytes of text, no undefined symbols, no data).
  * What a caller has to see to, since nothing here can test it:
  *   - a pointer is valid for as many elements as the length says, and aligned; where the length is 0 it may be anything, null too:
  *     the answer is false before anything is read or written;

@@ -137,14 +137,14 @@
  *     Measured on the archive of this version, A=target/staticlib/libframe_coder.a:
  *
  *       nm -u $A        one undefined symbol: memset
- *       size $A         text 26622 (code and constants), data 0, bss 0
- *       size -A $A      a section for each function, so that -Wl,--gc-sections leaves out what is not called: of 25503 bytes of
- *                       code coder_send alone needs 12703, the open and the strict reading 13088, coder_read_near alone 12234,
- *                       coder_closer alone 12477, coder_write_record alone 13024, coder_read_record alone 10819
+ *       size $A         text 30312 (code and constants), data 0, bss 0
+ *       size -A $A      a section for each function, so that -Wl,--gc-sections leaves out what is not called: of 28684 bytes of
+ *                       code coder_send alone needs 12752, the open and the strict reading 15529, coder_read_near alone 14417,
+ *                       coder_closer alone 15205, coder_write_record alone 13237, coder_read_record alone 13099
  *       cc -I crates/frame_coder tools/c/stack.c $A -o target/stack && target/stack
  *                       the most stack that a call used, in bytes, with its return address and the arguments on the stack:
- *                       coder_open 8, coder_send 2320, coder_send_counted 2352, coder_send_queue 1248, coder_read_open 576,
- *                       coder_read_strict 2256, coder_read_near 1536, coder_closer 1664, coder_write_record 1424,
+ *                       coder_open 8, coder_send 2288, coder_send_counted 2336, coder_send_queue 1216, coder_read_open 616,
+ *                       coder_read_strict 2224, coder_read_near 1624, coder_closer 1752, coder_write_record 1408,
  *                       coder_read_record 1792, coder_record_length 8
  *       objdump -dr $A | grep -E '>:$|push|sub .*,%rsp|-0x[0-9a-f]*\(%rsp\)|PLT32'
  *                       where it goes. Nothing recurs, and some of the bytes, 128 at most, lie below the stack pointer, in the
