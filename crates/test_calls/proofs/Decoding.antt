@@ -17,7 +17,7 @@ use Rattle.frames.specs.Free.{is_free_count}
 use Rattle.frames.specs.Sending.{unless, free_set, send_refusal, energy_sent}
 use Rattle.frames.specs.Reading.{in_range, broken, open_refusal, is_sent, strict_refusal, energy_read}
 use Rattle.power_account.specs.declared.Account.{Account}
-use Rattle.account.specs.declared.Counted.{Counted}
+use Rattle.test_calls.specs.declared.Answer.{Answer}
 use Rattle.power_account.specs.Power.{full}
 use Rattle.power_account.specs.Opening.{opening_refusal, opened_with}
 use Rattle.power_account.specs.Counted.{number_for, counted_refusal}
@@ -78,24 +78,24 @@ small-opening changeover = either (leb changeover 1000000) 14 0 (omega arith) (o
 
 -- ---- what each exported function's number says
 
-pub decoded-sending : (k b f number : ℕ) (m : List ℕ) (n : ℕ) {r : Counted} {z : ℤ} {a : Account} → r ≡ decoded z a → z ≡ send_answer k b f number m n
+pub decoded-sending : (k b f number : ℕ) (m : List ℕ) (n : ℕ) {r : Answer} {z : ℤ} {a : Account} → r ≡ decoded z a → z ≡ send_answer k b f number m n
     → r ≡ answered (send_refusal k b f m n) (energy_sent (send_refusal k b f m n) k b f number m) a
 unfolding send_answer energy_sent
 decoded-sending k b f number m n {a = a} e p = e ∙ ap (λ (z : ℤ). decoded z a) p ∙ decoded-answer (send_refusal k b f m n) _ a (small-sending k b f m n)
 
-pub decoded-open : (k b f : ℕ) (x : List ℤ) (n : ℕ) {r : Counted} {z : ℤ} {a : Account} → r ≡ decoded z a → z ≡ open_answer k b f x n
+pub decoded-open : (k b f : ℕ) (x : List ℤ) (n : ℕ) {r : Answer} {z : ℤ} {a : Account} → r ≡ decoded z a → z ≡ open_answer k b f x n
     → r ≡ answered (open_refusal k b f x n) (energy_read (open_refusal k b f x n) x) a
 unfolding open_answer energy_read
 decoded-open k b f x n {a = a} e p = e ∙ ap (λ (z : ℤ). decoded z a) p ∙ decoded-answer (open_refusal k b f x n) _ a (small_open k b f x n)
 
-pub decoded-strict : (k b f number : ℕ) (x : List ℤ) (n : ℕ) {r : Counted} {z : ℤ} {a : Account} → r ≡ decoded z a → z ≡ strict_answer k b f number x n
+pub decoded-strict : (k b f number : ℕ) (x : List ℤ) (n : ℕ) {r : Answer} {z : ℤ} {a : Account} → r ≡ decoded z a → z ≡ strict_answer k b f number x n
     → r ≡ answered (strict_refusal k b f number x n) (energy_read (strict_refusal k b f number x n) x) a
 unfolding strict_answer energy_read
 decoded-strict k b f number x n {a = a} e p =
     e ∙ ap (λ (z : ℤ). decoded z a) p ∙ decoded-answer (strict_refusal k b f number x n) _ a (small-strict k b f number x n)
 
 -- the account is another than the one that was sent with
-pub decoded-counted : (k b f : ℕ) (m : List ℕ) (n : ℕ) (a : Account) {r : Counted} {z : ℤ} {c : Account} → r ≡ decoded z c → z ≡ counted_answer k b f m n a
+pub decoded-counted : (k b f : ℕ) (m : List ℕ) (n : ℕ) (a : Account) {r : Answer} {z : ℤ} {c : Account} → r ≡ decoded z c → z ≡ counted_answer k b f m n a
     → c ≡ counted_held k b f m n a
     → r ≡ answered (counted_refusal k b f m n a) (energy_sent (counted_refusal k b f m n a) k b f (number_for a) m) (counted_held k b f m n a)
 unfolding counted_answer energy_sent
@@ -109,7 +109,7 @@ none : (t : Bool) → ◌≡◌ {A = ℕ} (cond t 0 0) 0
 none true = refl
 none false = refl
 
-pub decoded-opening : (changeover : ℕ) {r : Counted} {z : ℤ} {a : Account} → r ≡ decoded z a → z ≡ opening_answer changeover
+pub decoded-opening : (changeover : ℕ) {r : Answer} {z : ℤ} {a : Account} → r ≡ decoded z a → z ≡ opening_answer changeover
     → a ≡ (opened_with changeover).account → r ≡ answered (opened_with changeover).number 0 (opened_with changeover).account
 unfolding opening_answer opened_with
 decoded-opening changeover {a = a} e p q =

@@ -3,21 +3,28 @@ use Rattle.std.specs.Prelude.{ℕ, suc, Bool, ◌&&◌, ◌||◌, cond, List, �
 use Rattle.frames.specs.Sending.{send_refusal, frame_after, energy_sent}
 use Rattle.frames.specs.Reading.{open_refusal, strict_refusal, message_after, energy_read, same_frame}
 use Rattle.power_account.specs.declared.Account.{Account}
-use Rattle.account.specs.declared.Counted.{Counted}
 use Rattle.power_account.specs.Opening.{opened_with}
 use Rattle.power_account.specs.Counted.{number_for, counted_refusal, counted_account}
 use Rattle.octets.specs.Same.{same_bytes}
 use Rattle.test_data.specs.Alike.{same_account}
 use Rattle.test_calls.specs.declared.record.Call.{Call}
 use Rattle.test_calls.specs.declared.record.Lent.{Lent}
+use Rattle.test_calls.specs.declared.Answer.{Answer}
+use Rattle.test_calls.specs.declared.Check.{Check}
+use Rattle.test_calls.specs.declared.Check.TheVariants.{Called, Exported}
+
+-- the place of a check in the tally: a call's is the number of its function
+abbrev pub place : Check → ℕ
+place (Called function) = function
+place Exported = 5
 
 -- an answer: the refusal number, the energy and the account
-abbrev pub answered : ℕ → ℕ → Account → Counted
+abbrev pub answered : ℕ → ℕ → Account → Answer
 answered number energy a = record { number = number; energy = energy; account = a }
 
 -- what a call answers, and the message and the frame that it leaves
 pub record Outcome : Type 0 where
-  pub answer : Counted
+  pub answer : Answer
   pub message : List ℕ
   pub frame : List ℤ
 
@@ -64,7 +71,7 @@ outcome_of function k b number m x a =
     (opening_outcome number m x))))
 
 -- what an exported function's number says: the energy, or minus the refusal number, which is a byte
-unfoldable pub decoded : ℤ → Account → Counted
+unfoldable pub decoded : ℤ → Account → Answer
 decoded (pos e) a = answered 0 e a
 decoded (negsuc n) a = answered (cond (ltb n 255) (suc n) 255) 0 a
 
@@ -80,12 +87,12 @@ made_outcome c m x a =
     )
 
 -- two answers are the same
-unfoldable pub same_answer : Counted → Counted → Bool
+unfoldable pub same_answer : Answer → Answer → Bool
 unfolding same_account
 same_answer a b = eqb a.number b.number && (eqb a.energy b.energy && same_account a.account b.account)
 
 -- THE JUDGEMENT: the call answers what it has to, and leaves what it has to
-unfoldable pub is_held : Call → Lent → Account → Counted → Lent → Bool
+unfoldable pub is_held : Call → Lent → Account → Answer → Lent → Bool
 unfolding made_outcome same_answer same_bytes same_frame
 is_held c lent a answer left =
     let o = made_outcome c lent.message lent.frame a in

@@ -4,28 +4,22 @@ ghost use Rattle.power_account.specs.Opening.{opened_with};
 ghost use Rattle.power_account.specs.Counted.{number_for, counted_refusal};
 ghost use Rattle.test_calls.specs.Outcome.{answered, decoded, counted_outcome, outcome_of};
 
-use super::{READ_OPEN, READ_STRICT, SEND, SEND_COUNTED};
-use account::{Account, Counted};
+use super::{Answer, READ_OPEN, READ_STRICT, SEND, SEND_COUNTED};
+use account::Account;
 
 // The energy, or minus the refusal number, which is below 256.
-fn answer(r: i64, account: Account) -> Counted
+#[tactic(auto, unfolding(crate::specs::Outcome::decoded))]
+fn answer(r: i64, account: Account) -> Answer
     ensures { result ≡ decoded r account }
 {
-    if r < -255 {
-        return Counted {
-            number: 255,
-            energy: 0,
-            account,
-        };
-    }
     if r < 0 {
-        return Counted {
-            number: (0 - r) as u8,
+        return Answer {
+            number: (0 - r.max(-255)) as u8,
             energy: 0,
             account,
         };
     }
-    Counted {
+    Answer {
         number: 0,
         energy: r as u64,
         account,
@@ -33,7 +27,7 @@ fn answer(r: i64, account: Account) -> Counted
 }
 
 // Opens an account over the figures that are lent.
-fn open(changeover: u32, account: Account) -> Counted
+fn open(changeover: u32, account: Account) -> Answer
     ensures { result ≡ answered (opened_with changeover).number 0 (opened_with changeover).account }
 {
     let mut count = account.count;
@@ -52,7 +46,7 @@ fn open(changeover: u32, account: Account) -> Counted
     )
 }
 
-fn send_counted(kind: u8, grade: u8, message: &[u8], frame: &mut [i32], account: Account) -> Counted
+fn send_counted(kind: u8, grade: u8, message: &[u8], frame: &mut [i32], account: Account) -> Answer
     ensures answer { result ≡ (counted_outcome (counted_refusal kind grade 0 message.now (length frame.old) account)
         kind grade message.now frame.old account).answer }
     ensures frame { frame.new ≡ (counted_outcome (counted_refusal kind grade 0 message.now (length frame.old) account)
@@ -83,39 +77,34 @@ fn send_counted(kind: u8, grade: u8, message: &[u8], frame: &mut [i32], account:
     )
 }
 
+#[tactic(auto, unfolding(crate::specs::Outcome::outcome_of))]
 pub fn call(
-    function: usize,
+    function: u8,
     kind: u8,
     grade: u8,
     number: u32,
     message: &mut [u8],
     frame: &mut [i32],
     account: Account,
-) -> Counted
+) -> Answer
     ensures answer { result ≡ (outcome_of function kind grade number message.old frame.old account).answer }
     ensures message { message.new ≡ (outcome_of function kind grade number message.old frame.old account).message }
     ensures frame { frame.new ≡ (outcome_of function kind grade number message.old frame.old account).frame }
 {
-    if function == SEND {
-        return answer(
+    match function {
+        SEND => answer(
             frame_coder::coder_send(kind, grade, number, 0, message, frame),
             account,
-        );
-    }
-    if function == READ_OPEN {
-        return answer(
+        ),
+        READ_OPEN => answer(
             frame_coder::coder_read_open(kind, grade, 0, frame, message),
             account,
-        );
-    }
-    if function == READ_STRICT {
-        return answer(
+        ),
+        READ_STRICT => answer(
             frame_coder::coder_read_strict(kind, grade, number, 0, frame, message),
             account,
-        );
+        ),
+        SEND_COUNTED => send_counted(kind, grade, message, frame, account),
+        _ => open(number, account),
     }
-    if function == SEND_COUNTED {
-        return send_counted(kind, grade, message, frame, account);
-    }
-    open(number, account)
 }

@@ -7,99 +7,85 @@ mod exported;
 mod library;
 mod record;
 
-ghost use Rattle.std.specs.Prelude.{◌≡◌, false};
-ghost use Rattle.test_tally.specs.Tally.{judged, GrownBy};
+ghost use Rattle.test_calls.specs.Outcome.{place};
 
-use std::os::fd::AsRawFd;
-use test_data::{STDOUT, open_data, write};
-use test_tally::DIFFERENT;
+use account::Account;
+use test_tally::{Checks, Records, file_differs, run};
 
-// The functions, by their numbers in the data, and the calls of the exported ones: the checks of the tally.
-const SEND: usize = 0;
+// The functions, by their numbers in the data: every other number opens an account.
+const SEND: u8 = 0;
 
-const READ_OPEN: usize = 1;
+const READ_OPEN: u8 = 1;
 
-const READ_STRICT: usize = 2;
+const READ_STRICT: u8 = 2;
 
-const SEND_COUNTED: usize = 3;
+const SEND_COUNTED: u8 = 3;
 
-const OPEN: usize = 4;
+const OPEN: u8 = 4;
 
-const EXPORTED: usize = 5;
-
-fn write_name(check: usize) -> bool {
-    match check {
-        SEND => write(b"sending"),
-        READ_OPEN => write(b"open reading"),
-        READ_STRICT => write(b"strict reading"),
-        SEND_COUNTED => write(b"sending with an account"),
-        OPEN => write(b"opening of an account"),
-        EXPORTED => write(b"exported"),
-        _ => write(b"different"),
-    }
+// What a call answers: the refusal number, 0 for success, the energy, and the account. In the data any number may stand.
+#[derive(Clone, Copy)]
+struct Answer {
+    number: u8,
+    energy: u64,
+    account: Account,
 }
 
-// Counts a call. One that did not pass is a difference, and has a line with its number.
-fn judge(tally: &mut [u64; 16], number: u64, check: usize, passed: bool)
-    ensures { tally.new ≡ judged check passed tally.old }
-{
-    test_tally::judge(tally, check, passed);
-    if passed {
-        return;
-    }
-    write(b"different: ");
-    write_name(check);
-    write(b", call ");
-    io::print_decimal(STDOUT, number);
-    write(b"\n");
+// The checks: a call of the library, by the number of its function, and one of an exported function.
+#[derive(Clone, Copy)]
+enum Check {
+    Called(u8),
+    Exported,
 }
 
-// A file that is cut short, or too long, is a difference.
-fn file_differs(tally: &mut [u64; 16])
-    ensures { tally.new ≡ judged 15 false tally.old }
-{
-    test_tally::judge(tally, DIFFERENT, false);
-    write(b"different: the file\n");
-}
+impl Checks for Check {
+    ghost place = { place };
 
-// A line for a check.
-fn print(tally: &[u64; 16], check: usize) {
-    if check < 16 {
-        write_name(check);
-        write(b" ");
-        io::print_decimal(STDOUT, tally[check]);
-        write(b"\n");
-    }
-}
-
-// A proved loop has to end, and nothing says that a file does: a longer file is reported.
-const MOST: u64 = 1000000;
-
-// Takes record after record, to the end of the file or to one that is cut short.
-fn take_all(fd: i32, tally: &mut [u64; 16])
-    ensures { GrownBy tally.old tally.new }
-{
-    let mut v: u64 = 0;
-    while v < MOST {
-        v += 1;
-        if !record::take(fd, v, tally) {
-            return;
+    fn place(self) -> usize {
+        match self {
+            Check::Called(function) => usize::from(function),
+            Check::Exported => 5,
         }
     }
-    file_differs(tally);
+
+    fn name(self) -> &'static [u8] {
+        match self {
+            Check::Called(SEND) => b"sending",
+            Check::Called(READ_OPEN) => b"open reading",
+            Check::Called(READ_STRICT) => b"strict reading",
+            Check::Called(SEND_COUNTED) => b"sending with an account",
+            Check::Called(OPEN) => b"opening of an account",
+            Check::Called(5) | Check::Exported => b"exported",
+            Check::Called(_) => b"different",
+        }
+    }
+
+    fn record() -> &'static [u8] {
+        b"call"
+    }
+}
+
+impl Records<36> for Check {
+    fn take(fd: i32, v: u64, head: &[u8; 36], tally: &mut [u64; 16]) -> bool {
+        record::take(fd, v, head, tally)
+    }
+
+    fn cut(_v: u64, tally: &mut [u64; 16]) {
+        file_differs(tally);
+    }
 }
 
 fn main(rt: HostRuntime) {
-    let mut tally = test_tally::zeros();
-    let Some(file) = open_data(&rt, "calls.bin") else {
-        return;
-    };
-    take_all(file.as_raw_fd(), &mut tally);
-    print(&tally, SEND);
-    print(&tally, READ_OPEN);
-    print(&tally, READ_STRICT);
-    print(&tally, SEND_COUNTED);
-    print(&tally, OPEN);
-    print(&tally, EXPORTED);
-    print(&tally, DIFFERENT);
+    run(
+        &rt,
+        "calls.bin",
+        &[
+            Check::Called(SEND),
+            Check::Called(READ_OPEN),
+            Check::Called(READ_STRICT),
+            Check::Called(SEND_COUNTED),
+            Check::Called(OPEN),
+            Check::Exported,
+        ],
+    );
 }

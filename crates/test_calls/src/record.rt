@@ -5,15 +5,17 @@ ghost use Rattle.octets.specs.Same.{same_bytes};
 ghost use Rattle.test_tally.specs.Tally.{GrownBy};
 ghost use Rattle.test_calls.specs.Outcome.{made_outcome, same_answer, is_held};
 
-use super::{EXPORTED, exported, file_differs, judge, library};
-use account::{Account, Counted};
-use test_data::{account_in, count, fill, number, size};
+use super::{Answer, Check, exported, library};
+use account::Account;
+use octets::same_bytes;
+use test_data::{account_in, count, fill, number, same_account, same_coordinates, size, take_from};
+use test_tally::judge;
 
 // A call: the number of its function; the frame's number, or the changeover that an account is opened with; and how many bytes and
 // coordinates of what is there are lent.
 #[derive(Clone, Copy)]
 struct Call {
-    function: usize,
+    function: u8,
     kind: u8,
     grade: u8,
     number: u32,
@@ -21,34 +23,44 @@ struct Call {
     coordinates: usize,
 }
 
-fn same_answer(a: Counted, b: Counted) -> bool
+#[tactic(auto, unfolding(crate::specs::Outcome::same_answer))]
+fn same_answer(a: Answer, b: Answer) -> bool
     ensures { result ≡ same_answer a b }
 {
-    if a.number != b.number {
-        return false;
-    }
-    if a.energy != b.energy {
-        return false;
-    }
-    test_data::same_account(a.account, b.account)
+    a.number == b.number && a.energy == b.energy && same_account(a.account, b.account)
+}
+
+// Whose function is called.
+#[derive(Clone, Copy)]
+enum Through {
+    Library,
+    Exported,
 }
 
 // Makes the call, of the library or of an exported function.
-fn make(outside: bool, c: Call, message: &mut [u8], frame: &mut [i32], account: Account) -> Counted
+#[tactic(auto, unfolding(crate::specs::Outcome::made_outcome))]
+fn make(
+    through: Through,
+    c: Call,
+    message: &mut [u8],
+    frame: &mut [i32],
+    account: Account,
+) -> Answer
     ensures answer { result ≡ (made_outcome c message.old frame.old account).answer }
     ensures message { message.new ≡ (made_outcome c message.old frame.old account).message }
     ensures frame { frame.new ≡ (made_outcome c message.old frame.old account).frame }
 {
     let m = c.bytes;
     let n = c.coordinates;
-    if message.len() < m {
-        return library::answer(255, 0, account);
+    if message.len() < m || frame.len() < n {
+        return Answer {
+            number: 255,
+            energy: 0,
+            account,
+        };
     }
-    if frame.len() < n {
-        return library::answer(255, 0, account);
-    }
-    if outside {
-        return exported::call(
+    match through {
+        Through::Library => library::call(
             c.function,
             c.kind,
             c.grade,
@@ -56,23 +68,22 @@ fn make(outside: bool, c: Call, message: &mut [u8], frame: &mut [i32], account: 
             &mut message[0..m],
             &mut frame[0..n],
             account,
-        );
+        ),
+        Through::Exported => exported::call(
+            c.function,
+            c.kind,
+            c.grade,
+            c.number,
+            &mut message[0..m],
+            &mut frame[0..n],
+            account,
+        ),
     }
-    library::call(
-        c.function,
-        c.kind,
-        c.grade,
-        c.number,
-        &mut message[0..m],
-        &mut frame[0..n],
-        account,
-    )
 }
 
-// What a call is lent or leaves: bytes and coordinates, and more beyond those that are lent; and whether the file had them.
+// What a call is lent or leaves: bytes and coordinates, and more beyond those that are lent.
 #[derive(Clone, Copy)]
 struct Lent {
-    whole: bool,
     message: [u8; 48],
     frame: [i32; 68],
 }
@@ -83,101 +94,77 @@ fn same_lent(message: [u8; 48], frame: [i32; 68], left: Lent) -> bool
 {
     let m = left.message;
     let f = left.frame;
-    if !octets::same_bytes(&message, &m) {
-        return false;
-    }
-    test_data::same_coordinates(&frame, &f)
+    same_bytes(&message, &m) && same_coordinates(&frame, &f)
 }
 
 // Whether the call gives the answer, and leaves what it has to.
-fn holds(outside: bool, c: Call, lent: Lent, account: Account, answer: Counted, left: Lent) -> bool
+#[tactic(auto, unfolding(crate::specs::Outcome::is_held))]
+fn holds(
+    through: Through,
+    c: Call,
+    lent: Lent,
+    account: Account,
+    answer: Answer,
+    left: Lent,
+) -> bool
     ensures { result ≡ is_held c lent account answer left }
 {
     let mut message = lent.message;
     let mut frame = lent.frame;
-    let r = make(outside, c, &mut message, &mut frame, account);
-    if !same_answer(r, answer) {
-        return false;
-    }
-    same_lent(message, frame, left)
+    let r = make(through, c, &mut message, &mut frame, account);
+    same_answer(r, answer) && same_lent(message, frame, left)
 }
 
-// Takes a message and coordinates.
-fn take_lent(fd: i32) -> Lent {
+// Takes a message and coordinates, where the file has them.
+fn take_lent(fd: i32) -> Option<Lent> {
     let mut message = [0u8; 48];
     let mut bytes = [0u8; 272];
     let mut frame = [0i32; 68];
-    fill(fd, 48, &mut message);
-    let whole = fill(fd, 272, &mut bytes);
-    test_data::coordinates(&bytes, &mut frame);
-    Lent {
-        whole,
-        message,
-        frame,
+    if !fill(fd, 48, &mut message) || !fill(fd, 272, &mut bytes) {
+        return None;
     }
+    take_from(&bytes, &mut frame);
+    Some(Lent { message, frame })
 }
 
-// Takes the energy and the account that have to be answered.
-fn take_answer(fd: i32, refusal: u8) -> Counted
-    ensures { result.number ≡ refusal }
-{
+// Takes the energy and the account that have to be answered, where the file has them.
+fn take_answer(fd: i32, refusal: u8) -> Option<Answer> {
     let mut numbers = [0u8; 32];
-    fill(fd, 32, &mut numbers);
-    Counted {
+    if !fill(fd, 32, &mut numbers) {
+        return None;
+    }
+    Some(Answer {
         number: refusal,
         energy: number(&numbers[0..8]),
         account: account_in(&numbers[8..32]),
-    }
+    })
 }
 
-// Takes record v from its message on, and makes its call.
-fn take_rest(fd: i32, v: u64, c: Call, account: Account, refusal: u8, tally: &mut [u64; 16]) -> bool
+// Takes record v from its head on, and makes its call. Answers whether it is whole.
+pub fn take(fd: i32, v: u64, head: &[u8; 36], tally: &mut [u64; 16]) -> bool
     ensures { GrownBy tally.old tally.new }
 {
-    let lent = take_lent(fd);
-    let answer = take_answer(fd, refusal);
-    let left = take_lent(fd);
-    if !left.whole {
-        file_differs(tally);
-        return false;
-    }
-    judge(
-        tally,
-        v,
-        c.function,
-        holds(false, c, lent, account, answer, left),
-    );
-    judge(
-        tally,
-        v,
-        EXPORTED,
-        holds(true, c, lent, account, answer, left),
-    );
-    true
-}
-
-// Takes record v, and answers whether there was one. One that is cut short is a difference, and the last one taken.
-pub fn take(fd: i32, v: u64, tally: &mut [u64; 16]) -> bool
-    ensures { GrownBy tally.old tally.new }
-{
-    let mut head = [0u8; 36];
-    let got = io::read_full(fd, &mut head);
-    if got == 0 {
-        return false;
-    }
-    if got < 36 {
-        file_differs(tally);
-        return false;
-    }
     let c = Call {
-        function: size(head[0]),
+        function: head[0],
         kind: head[1],
         grade: head[2],
         number: count(&head[8..12]),
         bytes: size(head[3]),
         coordinates: size(head[4]),
     };
-    let refusal = head[5];
     let account = account_in(&head[12..36]);
-    take_rest(fd, v, c, account, refusal, tally)
+    let Some(lent) = take_lent(fd) else {
+        return false;
+    };
+    let Some(answer) = take_answer(fd, head[5]) else {
+        return false;
+    };
+    let Some(left) = take_lent(fd) else {
+        return false;
+    };
+    let library = holds(Through::Library, c, lent, account, answer, left);
+    judge(tally, v, Check::Called(c.function), library);
+    let exported = holds(Through::Exported, c, lent, account, answer, left);
+    judge(tally, v, Check::Exported, exported);
+    true
 }
