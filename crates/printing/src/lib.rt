@@ -5,7 +5,7 @@ ghost use Rattle.std.specs.Prelude.{◌≡◌, true, ◌+◌, ◌^◌, ◌<◌, 
 ghost use Rattle.listing.specs.Listing.{listing_of};
 ghost use Rattle.listing.specs.Places.{place_after, listed_to};
 ghost use Rattle.printing.specs.Printing.{one_more, goes_on, nothing, PrintedBy, ListedBy};
-ghost use Rattle.printing.specs.Closing.{answer_of, closed as isClosed, ClosedBy};
+ghost use Rattle.printing.specs.Closing.{Status, answer_of, closed as isClosed, ClosedBy};
 
 use listing::Place;
 use sheet_input::Input;
@@ -154,7 +154,9 @@ fn closed(answer: Result<(), Unwritten>) -> bool
 
 // Settles a file, all that was written to which has to be kept. One that keeps nothing, as a pipe or a terminal, and a name that opens nothing
 // have nothing to keep.
-fn settle<F: Files>(rt: &F, to: &str) -> Result<(), Unwritten> {
+fn settle<F: Files>(rt: &F, to: &str) -> Result<(), Unwritten>
+    ensures { Status (answer_of result) }
+{
     match fs::metadata(rt, to) {
         Ok(m) if m.is_file() => (),
         _ => return Ok(()),
