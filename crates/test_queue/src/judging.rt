@@ -17,16 +17,11 @@ pub struct Queue {
     pub answer: Answered,
 }
 
+#[tactic(auto, unfolding(crate::specs::Judged::same_queued))]
 fn same(a: Answered, b: Answered) -> bool
     ensures { result ≡ same_queued (answered a) b }
 {
-    if a.number != b.number {
-        return false;
-    }
-    if a.sent != b.sent {
-        return false;
-    }
-    same_account(a.account, b.account)
+    a.number == b.number && a.sent == b.sent && same_account(a.account, b.account)
 }
 
 // Whether the exported function gives the answer: the number as its result, the rest stored. The number of messages sent is stored always,
@@ -149,16 +144,11 @@ fn sends(way: usize, q: Queue, messages: &[u8], n: usize, left: &[i32]) -> bool
 fn is_begun(number: u8) -> bool
     ensures { result ≡ is_begun number }
 {
-    if number == 0 {
-        return true;
-    }
-    if number == 5 {
-        return true;
-    }
-    number == 11
+    matches!(number, 0 | 5 | 11)
 }
 
 // Sends queue v each way, and counts each.
+#[tactic(auto, unfolding(crate::specs::Judged::counted))]
 pub fn hold(v: u64, q: Queue, messages: &[u8], n: usize, left: &[i32], tally: &mut [u64; 16])
     ensures { tally.new ≡ counted q messages.now n left.now tally.old }
 {
@@ -166,10 +156,8 @@ pub fn hold(v: u64, q: Queue, messages: &[u8], n: usize, left: &[i32], tally: &m
     judge(tally, v, LIBRARY, library);
     let exported = sends(EXPORTED, q, messages, n, left);
     judge(tally, v, EXPORTED, exported);
-    let answer = q.answer;
-    if !is_begun(answer.number) {
-        return;
+    if is_begun(q.answer.number) {
+        let one_by_one = sends(ONE_BY_ONE, q, messages, n, left);
+        judge(tally, v, ONE_BY_ONE, one_by_one);
     }
-    let one_by_one = sends(ONE_BY_ONE, q, messages, n, left);
-    judge(tally, v, ONE_BY_ONE, one_by_one);
 }
