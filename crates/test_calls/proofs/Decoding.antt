@@ -1,15 +1,13 @@
 -- An exported function's number holds the refusal number and the energy, since every refusal number is a byte. Assumes nothing.
-use Prim.Native.Nat.{ℕ, zero, suc, ◌^◌, ◌≤◌, ◌<◌}
-use mathlib.Core.Path.{◌≡◌, refl, sym, ap, ap₂, ◌∙◌}
-use mathlib.Core.Bool.{Bool, true, false, cond, true≢false}
+use Prim.Native.Nat.{ℕ, zero, suc, ◌^◌, ◌≤◌}
+use mathlib.Core.Path.{◌≡◌, refl, ap, ap₂, ◌∙◌}
+use mathlib.Core.Bool.{Bool, true, false, cond}
 use mathlib.Core.List.{List, [], ◌∷◌}
 use native.Mathlib.Omega.{arith}
 use lib.Dec.{eqb, leb}
-use lib.IntN.{ℤ, pos, negsuc, nat_abs, ◌-ℤ◌}
-use lib.Signed.{lt_z}
-use borrow.Author.Tests.{ne_eqb, lt-ltb, le-ltb, ltb-true}
+use lib.IntN.{ℤ}
+use borrow.Author.Tests.{ne_eqb, lt-ltb}
 use lib.ListN.{length}
-use Rattle.integers.proofs.Zed.{neg-sign}
 use Rattle.reed_muller.specs.Level.{belongs}
 use Rattle.frames.specs.Kind.{is_kind, is_grade, degrees, message_bytes, broken_number}
 use Rattle.frames.specs.Frame.{level_word}
@@ -78,7 +76,8 @@ small-opening changeover = either (leb changeover 1000000) 14 0 (omega arith) (o
 
 -- ---- what each exported function's number says
 
-pub decoded-sending : (k b f number : ℕ) (m : List ℕ) (n : ℕ) {r : Answer} {z : ℤ} {a : Account} → r ≡ decoded z a → z ≡ send_answer k b f number m n
+pub decoded-sending : (k b f number : ℕ) (m : List ℕ) (n : ℕ) {r : Answer} {z : ℤ} {a : Account}
+    → r ≡ decoded z a → z ≡ send_answer k b f number m n
     → r ≡ answered (send_refusal k b f m n) (energy_sent (send_refusal k b f m n) k b f number m) a
 unfolding send_answer energy_sent
 decoded-sending k b f number m n {a = a} e p = e ∙ ap (λ (z : ℤ). decoded z a) p ∙ decoded-answer (send_refusal k b f m n) _ a (small-sending k b f m n)
@@ -88,14 +87,16 @@ pub decoded-open : (k b f : ℕ) (x : List ℤ) (n : ℕ) {r : Answer} {z : ℤ}
 unfolding open_answer energy_read
 decoded-open k b f x n {a = a} e p = e ∙ ap (λ (z : ℤ). decoded z a) p ∙ decoded-answer (open_refusal k b f x n) _ a (small_open k b f x n)
 
-pub decoded-strict : (k b f number : ℕ) (x : List ℤ) (n : ℕ) {r : Answer} {z : ℤ} {a : Account} → r ≡ decoded z a → z ≡ strict_answer k b f number x n
+pub decoded-strict : (k b f number : ℕ) (x : List ℤ) (n : ℕ) {r : Answer} {z : ℤ} {a : Account}
+    → r ≡ decoded z a → z ≡ strict_answer k b f number x n
     → r ≡ answered (strict_refusal k b f number x n) (energy_read (strict_refusal k b f number x n) x) a
 unfolding strict_answer energy_read
 decoded-strict k b f number x n {a = a} e p =
     e ∙ ap (λ (z : ℤ). decoded z a) p ∙ decoded-answer (strict_refusal k b f number x n) _ a (small-strict k b f number x n)
 
 -- the account is another than the one that was sent with
-pub decoded-counted : (k b f : ℕ) (m : List ℕ) (n : ℕ) (a : Account) {r : Answer} {z : ℤ} {c : Account} → r ≡ decoded z c → z ≡ counted_answer k b f m n a
+pub decoded-counted : (k b f : ℕ) (m : List ℕ) (n : ℕ) (a : Account) {r : Answer} {z : ℤ} {c : Account}
+    → r ≡ decoded z c → z ≡ counted_answer k b f m n a
     → c ≡ counted_held k b f m n a
     → r ≡ answered (counted_refusal k b f m n a) (energy_sent (counted_refusal k b f m n a) k b f (number_for a) m) (counted_held k b f m n a)
 unfolding counted_answer energy_sent
@@ -117,21 +118,3 @@ decoded-opening changeover {a = a} e p q =
     ∙ ap (λ (z : ℤ). decoded z a) p
     ∙ decoded-answer (opening_refusal changeover) 0 a (small-opening changeover)
     ∙ ap₂ (answered (opening_refusal changeover)) (none (eqb (opening_refusal changeover) 0)) q
-
--- ---- the answer of a number, by the tests that it passes
-
-module _ (a : Account) where
-  pub below-bytes : (z : ℤ) → lt_z z (negsuc 254) ≡ true → answered 255 0 a ≡ decoded z a
-  unfolding decoded
-  below-bytes (pos n) h = absurd (true≢false (sym h))
-  below-bytes (negsuc n) h = rw (le-ltb n 255 (omega (arith, ltb-true 254 n h))) refl
-
-  pub minus-byte : (z : ℤ) → nat_abs z < 256 → lt_z z (pos 0) ≡ true → answered (nat_abs (pos 0 -ℤ z)) 0 a ≡ decoded z a
-  unfolding decoded
-  minus-byte (pos n) s h = absurd (omega (arith, ltb-true n 0 h))
-  minus-byte (negsuc n) s h = rw (lt-ltb n 255 (omega arith)) (ap (λ (m : ℕ). answered m 0 a) (neg-sign (negsuc n) h).1)
-
-  pub from_zero : (z : ℤ) → lt_z z (pos 0) ≡ false → answered 0 (nat_abs z) a ≡ decoded z a
-  unfolding decoded
-  from_zero (pos n) h = refl
-  from_zero (negsuc n) h = absurd (true≢false h)

@@ -1,3 +1,1 @@
-pub mod Outcomes
 pub mod Decoding
-pub mod Making

@@ -6,4 +6,6 @@ use Rattle.test_calls.proofs.Decoding.{decoded-opening}
 use Rattle.test_calls.proofs.exported.open.Goals as goal
 
 pub returns : goal.returns
-returns c = decoded-opening c.args.changeover c.answer.ensures (to_z-of_z {w = w64} (record { sfits = c.coder_open-r.type_inv }) ∙ c.coder_open-r.ensures.answer) c.coder_open-r.ensures.account
+returns c =
+    let r = c.coder_open-r in
+    decoded-opening c.args.changeover c.answer.ensures (to_z-of_z {w = w64} (record { sfits = r.type_inv }) ∙ r.ensures.answer) r.ensures.account

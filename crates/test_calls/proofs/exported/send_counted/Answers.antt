@@ -8,5 +8,7 @@ use Rattle.test_calls.proofs.exported.send_counted.Goals as goal
 
 pub returns-clause-answer : goal.returns-clause-answer
 returns-clause-answer c =
-    decoded-counted c.args.kind c.args.grade 0 c.args.message.now (length c.args.frame.now) c.args.account c.answer.ensures
-    (to_z-of_z {w = w64} (record { sfits = c.coder_send_counted-r.type_inv }) ∙ c.coder_send_counted-r.ensures.answer) c.coder_send_counted-r.ensures.account
+    let s = c.args in
+    let r = c.coder_send_counted-r in
+    let e = to_z-of_z {w = w64} (record { sfits = r.type_inv }) ∙ r.ensures.answer in
+    decoded-counted s.kind s.grade 0 s.message.now (length s.frame.now) s.account c.answer.ensures e r.ensures.account
