@@ -1,5 +1,5 @@
 -- `length`: both functions give the same. Assumes nothing.
-use mathlib.Core.Path.{refl, sym, ◌∙◌}
+use mathlib.Core.Path.{refl, sym}
 use borrow.Author.Tests.{ne_eqb}
 use Rattle.test_records.specs.Judged.{length_right}
 use borrow.Author.Rules.{rules}

@@ -4,7 +4,6 @@ use mathlib.Core.List.{List}
 use lib.IntN.{ℤ}
 use lib.ListN.{length}
 use mir.Facts.{to_z-of_z}
-use borrow.Author.Tests.{not-true, not-false}
 use mir.Syntax.{w64}
 use Rattle.frames.specs.Reading.{same_number, same_frame}
 use Rattle.answers.specs.Answer.{answer_of, read_code, read_held}

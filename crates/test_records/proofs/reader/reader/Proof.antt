@@ -2,7 +2,6 @@
 use mathlib.Core.Path.{refl, sym, ap, ◌∙◌}
 use mathlib.Core.List.{List}
 use lib.IntN.{ℤ}
-use borrow.Author.Tests.{not-true, not-false}
 use Rattle.frames.specs.Reading.{same_frame}
 use Rattle.test_records.specs.Judged.{reader_right}
 use borrow.Author.Rules.{rules}

@@ -2,7 +2,6 @@
 use Prim.Native.Nat.{ℕ}
 use mathlib.Core.Path.{refl, sym, ap, ◌∙◌}
 use mathlib.Core.List.{List}
-use borrow.Author.Tests.{not-true, not-false}
 use Rattle.octets.specs.Same.{same_bytes}
 use Rattle.test_records.specs.Judged.{buffer_right, writer_right}
 use borrow.Author.Rules.{rules}
