@@ -26,6 +26,7 @@ fn same(a: Answered, b: Answered) -> bool
 
 // Whether the exported function gives the answer: the number as its result, the rest stored. The number of messages sent is stored always,
 // over one that no queue has.
+#[tactic(auto, unfolding(crate::specs::Judged::exported_answers))]
 fn exported(q: Queue, messages: &[u8], frames: &mut [i32]) -> bool
     ensures answer { result ≡ exported_answers q messages.now (length frames.old) }
     ensures frames { frames.new ≡ queue_frames q.kind q.grade messages.now frames.old q.account }
@@ -47,19 +48,15 @@ fn exported(q: Queue, messages: &[u8], frames: &mut [i32]) -> bool
         lent.changeover,
         &mut sent,
     );
-    if !same_answer(r, answers::answer(answer.number, 0)) {
-        return false;
-    }
-    if sent != answer.sent {
-        return false;
-    }
     let grown = Account {
         count,
         sum,
         largest,
         changeover: lent.changeover,
     };
-    same_account(grown, answer.account)
+    same_answer(r, answers::answer(answer.number, 0))
+        && sent == answer.sent
+        && same_account(grown, answer.account)
 }
 
 // Sends the queue in one call of the library, and gives the number of its answer.
@@ -82,23 +79,22 @@ fn send_queue(
 }
 
 // Whether the queue sent this way gives the answer.
+#[tactic(auto, unfolding(crate::specs::Judged::answers_by))]
 fn answers(way: usize, q: Queue, messages: &[u8], frames: &mut [i32]) -> bool
     ensures answer { result ≡ answers_by way q messages.now (length frames.old) }
     ensures frames { frames.new ≡ queue_frames q.kind q.grade messages.now frames.old q.account }
 {
-    if way == EXPORTED {
-        return exported(q, messages, frames);
-    }
-    if way == ONE_BY_ONE {
-        return same(
+    match way {
+        EXPORTED => exported(q, messages, frames),
+        ONE_BY_ONE => same(
             one_by_one(q.kind, q.grade, messages, frames, q.account),
             q.answer,
-        );
+        ),
+        _ => same(
+            send_queue(q.kind, q.grade, messages, frames, q.account),
+            q.answer,
+        ),
     }
-    same(
-        send_queue(q.kind, q.grade, messages, frames, q.account),
-        q.answer,
-    )
 }
 
 // The same into the first n coordinates, and whether all are left as they have to be.
@@ -129,6 +125,7 @@ fn laid_out() -> [i32; 392]
 }
 
 // The same over these, where there is room for them.
+#[tactic(auto, unfolding(crate::specs::Judged::holds_by))]
 fn sends(way: usize, q: Queue, messages: &[u8], n: usize, left: &[i32]) -> bool
     ensures { result ≡ holds_by way q messages.now n left.now }
 {
