@@ -98,6 +98,7 @@ fn answers(way: usize, q: Queue, messages: &[u8], frames: &mut [i32]) -> bool
 }
 
 // The same into the first n coordinates, and whether all are left as they have to be.
+#[tactic(auto, unfolding(crate::specs::Judged::passes, crate::specs::Judged::frames_left))]
 fn holds(way: usize, q: Queue, messages: &[u8], n: usize, frames: &mut [i32], left: &[i32]) -> bool
     ensures passed { result ≡ passes way q messages.now n frames.old left.now }
     ensures frames { frames.new ≡ frames_left q messages.now n frames.old }
