@@ -7,6 +7,16 @@ use Rattle.records.specs.Writing.{RecordWritten, write_answer, buffer_after}
 use Rattle.records.specs.Reading.{RecordRead, read_answer, frame_read}
 use Rattle.answers.specs.Answer.{answer_of, write_code, write_held, read_code, Figures, figures_of, read_held}
 use Rattle.test_records.specs.declared.cases.Case.{Case}
+use Rattle.test_records.specs.declared.Check.{Check}
+use Rattle.test_records.specs.declared.Check.TheVariants.{Writer, ExportedWriter, Reader, ExportedReader, Length}
+
+-- the place of a check in the tally
+abbrev pub place : Check → ℕ
+place Writer = 0
+place ExportedWriter = 1
+place Reader = 2
+place ExportedReader = 3
+place Length = 4
 
 -- ---- a message m that is written, to the buffer o; afterwards the data has the buffer `left`
 

@@ -3,11 +3,10 @@ ghost use Rattle.std.specs.Prelude.{◌≡◌, ◌+◌, ◌*◌};
 ghost use Rattle.test_data.specs.Held.{number_in};
 ghost use Rattle.test_tally.specs.Tally.{GrownBy};
 
-use super::file_differs;
 use super::length::hold as hold_length;
 use super::reader::hold as hold_reader;
 use super::writer::hold as hold_writer;
-use test_data::{coordinates, count, fill, number, size};
+use test_data::{count, fill, number, size, take_from};
 
 // A case without its bytes and coordinates. Kind, grade and number are those that are given to the writer, or that the reader has to give; then the refusal
 // number, the place of the record, the place after it, or the length that is asked for, and the energy that the reader has to give.
@@ -37,10 +36,7 @@ fn take_writing(
     let mut first = lent;
     let mut second = lent;
     let mut left = [0u8; 1200];
-    if 1200 < l {
-        return false;
-    }
-    if !fill(fd, l, &mut left) {
+    if 1200 < l || !fill(fd, l, &mut left) {
         return false;
     }
     hold_writer(
@@ -62,18 +58,15 @@ fn take_reading(fd: i32, v: u64, q: Case, buffer: &[u8], n: usize, tally: &mut [
     let mut bytes = [0u8; 272];
     let mut first = [0i32; 68];
     let mut left = [0i32; 68];
-    if 68 < n {
+    if 68 < n || !fill(fd, 4 * n, &mut bytes) {
         return false;
     }
-    if !fill(fd, 4 * n, &mut bytes) {
-        return false;
-    }
-    coordinates(&bytes, &mut first);
+    take_from(&bytes, &mut first);
     let mut second = first;
     if !fill(fd, 4 * n, &mut bytes) {
         return false;
     }
-    coordinates(&bytes, &mut left);
+    take_from(&bytes, &mut left);
     hold_reader(
         v,
         q,
@@ -102,29 +95,21 @@ fn take_rest(
 {
     let mut message = [0u8; 50];
     let mut buffer = [0u8; 1200];
-    if 50 < m {
+    if 50 < m || 1200 < l {
         return false;
     }
-    if 1200 < l {
+    if !fill(fd, m, &mut message) || !fill(fd, l, &mut buffer) {
         return false;
     }
-    if !fill(fd, m, &mut message) {
-        return false;
+    match sort {
+        0 => take_writing(fd, v, q, &message[0..m], buffer, l, tally),
+        1 => take_reading(fd, v, q, &buffer[0..l], n, tally),
+        2 => {
+            hold_length(v, q, tally);
+            true
+        }
+        _ => false,
     }
-    if !fill(fd, l, &mut buffer) {
-        return false;
-    }
-    if sort == 0 {
-        return take_writing(fd, v, q, &message[0..m], buffer, l, tally);
-    }
-    if sort == 1 {
-        return take_reading(fd, v, q, &buffer[0..l], n, tally);
-    }
-    if sort == 2 {
-        hold_length(v, q, tally);
-        return true;
-    }
-    false
 }
 
 // The number that two bytes hold.
@@ -141,20 +126,10 @@ fn place_in(bytes: &[u8]) -> usize
     number(bytes) as usize
 }
 
-// Takes case v, and answers whether there was one. A case that is cut short, for which there is no room, or of no sort that there is, is a difference, and
-// the last one taken.
-pub fn take(fd: i32, v: u64, tally: &mut [u64; 16]) -> bool
+// Takes case v from its head on, and answers whether it is whole, with room for it, and of a sort that there is.
+pub fn take(fd: i32, v: u64, head: &[u8; 36], tally: &mut [u64; 16]) -> bool
     ensures { GrownBy tally.old tally.new }
 {
-    let mut head = [0u8; 36];
-    let got = io::read_full(fd, &mut head);
-    if got == 0 {
-        return false;
-    }
-    if got < 36 {
-        file_differs(tally);
-        return false;
-    }
     let q = Case {
         kind: head[1],
         grade: head[2],
@@ -167,9 +142,5 @@ pub fn take(fd: i32, v: u64, tally: &mut [u64; 16]) -> bool
     let m = size(head[3]);
     let n = size(head[4]);
     let l = size_of(head[6], head[7]);
-    if take_rest(fd, v, head[0], q, m, n, l, tally) {
-        return true;
-    }
-    file_differs(tally);
-    false
+    take_rest(fd, v, head[0], q, m, n, l, tally)
 }

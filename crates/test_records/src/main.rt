@@ -8,95 +8,62 @@ mod length;
 mod reader;
 mod writer;
 
-ghost use Rattle.std.specs.Prelude.{◌≡◌, false};
-ghost use Rattle.test_tally.specs.Tally.{judged, GrownBy};
+ghost use Rattle.test_records.specs.Judged.{place};
 
-use std::os::fd::AsRawFd;
-use test_data::{STDOUT, open_data, write};
-use test_tally::DIFFERENT;
+use test_tally::{Checks, Records, file_differs, run};
 
-// The checks, as the tally has them: two of a record that is written, two of one that is read, and one of a length.
-const WRITER: usize = 0;
+// The checks, by their places in the tally.
+#[derive(Clone, Copy)]
+enum Check {
+    Writer,
+    ExportedWriter,
+    Reader,
+    ExportedReader,
+    Length,
+}
 
-const EXPORTED_WRITER: usize = 1;
+impl Checks for Check {
+    ghost place = { place };
 
-const READER: usize = 2;
-
-const EXPORTED_READER: usize = 3;
-
-const LENGTH: usize = 4;
-
-fn write_name(check: usize) -> bool {
-    match check {
-        WRITER => write(b"writer"),
-        EXPORTED_WRITER => write(b"exported writer"),
-        READER => write(b"reader"),
-        EXPORTED_READER => write(b"exported reader"),
-        LENGTH => write(b"length"),
-        _ => write(b"different"),
+    fn place(self) -> usize {
+        self as usize
     }
-}
 
-// Counts a check of case v. One that did not pass is a difference, and has a line with v.
-fn judge(tally: &mut [u64; 16], v: u64, check: usize, passed: bool)
-    ensures { tally.new ≡ judged check passed tally.old }
-{
-    test_tally::count(tally, check, passed);
-    if passed {
-        return;
-    }
-    write(b"different: ");
-    write_name(check);
-    write(b", case ");
-    io::print_decimal(STDOUT, v);
-    write(b"\n");
-}
-
-// A file that is cut short, or too long, is a difference.
-fn file_differs(tally: &mut [u64; 16])
-    ensures { tally.new ≡ judged 15 false tally.old }
-{
-    test_tally::count(tally, DIFFERENT, false);
-    write(b"different: the file\n");
-}
-
-// A line for a check, or for the differences.
-fn print(tally: &[u64; 16], check: usize) {
-    if check < 16 {
-        write_name(check);
-        write(b" ");
-        io::print_decimal(STDOUT, tally[check]);
-        write(b"\n");
-    }
-}
-
-// A proved loop has to end, and nothing says that a file does: a longer file is reported.
-const MOST: u64 = 1000000;
-
-// Takes case after case, to the end of the file or to one that is cut short.
-fn take_all(fd: i32, tally: &mut [u64; 16])
-    ensures { GrownBy tally.old tally.new }
-{
-    let mut v: u64 = 0;
-    while v < MOST {
-        v += 1;
-        if !cases::take(fd, v, tally) {
-            return;
+    fn name(self) -> &'static [u8] {
+        match self {
+            Check::Writer => b"writer",
+            Check::ExportedWriter => b"exported writer",
+            Check::Reader => b"reader",
+            Check::ExportedReader => b"exported reader",
+            Check::Length => b"length",
         }
     }
-    file_differs(tally);
+
+    fn record() -> &'static [u8] {
+        b"case"
+    }
+}
+
+impl Records<36> for Check {
+    fn take(fd: i32, v: u64, head: &[u8; 36], tally: &mut [u64; 16]) -> bool {
+        cases::take(fd, v, head, tally)
+    }
+
+    fn cut(_v: u64, tally: &mut [u64; 16]) {
+        file_differs(tally);
+    }
 }
 
 fn main(rt: HostRuntime) {
-    let mut tally = test_tally::zeros();
-    let Some(file) = open_data(&rt, "records.bin") else {
-        return;
-    };
-    take_all(file.as_raw_fd(), &mut tally);
-    print(&tally, WRITER);
-    print(&tally, EXPORTED_WRITER);
-    print(&tally, READER);
-    print(&tally, EXPORTED_READER);
-    print(&tally, LENGTH);
-    print(&tally, DIFFERENT);
+    run(
+        &rt,
+        "records.bin",
+        &[
+            Check::Writer,
+            Check::ExportedWriter,
+            Check::Reader,
+            Check::ExportedReader,
+            Check::Length,
+        ],
+    );
 }

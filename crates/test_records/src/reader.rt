@@ -6,11 +6,12 @@ ghost use Rattle.answers.specs.Answer.{answer_of, figures_of};
 ghost use Rattle.test_tally.specs.Tally.{judged};
 ghost use Rattle.test_records.specs.Judged.{same_read, reader_right, figures_before, figures_after, same_figures, exported_reader_right};
 
+use super::Check;
 use super::cases::Case;
-use super::{EXPORTED_READER, READER, judge};
 use records::Record;
 use refusals::Refusal;
 use test_data::{same_answer, same_coordinates};
+use test_tally::judge;
 
 // Whether the library's reader answers what the data says: the record, or the refusal, for which there is 0 in every figure.
 #[tactic(auto, unfolding(crate::specs::Judged::same_read))]
@@ -38,15 +39,13 @@ fn same_read(r: Result<Record, Refusal>, q: Case) -> bool
 }
 
 // Whether it does, and leaves the frame as it has to be.
+#[tactic(auto, unfolding(crate::specs::Judged::reader_right))]
 fn reader(q: Case, buffer: &[u8], frame: &mut [i32], left: &[i32]) -> bool
     ensures passed { result ≡ reader_right q buffer.now frame.old left.now }
     ensures frame { frame.new ≡ frame_read buffer.now q.place frame.old }
 {
     let r = record_reader::read_record(buffer, q.place, frame);
-    if !same_read(r, q) {
-        return false;
-    }
-    same_coordinates(frame, left)
+    same_read(r, q) && same_coordinates(frame, left)
 }
 
 // The figures that the exported reader stores.
@@ -71,49 +70,41 @@ fn figures_before(q: Case) -> Figures
 }
 
 // What they have to hold after it: those of the record, or what they held before.
+#[tactic(auto, unfolding(crate::specs::Judged::figures_after))]
 fn figures_after(q: Case) -> Figures
     ensures { figures_of result.kind result.grade result.number result.next ≡ figures_after q }
 {
-    if q.refusal != 0 {
-        return figures_before(q);
-    }
-    Figures {
-        kind: q.kind,
-        grade: q.grade,
-        number: q.number,
-        next: q.next,
+    match q.refusal {
+        0 => Figures {
+            kind: q.kind,
+            grade: q.grade,
+            number: q.number,
+            next: q.next,
+        },
+        _ => figures_before(q),
     }
 }
 
+#[tactic(auto, unfolding(crate::specs::Judged::same_figures))]
 fn same_figures(a: Figures, b: Figures) -> bool
     ensures { result ≡ same_figures (figures_of a.kind a.grade a.number a.next) (figures_of b.kind b.grade b.number b.next) }
 {
-    if a.kind != b.kind {
-        return false;
-    }
-    if a.grade != b.grade {
-        return false;
-    }
-    if a.number != b.number {
-        return false;
-    }
-    a.next == b.next
+    a.kind == b.kind && a.grade == b.grade && a.number == b.number && a.next == b.next
 }
 
 // Whether an answer of the exported reader is the energy of the data, or minus its refusal.
+#[tactic(auto, unfolding(answers::specs::Answer::answer_of))]
 fn is_answer(r: i64, q: Case) -> bool
     ensures { result ≡ same_number r (answer_of q.refusal q.energy) }
 {
-    if q.refusal != 0 {
-        return same_answer(r, answers::answer(q.refusal, 0));
+    match q.refusal {
+        0 => 0 <= r && r as u64 == q.energy,
+        _ => same_answer(r, answers::answer(q.refusal, 0)),
     }
-    if r < 0 {
-        return false;
-    }
-    r as u64 == q.energy
 }
 
 // Whether the exported reader answers so, stores the figures on success only, and leaves the frame as it has to be.
+#[tactic(auto, unfolding(crate::specs::Judged::exported_reader_right))]
 fn exported_reader(q: Case, buffer: &[u8], frame: &mut [i32], left: &[i32]) -> bool
     ensures passed { result ≡ exported_reader_right q buffer.now frame.old left.now }
     ensures frame { frame.new ≡ frame_read buffer.now q.place frame.old }
@@ -132,19 +123,13 @@ fn exported_reader(q: Case, buffer: &[u8], frame: &mut [i32], left: &[i32]) -> b
         &mut number,
         &mut next,
     );
-    if !is_answer(r, q) {
-        return false;
-    }
     let held = Figures {
         kind,
         grade,
         number,
         next,
     };
-    if !same_figures(held, figures_after(q)) {
-        return false;
-    }
-    same_coordinates(frame, left)
+    is_answer(r, q) && same_figures(held, figures_after(q)) && same_coordinates(frame, left)
 }
 
 // Makes the two checks of case v, each over a frame of its own, and counts each.
@@ -163,11 +148,11 @@ pub fn hold(
     ensures first { first.new ≡ frame_read buffer.now q.place first.old }
     ensures second { second.new ≡ frame_read buffer.now q.place second.old }
 {
-    judge(tally, v, READER, reader(q, buffer, first, left));
+    judge(tally, v, Check::Reader, reader(q, buffer, first, left));
     judge(
         tally,
         v,
-        EXPORTED_READER,
+        Check::ExportedReader,
         exported_reader(q, buffer, second, left),
     );
 }

@@ -4,11 +4,12 @@ ghost use Rattle.records.specs.Writing.{buffer_after, record_written};
 ghost use Rattle.test_tally.specs.Tally.{judged};
 ghost use Rattle.test_records.specs.Judged.{same_written, writer_right, held_next, exported_writer_right};
 
+use super::Check;
 use super::cases::Case;
-use super::{EXPORTED_WRITER, WRITER, judge};
 use octets::same_bytes;
 use refusals::Refusal;
 use test_data::same_answer;
+use test_tally::judge;
 
 // Whether the library's writer answers what the data says: the place after the record, or the refusal, which has no place.
 #[tactic(auto, unfolding(crate::specs::Judged::same_written))]
@@ -22,28 +23,25 @@ fn same_written(r: Result<usize, Refusal>, q: Case) -> bool
 }
 
 // Whether it does, and leaves the buffer as it has to be.
+#[tactic(auto, unfolding(crate::specs::Judged::writer_right, crate::specs::Judged::buffer_right))]
 fn writer(q: Case, message: &[u8], buffer: &mut [u8], left: &[u8]) -> bool
     ensures passed { result ≡ writer_right q message.now buffer.old left.now }
     ensures buffer { buffer.new ≡ buffer_after q.kind q.grade q.number message.now q.place buffer.old }
 {
     let r = record_writer::write_record(q.kind, q.grade, q.number, message, buffer, q.place);
-    if !same_written(r, q) {
-        return false;
-    }
-    same_bytes(buffer, left)
+    same_written(r, q) && same_bytes(buffer, left)
 }
 
 // What the lent place has to hold after a call: the place after the record, or what it held before, which no buffer of the data reaches.
+#[tactic(auto, unfolding(crate::specs::Judged::held_next))]
 fn held_next(q: Case) -> usize
     ensures { result ≡ held_next q }
 {
-    if q.refusal == 0 {
-        return q.next;
-    }
-    77777
+    if q.refusal == 0 { q.next } else { 77777 }
 }
 
 // Whether the exported writer answers 0 or minus the refusal, stores the place on success only, and leaves the buffer as it has to be.
+#[tactic(auto, unfolding(crate::specs::Judged::exported_writer_right, crate::specs::Judged::buffer_right))]
 fn exported_writer(q: Case, message: &[u8], buffer: &mut [u8], left: &[u8]) -> bool
     ensures passed { result ≡ exported_writer_right q message.now buffer.old left.now }
     ensures buffer { buffer.new ≡ buffer_after q.kind q.grade q.number message.now q.place buffer.old }
@@ -52,13 +50,9 @@ fn exported_writer(q: Case, message: &[u8], buffer: &mut [u8], left: &[u8]) -> b
     let r = frame_coder::coder_write_record(
         q.kind, q.grade, q.number, message, buffer, q.place, &mut next,
     );
-    if !same_answer(r, answers::answer(q.refusal, 0)) {
-        return false;
-    }
-    if next != held_next(q) {
-        return false;
-    }
-    same_bytes(buffer, left)
+    same_answer(r, answers::answer(q.refusal, 0))
+        && next == held_next(q)
+        && same_bytes(buffer, left)
 }
 
 // Makes the two checks of case v, each over a buffer of its own, and counts each.
@@ -77,11 +71,11 @@ pub fn hold(
     ensures first { first.new ≡ buffer_after q.kind q.grade q.number message.now q.place first.old }
     ensures second { second.new ≡ buffer_after q.kind q.grade q.number message.now q.place second.old }
 {
-    judge(tally, v, WRITER, writer(q, message, first, left));
+    judge(tally, v, Check::Writer, writer(q, message, first, left));
     judge(
         tally,
         v,
-        EXPORTED_WRITER,
+        Check::ExportedWriter,
         exported_writer(q, message, second, left),
     );
 }
