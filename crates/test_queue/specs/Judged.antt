@@ -6,14 +6,18 @@ use Rattle.answers.specs.Answer.{answer_of, queue_answer}
 use Rattle.test_data.specs.Alike.{same_account}
 use Rattle.test_tally.specs.Tally.{judged}
 use Rattle.test_queue.specs.declared.judging.Queue.{Queue}
-use Rattle.test_queue.specs.declared.one_by_one.Answered.{Answered}
+use Rattle.test_queue.specs.declared.judging.Expected.{Expected}
+use Rattle.test_queue.specs.declared.Check.{Check}
+use Rattle.test_queue.specs.declared.Check.TheVariants.{Library, Exported, OneByOne}
 
--- an answer of this program, as the definitions have it
-abbrev pub answered : Answered → Queued
-answered q = record { number = q.number; sent = q.sent; account = q.account }
+-- the place of a check in the tally
+abbrev pub place : Check → ℕ
+place Library = 0
+place Exported = 1
+place OneByOne = 2
 
 -- what sending a queue gives, the same in every figure
-unfoldable pub same_queued : Queued → Answered → Bool
+unfoldable pub same_queued : Queued → Expected → Bool
 same_queued a b = eqb a.number b.number && (eqb a.sent b.sent && same_account a.account b.account)
 
 -- what sending the messages into n lent coordinates gives

@@ -1,48 +1,10 @@
 // A queue sent message by message, each with the account that the one before it gave: what sending it in one call is held to.
-ghost use Rattle.std.specs.Prelude.{◌≡◌, true, ◌*◌, ◌≤◌, ◌^◌, length};
-ghost use Rattle.frames.specs.Kind.{is_kind, is_grade, message_bytes};
-ghost use Rattle.frames.specs.Sending.{frame_after};
-ghost use Rattle.power_account.specs.Counted.{number_for, counted_refusal, counted_account};
-ghost use Rattle.queue_turns.specs.Queue.{queue_refusal, calls_for, in_turn, frames_in_turn, queue_outcome, queue_frames};
-ghost use Rattle.test_queue.specs.Judged.{answered};
+ghost use Rattle.std.specs.Prelude.{◌≡◌, ◌*◌, ◌≤◌, ◌^◌, length};
+ghost use Rattle.frames.specs.Kind.{message_bytes};
+ghost use Rattle.queue_turns.specs.Queue.{calls_for, in_turn, frames_in_turn, queue_outcome, queue_frames, queued};
 
 use account::Account;
-
-// What sending a queue answers: the number of the refusal, 0 for none, how many messages were sent, and the account. In the data any
-// number may stand.
-#[derive(Clone, Copy)]
-pub struct Answered {
-    pub number: u8,
-    pub sent: usize,
-    pub account: Account,
-}
-
-// What sending one message answers: the number of the refusal, 0 for none, and the account.
-#[derive(Clone, Copy)]
-struct Counted {
-    number: u8,
-    account: Account,
-}
-
-// Sends one message with an account, and gives the number of its answer.
-fn send_counted(kind: u8, grade: u8, message: &[u8], frame: &mut [i32], account: Account) -> Counted
-    ensures number { result.number ≡ counted_refusal kind grade 0 message.now (length frame.old) account }
-    ensures frame { frame.new ≡ frame_after result.number kind grade 0 (number_for account) message.now frame.old }
-    ensures account { result.account ≡ counted_account result.number kind grade 0 message.now account }
-{
-    let r = account::send_counted(kind, grade, 0, message, frame, account);
-    Counted {
-        number: refusals::number(r.answer),
-        account: r.account,
-    }
-}
-
-// The number of the tests of a queue before anything is sent: 0 where all are passed.
-fn refusal(kind: u8, grade: u8, bytes: usize, coordinates: usize) -> u8
-    ensures { result ≡ queue_refusal kind grade bytes coordinates }
-{
-    refusals::number(queue::test(kind, grade, bytes, coordinates))
-}
+use queue::Queued;
 
 // Sends the first of `count` messages of m bytes, into n coordinates, and then the rest, up to the first refused.
 fn in_turn(
@@ -54,28 +16,27 @@ fn in_turn(
     messages: &[u8],
     frames: &mut [i32],
     account: Account,
-) -> Answered
+) -> Queued
     requires { (m ≡ message_bytes kind grade) × (n ≡ 2 ^ kind) × (length messages.now ≡ m * count) × (length frames.old ≡ n * count) }
-    ensures queued { answered result ≡ in_turn account (calls_for count kind grade messages.now) }
+    ensures queued { queued result ≡ in_turn account (calls_for count kind grade messages.now) }
     ensures frames { frames.new ≡ frames_in_turn account (calls_for count kind grade messages.now) frames.old }
     ensures most { result.sent ≤ count }
 {
     if count == 0 {
-        return Answered {
-            number: 0,
+        return Queued {
+            answer: Ok(()),
             sent: 0,
             account,
         };
     }
-    let r = send_counted(kind, grade, &messages[0..m], &mut frames[0..n], account);
-    if r.number != 0 {
-        return Answered {
-            number: r.number,
+    let r = account::send_counted(kind, grade, 0, &messages[0..m], &mut frames[0..n], account);
+    if let Err(refusal) = r.answer {
+        return Queued {
+            answer: Err(refusal),
             sent: 0,
             account,
         };
     }
-    let grown = r.account;
     let rest = in_turn(
         kind,
         grade,
@@ -84,13 +45,12 @@ fn in_turn(
         count - 1,
         &messages[m..],
         &mut frames[n..],
-        grown,
+        r.account,
     );
-    let last = rest.account;
-    Answered {
-        number: rest.number,
+    Queued {
+        answer: rest.answer,
         sent: rest.sent + 1,
-        account: last,
+        account: rest.account,
     }
 }
 
@@ -101,14 +61,13 @@ pub fn one_by_one(
     messages: &[u8],
     frames: &mut [i32],
     account: Account,
-) -> Answered
-    ensures queued { answered result ≡ queue_outcome kind grade messages.now (length frames.old) account }
+) -> Queued
+    ensures queued { queued result ≡ queue_outcome kind grade messages.now (length frames.old) account }
     ensures frames { frames.new ≡ queue_frames kind grade messages.now frames.old account }
 {
-    let number = refusal(kind, grade, messages.len(), frames.len());
-    if number != 0 {
-        return Answered {
-            number,
+    if let Err(refusal) = queue::test(kind, grade, messages.len(), frames.len()) {
+        return Queued {
+            answer: Err(refusal),
             sent: 0,
             account,
         };

@@ -1,11 +1,9 @@
 // A record of the data: a queue, the answer that it has to give, and the coordinates that it has to leave (tools/second-coder/README.md).
-ghost use Rattle.std.specs.Prelude.{◌≡◌, ◌+◌, ◌*◌, ◌≤◌};
+ghost use Rattle.std.specs.Prelude.{◌≡◌, ◌+◌, ◌*◌};
 ghost use Rattle.test_tally.specs.Tally.{GrownBy};
 
-use super::file_differs;
-use super::judging::{Queue, hold};
-use super::one_by_one::Answered;
-use test_data::{account_in, fill, size};
+use super::judging::{Expected, Queue, hold};
+use test_data::{account_in, fill, size, take_from};
 
 // Takes a record from its messages of m bytes on, with n coordinates to lend, and answers whether it is whole, with room for it.
 fn take_rest(fd: i32, v: u64, m: usize, n: usize, q: Queue, tally: &mut [u64; 16]) -> bool
@@ -14,20 +12,14 @@ fn take_rest(fd: i32, v: u64, m: usize, n: usize, q: Queue, tally: &mut [u64; 16
     let mut messages = [0u8; 288];
     let mut bytes = [0u8; 1568];
     let mut left = [0i32; 392];
-    if 384 < n {
-        return false;
-    }
-    if 288 < m {
+    if 384 < n || 288 < m {
         return false;
     }
     let e = n + 8;
-    if !fill(fd, m, &mut messages) {
+    if !fill(fd, m, &mut messages) || !fill(fd, 4 * e, &mut bytes) {
         return false;
     }
-    if !fill(fd, 4 * e, &mut bytes) {
-        return false;
-    }
-    test_data::coordinates(&bytes, &mut left);
+    take_from(&bytes, &mut left);
     hold(v, q, &messages[0..m], n, &left[0..e], tally);
     true
 }
@@ -39,25 +31,15 @@ fn size_of(low: u8, high: u8) -> usize
     size(low) + 256 * size(high)
 }
 
-// Takes record v, and answers whether there was one. A record that is cut short, or for which there is no room, is a difference, and the
-// last one taken.
-pub fn take(fd: i32, v: u64, tally: &mut [u64; 16]) -> bool
+// Takes record v from its head on, and answers whether it is whole, with room for it.
+pub fn take(fd: i32, v: u64, head: &[u8; 56], tally: &mut [u64; 16]) -> bool
     ensures { GrownBy tally.old tally.new }
 {
-    let mut head = [0u8; 56];
-    let got = io::read_full(fd, &mut head);
-    if got == 0 {
-        return false;
-    }
-    if got < 56 {
-        file_differs(tally);
-        return false;
-    }
     let q = Queue {
         kind: head[0],
         grade: head[1],
         account: account_in(&head[8..32]),
-        answer: Answered {
+        answer: Expected {
             number: head[6],
             sent: size(head[7]),
             account: account_in(&head[32..56]),
@@ -65,9 +47,5 @@ pub fn take(fd: i32, v: u64, tally: &mut [u64; 16]) -> bool
     };
     let m = size_of(head[2], head[3]);
     let n = size_of(head[4], head[5]);
-    if take_rest(fd, v, m, n, q, tally) {
-        return true;
-    }
-    file_differs(tally);
-    false
+    take_rest(fd, v, m, n, q, tally)
 }
