@@ -1,6 +1,6 @@
--- What the library's functions answer, and what the exported ones' numbers say, is the same. Assumes nothing.
+-- What the exported functions' numbers say is what the library's functions answer. Assumes nothing.
 use Prim.Native.Nat.{ℕ, zero, suc}
-use mathlib.Core.Path.{◌≡◌, refl, ap, ap₂, subst, ◌∙◌}
+use mathlib.Core.Path.{◌≡◌, refl, ap, ◌∙◌}
 use mathlib.Core.Bool.{cond}
 use mathlib.Core.List.{List}
 use native.Mathlib.Omega.{arith}
@@ -9,8 +9,8 @@ use lib.IntN.{ℤ}
 use borrow.Author.Tests.{ne_eqb}
 use Rattle.e8.specs.Energy.{energy}
 use Rattle.frames.specs.Free.{quiet_frame}
-use Rattle.frames.specs.Sending.{send_refusal, frame_after, energy_sent}
-use Rattle.frames.specs.Reading.{open_refusal, strict_refusal, message_after, energy_read}
+use Rattle.frames.specs.Sending.{send_refusal, energy_sent}
+use Rattle.frames.specs.Reading.{open_refusal, strict_refusal, energy_read}
 use Rattle.power_account.specs.declared.Account.{Account}
 use Rattle.power_account.specs.Counted.{number_for, counted_refusal}
 use Rattle.answers.specs.Answer.{answer_of, send_answer, open_answer, strict_answer, counted_answer}
@@ -50,18 +50,3 @@ module _ (k b f number : ℕ) {a : Answer} {z : ℤ} (is : a ≡ decoded z) wher
       → a ≡ answered (counted_refusal k b f m n c) (energy_sent (counted_refusal k b f m n c) k b f (number_for c) m)
   unfolding counted_answer energy_sent
   counted-decoded m n c p = decoded-answer (counted_refusal k b f m n c) (energy (quiet_frame k b f (number_for c) m)) is p
-
--- ---- a function of the library says what it leaves by the number n that it answers, which is the refusal
-
-module _ (k b f : ℕ) {a : Answer} {n e refusal : ℕ} (is : a ≡ answered n e) (number : n ≡ refusal) where
-  pub read-given : (x : List ℤ) (m : List ℕ) {m' : List ℕ} → m' ≡ message_after n k b f x m → e ≡ energy_read n x
-      → (a ≡ answered refusal (energy_read refusal x)) × (m' ≡ message_after refusal k b f x m)
-  read-given x m {m'} p q =
-      subst (λ (n : ℕ). (a ≡ answered n (energy_read n x)) × (m' ≡ message_after n k b f x m)) number (is ∙ ap (answered n) q, p)
-
-  pub sent-given : (i : ℕ) (m : List ℕ) (x : List ℤ) {x' : List ℤ} (held : ℕ → Account) {c : Account} → x' ≡ frame_after n k b f i m x → e ≡ energy_sent n k b f i m
-      → c ≡ held n
-      → (together a c ≡ together (answered refusal (energy_sent refusal k b f i m)) (held refusal)) × (x' ≡ frame_after refusal k b f i m x)
-  sent-given i m x {x'} held {c} p q h =
-      subst (λ (n : ℕ). (together a c ≡ together (answered n (energy_sent n k b f i m)) (held n)) × (x' ≡ frame_after n k b f i m x)) number
-      (ap₂ together (is ∙ ap (answered n) q) h, p)

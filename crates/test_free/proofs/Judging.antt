@@ -15,7 +15,7 @@ use Rattle.frames.specs.Reading.{message_after, energy_read}
 use Rattle.power_account.specs.declared.Account.{Account}
 use Rattle.octets.specs.Same.{same_bytes}
 use Rattle.octets.proofs.Compared.{same-exactly}
-use Rattle.test_tally.specs.Tally.{judged, judged_all}
+use Rattle.test_tally.specs.Tally.{judged_all}
 use Rattle.test_tally.proofs.Counted.{then-judged}
 use Rattle.test_free.specs.declared.calls.Under.{Under}
 use Rattle.test_free.specs.declared.calls.Answer.{Answer}
@@ -33,7 +33,6 @@ use Rattle.test_free.specs.Judged.{
   record_of,
   is_left,
   is_sent_free,
-  send_judgements,
   read_judgements,
   frame_judgements,
   all_judgements,
@@ -52,7 +51,11 @@ module _ (strict : Bool) (u : Under) (x : List ℤ) (m : List ℕ) (expected : A
     where
       go : (t : Bool) → eqb (read_refusal strict u x (length m)) expected.number ≡ t → Given expected m (length m) ≡ is_read_free strict u x m expected
       go true e =
-          rw (e, eq-eqb expected.number 0 z, eq-eqb (read_refusal strict u x (length m)) 0 (eqb-true (read_refusal strict u x (length m)) expected.number e ∙ z)) refl
+          rw (
+            e,
+            eq-eqb expected.number 0 z,
+            eq-eqb (read_refusal strict u x (length m)) 0 (eqb-true (read_refusal strict u x (length m)) expected.number e ∙ z),
+          ) refl
       go false e = rw e refl
 
   pub read-refused : {left : List ℕ} → left ≡ lent → (expected.number ≡ 0 → ⊥) → Given (answered expected.number 0) left n ≡ is_read_free strict u x m expected
@@ -81,29 +84,13 @@ unfolding is_sent_free
 passes counted u m n a expected frames {before = before} p q l e =
     e
     ∙ ap₂ (λ (n : ℕ) (lent : List ℤ). same_sent (sent_of counted u m n a) expected && is_left expected lent frames (frame_left counted u m a before)) l q
-    ∙ ap (λ (before : List ℤ). same_sent (sent_of counted u m n a) expected && is_left expected (take n marked_frame) frames (frame_left counted u m a before)) p
+    ∙ ap
+    (λ (before : List ℤ). same_sent (sent_of counted u m n a) expected && is_left expected (take n marked_frame) frames (frame_left counted u m a before))
+    p
 
--- ---- judgement after judgement
-
-counted : (k : ℕ) (t₀ : List ℕ) {t t₀' : List ℕ} {b b' : Bool} → t ≡ judged k b t₀ → b ≡ b' → t₀ ≡ t₀' → t ≡ judged k b' t₀'
-counted k t₀ e p q = e ∙ ap₂ (judged k) p q
+-- ---- the readings of a frame
 
 module _ (u : Under) (m : List ℕ) where
-  pub four-sendings : (n : ℕ) (a : Account) (sent account : Sent) (frames t₀ : List ℕ) {t₁ t₂ t₃ t₄ : List ℕ} {b₁ b₂ b₃ b₄ : Bool}
-      → t₁ ≡ judged 1 b₁ t₀ → b₁ ≡ is_sent_free false u m n a sent frames → t₂ ≡ judged 2 b₂ t₁ → b₂ ≡ is_sent_free true u m n a account frames
-      → t₃ ≡ judged 3 b₃ t₂ → b₃ ≡ is_sent_free false u m n a sent frames → t₄ ≡ judged 4 b₄ t₃ → b₄ ≡ is_sent_free true u m n a account frames
-      → t₄ ≡ judged_all (send_judgements u m n a sent account frames) t₀
-  unfolding judged_all
-  four-sendings n a sent account frames t₀ {t₁} {t₂} {t₃} e₁ p₁ e₂ p₂ e₃ p₃ e₄ p₄ =
-      counted 4 t₃ e₄ p₄ (counted 3 t₂ e₃ p₃ (counted 2 t₁ e₂ p₂ (counted 1 t₀ e₁ p₁ refl)))
-
-  pub four-readings : (x : List ℤ) (a b : Answer) (t₀ : List ℕ) {t₁ t₂ t₃ t₄ : List ℕ} {b₁ b₂ b₃ b₄ : Bool}
-      → t₁ ≡ judged 5 b₁ t₀ → b₁ ≡ is_read_free false u x m a → t₂ ≡ judged 6 b₂ t₁ → b₂ ≡ is_read_free true u x m b
-      → t₃ ≡ judged 7 b₃ t₂ → b₃ ≡ is_read_free false u x m a → t₄ ≡ judged 8 b₄ t₃ → b₄ ≡ is_read_free true u x m b
-      → t₄ ≡ judged_all (read_judgements u m x a b) t₀
-  unfolding judged_all
-  four-readings x a b t₀ {t₁} {t₂} {t₃} e₁ p₁ e₂ p₂ e₃ p₃ e₄ p₄ = counted 8 t₃ e₄ p₄ (counted 7 t₂ e₃ p₃ (counted 6 t₁ e₂ p₂ (counted 5 t₀ e₁ p₁ refl)))
-
   pub of-frame : (t₀ : List ℕ) {t : List ℕ} {x x' : List ℤ} {a a' b b' : Answer} → t ≡ judged_all (read_judgements u m x a b) t₀ → x ≡ x' → a ≡ a' → b ≡ b'
       → t ≡ judged_all (read_judgements u m x' a' b') t₀
   of-frame t₀ {x' = x'} {a = a} {b = b} e p q r =

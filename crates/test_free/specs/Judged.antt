@@ -1,5 +1,30 @@
 -- What a call answers and leaves, by the definitions of the library, and when a record's checks pass. Assumes nothing.
-use Rattle.std.specs.Prelude.{ℕ, zero, suc, ◌+◌, ◌*◌, Bool, true, false, ◌&&◌, cond, List, [], ◌∷◌, ◌++◌, eqb, leb, ℤ, pos, negsuc, length, get_or, take, drop, replicate}
+use Rattle.std.specs.Prelude.{
+  ℕ,
+  zero,
+  suc,
+  ◌+◌,
+  ◌*◌,
+  Bool,
+  true,
+  false,
+  ◌&&◌,
+  cond,
+  List,
+  [],
+  ◌∷◌,
+  ◌++◌,
+  eqb,
+  leb,
+  ℤ,
+  pos,
+  negsuc,
+  length,
+  get_or,
+  take,
+  drop,
+  replicate,
+}
 use Rattle.e8.specs.Energy.{energy}
 use Rattle.frames.specs.Sending.{send_refusal, frame_after, energy_sent}
 use Rattle.frames.specs.Reading.{open_refusal, strict_refusal, fixed_message, energy_read, same_frame}
@@ -12,9 +37,46 @@ use Rattle.test_tally.specs.Tally.{Judgement}
 use Rattle.test_free.specs.declared.calls.Under.{Under}
 use Rattle.test_free.specs.declared.calls.Answer.{Answer}
 use Rattle.test_free.specs.declared.calls.Sent.{Sent}
+use Rattle.test_free.specs.declared.calls.Reading.{Reading}
+use Rattle.test_free.specs.declared.calls.Reading.TheVariants.{Openly, Strictly}
+use Rattle.test_free.specs.declared.calls.Sending.{Sending}
+use Rattle.test_free.specs.declared.calls.Sending.TheVariants.{Numbered, Counted}
+use Rattle.test_free.specs.declared.Check.{Check}
+use Rattle.test_free.specs.declared.Check.TheVariants.{
+  Record,
+  Sent as SentAlone,
+  Counted as SentCounted,
+  ExportedSent,
+  ExportedCounted,
+  Open,
+  Strict,
+  ExportedOpen,
+  ExportedStrict,
+}
+
+-- the place of a check in the tally
+abbrev pub place : Check → ℕ
+place Record = 0
+place SentAlone = 1
+place SentCounted = 2
+place ExportedSent = 3
+place ExportedCounted = 4
+place Open = 5
+place Strict = 6
+place ExportedOpen = 7
+place ExportedStrict = 8
 
 abbrev pub answered : ℕ → ℕ → Answer
 answered number energy = record { number = number; energy = energy }
+
+-- the two readings, and the two sendings
+abbrev pub is_strict : Reading → Bool
+is_strict Openly = false
+is_strict Strictly = true
+
+abbrev pub is_counted : Sending → Bool
+is_counted Numbered = false
+is_counted Counted = true
 
 -- what an exported function's number says: the energy, or minus the refusal number
 unfoldable pub decoded : ℤ → Answer

@@ -2,10 +2,31 @@
 ghost use Rattle.std.specs.Prelude.{◌≡◌, true, length};
 ghost use Rattle.frames.specs.Reading.{message_after};
 ghost use Rattle.refusals.specs.Number.{number_of, figure_of};
-ghost use Rattle.test_free.specs.Judged.{answered, decoded, read_refusal, read_answer, sent_of, frame_left};
+ghost use Rattle.test_free.specs.Judged.{answered, decoded, is_strict, is_counted, read_refusal, read_answer, sent_of, frame_left};
 
 use account::Account;
 use refusals::Refusal;
+
+// Whose function is called.
+#[derive(Clone, Copy)]
+pub enum Through {
+    Library,
+    Exported,
+}
+
+// The two readings.
+#[derive(Clone, Copy)]
+pub enum Reading {
+    Openly,
+    Strictly,
+}
+
+// The two sendings: under a number, or with an account.
+#[derive(Clone, Copy)]
+pub enum Sending {
+    Numbered,
+    Counted,
+}
 
 // What a message is sent and a frame is read under.
 #[derive(Clone, Copy)]
@@ -35,7 +56,7 @@ pub fn given(number: u8, energy: u64) -> Answer
     ensures { result ≡ answered number energy }
 {
     Answer {
-        number: number as u64,
+        number: u64::from(number),
         energy,
     }
 }
@@ -51,6 +72,7 @@ fn answered_by(r: Result<u64, Refusal>) -> Answer
 }
 
 // The answer of an exported function: the energy, or minus the refusal number.
+#[tactic(auto, unfolding(crate::specs::Judged::decoded))]
 fn decode(r: i64) -> Answer
     ensures { result ≡ decoded r }
 {
@@ -67,25 +89,25 @@ fn decode(r: i64) -> Answer
 }
 
 // A reading, the strict one or the open one.
-pub fn read(outside: bool, strict: bool, u: Under, frame: &[i32], message: &mut [u8]) -> Answer
-    ensures answer { result ≡ read_answer strict u frame.now (length message.old) }
-    ensures message { message.new ≡ message_after (read_refusal strict u frame.now (length message.old))
+pub fn read(through: Through, way: Reading, u: Under, frame: &[i32], message: &mut [u8]) -> Answer
+    ensures answer { result ≡ read_answer (is_strict way) u frame.now (length message.old) }
+    ensures message { message.new ≡ message_after (read_refusal (is_strict way) u frame.now (length message.old))
         u.kind u.grade u.free frame.now message.old }
 {
-    if outside {
-        if strict {
-            return decode(frame_coder::coder_read_strict(
-                u.kind, u.grade, u.number, u.free, frame, message,
-            ));
+    match (through, way) {
+        (Through::Library, Reading::Openly) => {
+            answered_by(reading::read_open(u.kind, u.grade, u.free, frame, message))
         }
-        return decode(frame_coder::coder_read_open(u.kind, u.grade, u.free, frame, message));
+        (Through::Library, Reading::Strictly) => answered_by(reading::read_strict(
+            u.kind, u.grade, u.number, u.free, frame, message,
+        )),
+        (Through::Exported, Reading::Openly) => decode(frame_coder::coder_read_open(
+            u.kind, u.grade, u.free, frame, message,
+        )),
+        (Through::Exported, Reading::Strictly) => decode(frame_coder::coder_read_strict(
+            u.kind, u.grade, u.number, u.free, frame, message,
+        )),
     }
-    if strict {
-        let r = reading::read_strict(u.kind, u.grade, u.number, u.free, frame, message);
-        return answered_by(r);
-    }
-    let r = reading::read_open(u.kind, u.grade, u.free, frame, message);
-    answered_by(r)
 }
 
 // The exported sending with an account.
@@ -120,36 +142,34 @@ fn send_counted(u: Under, message: &[u8], frame: &mut [i32], account: Account) -
 
 // Sending, with the account or without it: then it stays as it came.
 pub fn send(
-    outside: bool,
-    counted: bool,
+    through: Through,
+    way: Sending,
     u: Under,
     message: &[u8],
     frame: &mut [i32],
     account: Account,
 ) -> Sent
-    ensures sent { result ≡ sent_of counted u message.now (length frame.old) account }
-    ensures frame { frame.new ≡ frame_left counted u message.now account frame.old }
+    ensures sent { result ≡ sent_of (is_counted way) u message.now (length frame.old) account }
+    ensures frame { frame.new ≡ frame_left (is_counted way) u message.now account frame.old }
 {
-    if counted {
-        if outside {
-            return send_counted(u, message, frame, account);
-        }
-        let r = account::send_counted(u.kind, u.grade, u.free, message, frame, account);
-        return Sent {
-            answer: answered_by(r.answer),
-            account: r.account,
-        };
-    }
-    if outside {
-        let r = frame_coder::coder_send(u.kind, u.grade, u.number, u.free, message, frame);
-        return Sent {
-            answer: decode(r),
+    match (through, way) {
+        (Through::Library, Sending::Numbered) => Sent {
+            answer: answered_by(sending::send(u.kind, u.grade, u.number, u.free, message, frame)),
             account,
-        };
-    }
-    let r = sending::send(u.kind, u.grade, u.number, u.free, message, frame);
-    Sent {
-        answer: answered_by(r),
-        account,
+        },
+        (Through::Library, Sending::Counted) => {
+            let r = account::send_counted(u.kind, u.grade, u.free, message, frame, account);
+            Sent {
+                answer: answered_by(r.answer),
+                account: r.account,
+            }
+        }
+        (Through::Exported, Sending::Numbered) => Sent {
+            answer: decode(frame_coder::coder_send(
+                u.kind, u.grade, u.number, u.free, message, frame,
+            )),
+            account,
+        },
+        (Through::Exported, Sending::Counted) => send_counted(u, message, frame, account),
     }
 }

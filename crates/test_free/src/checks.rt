@@ -6,6 +6,8 @@ ghost use Rattle.test_tally.specs.Tally.{judged_all};
 ghost use Rattle.test_free.specs.Judged.{
   same_answer,
   same_sent,
+  is_strict,
+  is_counted,
   read_refusal,
   read_answer,
   is_read_free,
@@ -22,13 +24,15 @@ ghost use Rattle.test_free.specs.Judged.{
   all_judgements,
 };
 
-use super::calls::{Answer, Sent, Under, given, read, send};
-use super::{EXPORTED_OPEN, EXPORTED_STRICT, OPEN, STRICT, judge};
+use super::Check;
+use super::calls::{Answer, Reading, Sending, Sent, Through, Under, given, read, send};
 use account::Account;
 use octets::same_bytes;
-use test_data::{number, same_coordinates};
+use test_data::{number, same_account, same_coordinates, take_from};
+use test_tally::judge;
 
 // A frame of marks: no sent frame has one of their size.
+#[tactic(auto, unfolding(crate::specs::Judged::marked_frame))]
 fn marks() -> [i32; 64]
     ensures { (result ≡ marked_frame) × (length result ≡ 64) }
 {
@@ -36,6 +40,7 @@ fn marks() -> [i32; 64]
 }
 
 // Bytes of marks.
+#[tactic(auto, unfolding(crate::specs::Judged::marked_bytes))]
 fn mark_bytes() -> [u8; 48]
     ensures { (result ≡ marked_bytes) × (length result ≡ 48) }
 {
@@ -45,73 +50,56 @@ fn mark_bytes() -> [u8; 48]
 fn same_answer(a: Answer, b: Answer) -> bool
     ensures { result ≡ same_answer a b }
 {
-    if a.number != b.number {
-        return false;
-    }
-    a.energy == b.energy
+    a.number == b.number && a.energy == b.energy
 }
 
 fn same_sent(a: Sent, b: Sent) -> bool
     ensures { result ≡ same_sent a b }
 {
-    if !same_answer(a.answer, b.answer) {
-        return false;
-    }
-    test_data::same_account(a.account, b.account)
+    same_answer(a.answer, b.answer) && same_account(a.account, b.account)
 }
 
 // The reading answers this, and the lent bytes are left as these.
 fn gives(
-    outside: bool,
-    strict: bool,
+    through: Through,
+    way: Reading,
     u: Under,
     frame: &[i32],
     answer: Answer,
     message: &mut [u8],
     left: &[u8],
 ) -> bool
-    ensures { result ≡ (same_answer (read_answer strict u frame.now (length message.old)) answer
-        && same_bytes (message_after (read_refusal strict u frame.now (length message.old))
+    ensures { result ≡ (same_answer (read_answer (is_strict way) u frame.now (length message.old)) answer
+        && same_bytes (message_after (read_refusal (is_strict way) u frame.now (length message.old))
         u.kind u.grade u.free frame.now message.old) left.now) }
 {
-    let r = read(outside, strict, u, frame, message);
-    if !same_answer(r, answer) {
-        return false;
-    }
-    same_bytes(message, left)
+    let r = read(through, way, u, frame, message);
+    same_answer(r, answer) && same_bytes(message, left)
 }
 
 // The reading answers this: where its number is 0 with the message, and else with no energy and the marks as they were.
 fn reads(
-    outside: bool,
-    strict: bool,
+    through: Through,
+    way: Reading,
     u: Under,
     frame: &[i32],
     message: &[u8],
     expected: Answer,
 ) -> bool
     requires { length message.now ≤ 48 }
-    ensures { result ≡ is_read_free strict u frame.now message.now expected }
+    ensures { result ≡ is_read_free (is_strict way) u frame.now message.now expected }
 {
     let m = message.len();
     let mut out = mark_bytes();
     let lent = mark_bytes();
     if expected.number == 0 {
-        return gives(outside, strict, u, frame, expected, &mut out[0..m], message);
+        return gives(through, way, u, frame, expected, &mut out[0..m], message);
     }
     let refused = Answer {
         number: expected.number,
         energy: 0,
     };
-    gives(
-        outside,
-        strict,
-        u,
-        frame,
-        refused,
-        &mut out[0..m],
-        &lent[0..m],
-    )
+    gives(through, way, u, frame, refused, &mut out[0..m], &lent[0..m])
 }
 
 // The coordinates that stand in the record of a frame, behind 10 bytes.
@@ -120,11 +108,12 @@ fn frame_in(bytes: &[u8]) -> [i32; 64]
     ensures { (result ≡ frame_in bytes.now) × (length result ≡ 64) }
 {
     let mut frame = marks();
-    test_data::coordinates(&bytes[10..], &mut frame);
+    take_from(&bytes[10..], &mut frame);
     frame
 }
 
 // The readings of a frame, each way.
+#[tactic(auto, unfolding(test_tally::specs::Tally::judged_all))]
 fn hold_readings(
     v: u64,
     u: Under,
@@ -137,24 +126,43 @@ fn hold_readings(
     requires { length message.now ≤ 48 }
     ensures { tally.new ≡ judged_all (read_judgements u message.now frame.now «open» strict) tally.old }
 {
-    judge(tally, v, OPEN, reads(false, false, u, frame, message, open));
     judge(
         tally,
         v,
-        STRICT,
-        reads(false, true, u, frame, message, strict),
+        Check::Open,
+        reads(Through::Library, Reading::Openly, u, frame, message, open),
     );
     judge(
         tally,
         v,
-        EXPORTED_OPEN,
-        reads(true, false, u, frame, message, open),
+        Check::Strict,
+        reads(
+            Through::Library,
+            Reading::Strictly,
+            u,
+            frame,
+            message,
+            strict,
+        ),
     );
     judge(
         tally,
         v,
-        EXPORTED_STRICT,
-        reads(true, true, u, frame, message, strict),
+        Check::ExportedOpen,
+        reads(Through::Exported, Reading::Openly, u, frame, message, open),
+    );
+    judge(
+        tally,
+        v,
+        Check::ExportedStrict,
+        reads(
+            Through::Exported,
+            Reading::Strictly,
+            u,
+            frame,
+            message,
+            strict,
+        ),
     );
 }
 
@@ -184,17 +192,14 @@ pub fn hold_frames(v: u64, u: Under, message: &[u8], n: usize, frames: &[u8], ta
         tally.old }
 {
     let s = 10 + 4 * n;
-    let p = frames.len() / s;
-    let mut i: usize = 0;
-    while i < p {
+    for i in 0..frames.len() / s {
         let a = s * i;
-        let e = a + s;
-        hold_frame(v, u, message, n, &frames[a..e], tally);
-        i += 1;
+        hold_frame(v, u, message, n, &frames[a..a + s], tally);
     }
 }
 
 // The frame is the first of those in the bytes.
+#[tactic(auto, unfolding(crate::specs::Judged::is_first))]
 fn is_first(frame: &[i32], frames: &[u8]) -> bool
     requires { length frame.now ≤ 64 }
     ensures { result ≡ is_first frame.now frames.now }
@@ -209,8 +214,8 @@ fn is_first(frame: &[i32], frames: &[u8]) -> bool
 
 // Sending answers this, and leaves the first of the frames, or where it is refused the lent frame as it was.
 fn leaves(
-    outside: bool,
-    counted: bool,
+    through: Through,
+    way: Sending,
     u: Under,
     message: &[u8],
     account: Account,
@@ -220,25 +225,24 @@ fn leaves(
     frames: &[u8],
 ) -> bool
     requires { length frame.old ≤ 64 }
-    ensures passed { result ≡ (same_sent (sent_of counted u message.now (length frame.old) account) expected
-        && is_left expected lent.now frames.now (frame_left counted u message.now account frame.old)) }
-    ensures frame { frame.new ≡ frame_left counted u message.now account frame.old }
+    ensures passed { result ≡ (same_sent (sent_of (is_counted way) u message.now (length frame.old) account) expected
+        && is_left expected lent.now frames.now (frame_left (is_counted way) u message.now account frame.old)) }
+    ensures frame { frame.new ≡ frame_left (is_counted way) u message.now account frame.old }
 {
-    let r = send(outside, counted, u, message, frame, account);
+    let r = send(through, way, u, message, frame, account);
     if !same_sent(r, expected) {
         return false;
     }
-    let answer = expected.answer;
-    if answer.number == 0 {
-        return is_first(frame, frames);
+    match expected.answer.number {
+        0 => is_first(frame, frames),
+        _ => same_coordinates(frame, lent),
     }
-    same_coordinates(frame, lent)
 }
 
 // Sending into n marked coordinates answers this, and leaves the first of the frames, or the marks.
 pub fn sends(
-    outside: bool,
-    counted: bool,
+    through: Through,
+    way: Sending,
     u: Under,
     message: &[u8],
     n: usize,
@@ -247,13 +251,13 @@ pub fn sends(
     frames: &[u8],
 ) -> bool
     requires { n ≤ 64 }
-    ensures { result ≡ is_sent_free counted u message.now n account expected frames.now }
+    ensures { result ≡ is_sent_free (is_counted way) u message.now n account expected frames.now }
 {
     let mut out = marks();
     let lent = marks();
     leaves(
-        outside,
-        counted,
+        through,
+        way,
         u,
         message,
         account,

@@ -7,103 +7,74 @@ mod calls;
 mod checks;
 mod record;
 
-ghost use Rattle.std.specs.Prelude.{◌≡◌};
-ghost use Rattle.test_tally.specs.Tally.{judged, GrownBy};
+ghost use Rattle.test_free.specs.Judged.{place};
 
-use std::os::fd::AsRawFd;
-use test_data::{STDOUT, open_data, write};
-use test_tally::DIFFERENT;
+use test_tally::{Checks, Records, judge, run};
 
 // The checks, by their places in the tally.
-const RECORD: usize = 0;
-
-const SENT: usize = 1;
-
-const COUNTED: usize = 2;
-
-const EXPORTED_SENT: usize = 3;
-
-const EXPORTED_COUNTED: usize = 4;
-
-const OPEN: usize = 5;
-
-const STRICT: usize = 6;
-
-const EXPORTED_OPEN: usize = 7;
-
-const EXPORTED_STRICT: usize = 8;
-
-fn write_name(check: usize) -> bool {
-    match check {
-        RECORD => write(b"records"),
-        SENT => write(b"sent"),
-        COUNTED => write(b"sent with an account"),
-        EXPORTED_SENT => write(b"exported sending"),
-        EXPORTED_COUNTED => write(b"exported sending with an account"),
-        OPEN => write(b"read openly"),
-        STRICT => write(b"read strictly"),
-        EXPORTED_OPEN => write(b"exported open reading"),
-        EXPORTED_STRICT => write(b"exported strict reading"),
-        _ => write(b"different"),
-    }
+#[derive(Clone, Copy)]
+enum Check {
+    Record,
+    Sent,
+    Counted,
+    ExportedSent,
+    ExportedCounted,
+    Open,
+    Strict,
+    ExportedOpen,
+    ExportedStrict,
 }
 
-// Counts a check. One that did not pass is a difference, and has a line with the number of its record.
-fn judge(tally: &mut [u64; 16], number: u64, check: usize, passed: bool)
-    ensures { tally.new ≡ judged check passed tally.old }
-{
-    test_tally::count(tally, check, passed);
-    if passed {
-        return;
+impl Checks for Check {
+    ghost place = { place };
+
+    fn place(self) -> usize {
+        self as usize
     }
-    write(b"different: ");
-    write_name(check);
-    write(b", record ");
-    io::print_decimal(STDOUT, number);
-    write(b"\n");
-}
 
-// A line for a check.
-fn print(tally: &[u64; 16], check: usize) {
-    if check < 16 {
-        write_name(check);
-        write(b" ");
-        io::print_decimal(STDOUT, tally[check]);
-        write(b"\n");
-    }
-}
-
-// A proved loop has to end, and nothing says that a file does: a longer file is reported.
-const MOST: u64 = 1000000;
-
-// Takes record after record, to the end of the file or to one that is not whole.
-fn take_all(fd: i32, tally: &mut [u64; 16])
-    ensures { GrownBy tally.old tally.new }
-{
-    let mut v: u64 = 0;
-    while v < MOST {
-        v += 1;
-        if !record::take(fd, v, tally) {
-            return;
+    fn name(self) -> &'static [u8] {
+        match self {
+            Check::Record => b"records",
+            Check::Sent => b"sent",
+            Check::Counted => b"sent with an account",
+            Check::ExportedSent => b"exported sending",
+            Check::ExportedCounted => b"exported sending with an account",
+            Check::Open => b"read openly",
+            Check::Strict => b"read strictly",
+            Check::ExportedOpen => b"exported open reading",
+            Check::ExportedStrict => b"exported strict reading",
         }
     }
-    judge(tally, v, RECORD, false);
+
+    fn record() -> &'static [u8] {
+        b"record"
+    }
+}
+
+impl Records<40> for Check {
+    fn take(fd: i32, v: u64, head: &[u8; 40], tally: &mut [u64; 16]) -> bool {
+        record::take(fd, v, head, tally)
+    }
+
+    fn cut(v: u64, tally: &mut [u64; 16]) {
+        judge(tally, v, Check::Record, false);
+    }
 }
 
 fn main(rt: HostRuntime) {
-    let mut tally = test_tally::zeros();
-    let Some(file) = open_data(&rt, "free.bin") else {
-        return;
-    };
-    take_all(file.as_raw_fd(), &mut tally);
-    print(&tally, RECORD);
-    print(&tally, SENT);
-    print(&tally, COUNTED);
-    print(&tally, EXPORTED_SENT);
-    print(&tally, EXPORTED_COUNTED);
-    print(&tally, OPEN);
-    print(&tally, STRICT);
-    print(&tally, EXPORTED_OPEN);
-    print(&tally, EXPORTED_STRICT);
-    print(&tally, DIFFERENT);
+    run(
+        &rt,
+        "free.bin",
+        &[
+            Check::Record,
+            Check::Sent,
+            Check::Counted,
+            Check::ExportedSent,
+            Check::ExportedCounted,
+            Check::Open,
+            Check::Strict,
+            Check::ExportedOpen,
+            Check::ExportedStrict,
+        ],
+    );
 }

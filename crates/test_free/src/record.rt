@@ -1,24 +1,25 @@
 // A record of the data: what is sent and read under, the account, the message, what sending answers, and frames, the one that is sent first, with what the
 // readings answer of each (tools/second-coder/README.md).
-ghost use Rattle.std.specs.Prelude.{◌≡◌, ◌≤◌, length};
+ghost use Rattle.std.specs.Prelude.{◌≡◌, ◌≤◌, length, IfSome};
 ghost use Rattle.test_tally.specs.Tally.{judged_all, GrownBy};
 ghost use Rattle.test_free.specs.Judged.{send_judgements};
 
-use super::calls::{Sent, Under, given};
+use super::Check;
+use super::calls::{Sending, Sent, Through, Under, given};
 use super::checks::{hold_frames, sends};
-use super::{COUNTED, EXPORTED_COUNTED, EXPORTED_SENT, RECORD, SENT, judge};
 use account::Account;
 use test_data::{account_in, count, fill, number, size};
+use test_tally::judge;
 
-// What sending without the account and with it has to answer; and whether the file had it.
+// What sending without the account and with it has to answer.
 #[derive(Clone, Copy)]
 struct Expected {
-    whole: bool,
     sent: Sent,
     counted: Sent,
 }
 
 // The four sendings of record v.
+#[tactic(auto, unfolding(test_tally::specs::Tally::judged_all))]
 fn hold_sendings(
     v: u64,
     u: Under,
@@ -37,26 +38,62 @@ fn hold_sendings(
     judge(
         tally,
         v,
-        SENT,
-        sends(false, false, u, message, n, account, sent, frames),
+        Check::Sent,
+        sends(
+            Through::Library,
+            Sending::Numbered,
+            u,
+            message,
+            n,
+            account,
+            sent,
+            frames,
+        ),
     );
     judge(
         tally,
         v,
-        COUNTED,
-        sends(false, true, u, message, n, account, counted, frames),
+        Check::Counted,
+        sends(
+            Through::Library,
+            Sending::Counted,
+            u,
+            message,
+            n,
+            account,
+            counted,
+            frames,
+        ),
     );
     judge(
         tally,
         v,
-        EXPORTED_SENT,
-        sends(true, false, u, message, n, account, sent, frames),
+        Check::ExportedSent,
+        sends(
+            Through::Exported,
+            Sending::Numbered,
+            u,
+            message,
+            n,
+            account,
+            sent,
+            frames,
+        ),
     );
     judge(
         tally,
         v,
-        EXPORTED_COUNTED,
-        sends(true, true, u, message, n, account, counted, frames),
+        Check::ExportedCounted,
+        sends(
+            Through::Exported,
+            Sending::Counted,
+            u,
+            message,
+            n,
+            account,
+            counted,
+            frames,
+        ),
     );
 }
 
@@ -111,14 +148,15 @@ fn take_message(fd: i32) -> [u8; 48]
     message
 }
 
-// Takes the energies, and the account that sending with it leaves; the numbers are given, and the account that is lent.
-fn take_expected(fd: i32, sent: u8, counted: u8, account: Account) -> Expected
-    ensures { (result.sent.answer.number ≡ sent) × (result.counted.answer.number ≡ counted) × (result.sent.account ≡ account) }
+// Takes the energies, and the account that sending with it leaves, where the file has them; the numbers are given, and the account that is lent.
+fn take_expected(fd: i32, sent: u8, counted: u8, account: Account) -> Option<Expected>
+    ensures { IfSome result (λ e. (e.sent.answer.number ≡ sent) × (e.counted.answer.number ≡ counted) × (e.sent.account ≡ account)) }
 {
     let mut numbers = [0u8; 40];
-    let whole = fill(fd, 40, &mut numbers);
-    Expected {
-        whole,
+    if !fill(fd, 40, &mut numbers) {
+        return None;
+    }
+    Some(Expected {
         sent: Sent {
             answer: given(sent, number(&numbers[0..8])),
             account,
@@ -127,23 +165,17 @@ fn take_expected(fd: i32, sent: u8, counted: u8, account: Account) -> Expected
             answer: given(counted, number(&numbers[8..16])),
             account: account_in(&numbers[16..40]),
         },
-    }
+    })
 }
 
 // Takes record v from its message on. Answers whether it is whole, with room for it.
-fn take_rest(fd: i32, v: u64, head: [u8; 40], tally: &mut [u64; 16]) -> bool
+fn take_rest(fd: i32, v: u64, head: &[u8; 40], tally: &mut [u64; 16]) -> bool
     ensures { GrownBy tally.old tally.new }
 {
     let m = size(head[3]);
     let n = size(head[4]);
     let p = size(head[6]);
-    if 48 < m {
-        return false;
-    }
-    if 64 < n {
-        return false;
-    }
-    if 16 < p {
+    if 48 < m || 64 < n || 16 < p {
         return false;
     }
     let u = Under {
@@ -154,28 +186,19 @@ fn take_rest(fd: i32, v: u64, head: [u8; 40], tally: &mut [u64; 16]) -> bool
     };
     let account = account_in(&head[12..36]);
     let message = take_message(fd);
-    let expected = take_expected(fd, head[5], head[7], account);
-    if !expected.whole {
+    let Some(expected) = take_expected(fd, head[5], head[7], account) else {
         return false;
-    }
+    };
     take_frames(fd, v, u, &message[0..m], n, p, account, expected, tally)
 }
 
-// Takes record v, and answers whether there was one. A record that is cut short, or has more than 48 message bytes, 64 coordinates or 16 frames, is a
-// difference, and the last one taken.
-pub fn take(fd: i32, v: u64, tally: &mut [u64; 16]) -> bool
+// Takes record v from its head on, and answers whether it is whole, with room for it.
+pub fn take(fd: i32, v: u64, head: &[u8; 40], tally: &mut [u64; 16]) -> bool
     ensures { GrownBy tally.old tally.new }
 {
-    let mut head = [0u8; 40];
-    let got = io::read_full(fd, &mut head);
-    if got == 0 {
-        return false;
-    }
-    if got < 40 {
-        judge(tally, v, RECORD, false);
-        return false;
-    }
     let whole = take_rest(fd, v, head, tally);
-    judge(tally, v, RECORD, whole);
+    if whole {
+        judge(tally, v, Check::Record, true);
+    }
     whole
 }
