@@ -51,20 +51,6 @@ pub fn take_from<T: OfFour>(bytes: &[u8], out: &mut [T])
     }
 }
 
-// The coordinates that the bytes hold, as many as there are and have room.
-pub fn coordinates(bytes: &[u8], frame: &mut [i32])
-    ensures { frame.new ≡ taken_from coordinate_in bytes.now frame.old }
-{
-    take_from(bytes, frame);
-}
-
-// The samples likewise.
-pub fn samples(bytes: &[u8], out: &mut [f32])
-    ensures { out.new ≡ taken_from sample_in bytes.now out.old }
-{
-    take_from(bytes, out);
-}
-
 // Whether two frames are the same.
 pub fn same_coordinates(x: &[i32], y: &[i32]) -> bool
     ensures { result ≡ same_frame x.now y.now }

@@ -10,7 +10,7 @@ ghost use Rattle.test_data.specs.Alike.{same_account};
 ghost use Rattle.test_data.specs.File.{ReadOver};
 
 pub use float::{float_in, same_float};
-pub use frame::{OfFour, coordinates, same_answer, same_coordinates, samples, take_from};
+pub use frame::{OfFour, same_answer, same_coordinates, take_from};
 use power_account::Account;
 use std::fs::File;
 

@@ -9,7 +9,7 @@ use std::os::fd::AsRawFd;
 use test_data::{STDOUT, open_data, write};
 
 // The place of the differences.
-pub const DIFFERENT: usize = 15;
+const DIFFERENT: usize = 15;
 
 // A proved loop has to end, and nothing says that a file does: a longer file is reported.
 const MOST: u64 = 1000000;
@@ -40,7 +40,7 @@ pub trait Records<const N: usize>: Copy {
         ensures { GrownBy tally.old tally.new };
 }
 
-pub fn zeros() -> [u64; 16]
+fn zeros() -> [u64; 16]
     ensures { result ≡ replicate 16 0 }
 {
     [0; 16]
@@ -59,7 +59,7 @@ fn place(check: usize, passed: bool) -> usize
 
 // Counts a judgement of the check at a place.
 #[tactic(auto, unfolding(crate::specs::Tally::judged))]
-pub fn count(tally: &mut [u64; 16], check: usize, passed: bool)
+fn count(tally: &mut [u64; 16], check: usize, passed: bool)
     ensures { tally.new ≡ judged check passed tally.old }
 {
     let p = place(check, passed);
