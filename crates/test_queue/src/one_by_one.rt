@@ -55,6 +55,7 @@ fn in_turn(
 }
 
 // Sends message by message where the lengths fit; else it answers as sending in one call does, and sends nothing.
+#[tactic(auto, unfolding(queue_turns::specs::Queue::queue_outcome, queue_turns::specs::Queue::queue_frames))]
 pub fn one_by_one(
     kind: u8,
     grade: u8,
