@@ -1,6 +1,6 @@
 -- What the near reading answers (request E6): the number of the first test that is not passed, the near frame's message and its squared distance.
 -- Assumes nothing.
-use Rattle.std.specs.Prelude.{ℕ, ◌*◌, ◌^◌, false, cond, List, [], eqb, pos, length, Float}
+use Rattle.std.specs.Prelude.{ℕ, ◌*◌, ◌^◌, false, cond, List, [], eqb, pos, length, Float, Result, Ok, Err}
 use Rattle.std.specs.Float.{fin, binary64}
 use Rattle.std.specs.Float.Ieee.{round}
 use Rattle.frames.specs.Kind.{is_grade, message_bytes}
@@ -8,6 +8,7 @@ use Rattle.frames.specs.Sending.{unless}
 use Rattle.frames.specs.Reading.{message_after}
 use Rattle.samples.specs.Sample.{all_fit, samples_in_256ths}
 use Rattle.near_frames.specs.Near.{near_kind, some_near, near_frame, near_cost}
+use Rattle.refusals.specs.declared.Refusal.{Refusal}
 use Rattle.refusals.specs.Number.{code}
 use Rattle.near_reading.specs.declared.NearReading.{NearReading as Reading}
 use Rattle.near_reading.specs.declared.NearReading.TheVariants.{Near as near, Far as far, Refused as refused}
@@ -50,6 +51,11 @@ near_parts k b xs n = cond (eqb (near_number k b xs n) 0) (near_cost k (samples_
 unfoldable pub near_figures : ℕ → ℕ → List Float → ℕ → ℕ
 unfolding near_number near_cost samples_in_256ths
 near_figures k b xs n = cond (eqb (near_number k b xs n) 0) (near_cost k (samples_in_256ths xs)) (near_number k b xs n * 4294967296)
+
+-- what the code answers, a squared distance in parts or a refusal, in one number likewise
+abbrev pub in_one : Result ℕ Refusal → ℕ
+in_one (Ok cost) = cost
+in_one (Err r) = code r * 4294967296
 
 -- THE LENT BYTES afterwards: the message of the near frame, no bit free, or as they were where the number is another than 0
 unfoldable pub near_message : ℕ → ℕ → List Float → List ℕ → List ℕ

@@ -6,7 +6,7 @@ ghost use Rattle.std.specs.Float.Ieee.Exact.{HasValue};
 ghost use Rattle.frames.specs.Kind.{is_grade, message_bytes};
 ghost use Rattle.samples.specs.Sample.{all_fit, samples_in_256ths};
 ghost use Rattle.near_frames.specs.Near.{near_kind, near_frame};
-ghost use Rattle.near_reading.specs.Answer.{near_refusal, in_parts, near_number, near_distance, near_parts, near_message, near_answer};
+ghost use Rattle.near_reading.specs.Answer.{near_refusal, in_parts, near_number, near_distance, near_parts, near_figures, in_one, near_message, near_answer};
 ghost use Rattle.near_reading.specs.Answer.{reading_of, number_of as case_number, distance_of};
 ghost use Rattle.refusals.specs.Number.{number_of, figure_of};
 
@@ -85,9 +85,11 @@ fn read_fit(
 }
 
 // The near reading, with the squared distance in parts of 1 / 65,536. A refusal, too far among them, writes nothing.
+#[tactic(auto, using(crate::proofs::Figures::in_one_is))]
 pub fn read_cost(kind: u8, grade: u8, samples: &[f32], message: &mut [u8]) -> Result<u32, Refusal>
     ensures number { number_of result ≡ near_number kind grade samples.now (length message.old) }
     ensures cost { figure_of result ≡ near_parts kind grade samples.now (length message.old) }
+    ensures figures { in_one result ≡ near_figures kind grade samples.now (length message.old) }
     ensures message { message.new ≡ near_message kind grade samples.now message.old }
 {
     test(kind, grade, samples, message.len())?;

@@ -1,10 +1,11 @@
 use Rattle.std.proofs.Common.{◌≡◌, ℕ, ◌≤◌, List, length, sym, ◌∙◌, arith}
-use Rattle.std.specs.Prelude.{Float}
+use Rattle.std.specs.Prelude.{Float, Err}
 use Rattle.std.proofs.lemmas.List.{length-take-le}
 use Rattle.std.proofs.lemmas.Result.{err_from_is_err_and}
 use Rattle.refusals.specs.Number.{code}
 use Rattle.near_frames.proofs.NearKinds.{size}
 use Rattle.near_reading.specs.Answer.{near_refusal, near_number}
+use Rattle.near_reading.proofs.Figures.{in_one_is}
 use Rattle.near_reading.proofs.Tests.{readable, number-refused, parts-refused, message-kept, some}
 use Rattle.near_reading.proofs.read_cost.Goals as goal
 
@@ -22,7 +23,13 @@ returns-in_err-test c =
     let is : code e ≡ near_refusal k b xs (length bytes) = c.in_err-test.ensures in
     let same : near_number k b xs (length bytes) ≡ code e = number-refused k b xs (length bytes) (λ z. some e (is ∙ z)) ∙ sym is in
     let h : near_number k b xs (length bytes) ≡ 0 → ⊥ = λ z. some e (sym same ∙ z) in
-    rw (p.1, p.2) (record { number = sym same; cost = parts-refused k b xs (length bytes) h; message = sym (message-kept k b xs bytes h) })
+    let none = parts-refused k b xs (length bytes) h in
+    rw (p.1, p.2) (record {
+      number = sym same;
+      cost = none;
+      figures = in_one_is k b xs (length bytes) (Err e) (sym same) none;
+      message = sym (message-kept k b xs bytes h);
+    })
 
 pub slice_bounds-whole-end : goal.slice_bounds-whole-end
 slice_bounds-whole-end c = short c.args.kind c.args.grade c.args.samples.now (length c.args.message.now) c.in_ok-test.ensures
