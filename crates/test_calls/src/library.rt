@@ -9,7 +9,7 @@ use account::Account;
 use refusals::Refusal;
 
 // What a reading or sending answers, with an account.
-fn answer(r: Result<u64, Refusal>, account: Account) -> Answer
+pub fn answer(r: Result<u64, Refusal>, account: Account) -> Answer
     ensures { result ≡ answered (number_of r) (figure_of r) account }
 {
     match r {

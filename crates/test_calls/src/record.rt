@@ -1,5 +1,5 @@
 // A record of the data: the call, what it is lent, and what it has to answer and to leave (tools/second-coder/README.md).
-ghost use Rattle.std.specs.Prelude.{◌≡◌, ◌&&◌};
+ghost use Rattle.std.specs.Prelude.{◌≡◌, ◌&&◌, IfSome};
 ghost use Rattle.frames.specs.Reading.{same_frame};
 ghost use Rattle.octets.specs.Same.{same_bytes};
 ghost use Rattle.test_tally.specs.Tally.{GrownBy};
@@ -128,7 +128,9 @@ fn take_lent(fd: i32) -> Option<Lent> {
 }
 
 // Takes the energy and the account that have to be answered, where the file has them.
-fn take_answer(fd: i32, refusal: u8) -> Option<Answer> {
+fn take_answer(fd: i32, refusal: u8) -> Option<Answer>
+    ensures { IfSome result (λ answer. answer.number ≡ refusal) }
+{
     let mut numbers = [0u8; 32];
     if !fill(fd, 32, &mut numbers) {
         return None;

@@ -16,6 +16,10 @@ place Ties = 3
 place Refused = 4
 place Other = 15
 
+-- the place of the sort with a number of the data: the number itself; one that is no sort's is a difference
+abbrev pub place_of : ℕ → ℕ
+place_of number = cond (leb number 4) number 15
+
 -- sent into two lent frames of the same length, which by their contracts answer one number: the frames come out the same; sort 4 is refused, and then
 -- nothing is written, and every other sort is sent
 unfoldable pub is_equal : ℕ → ℕ → ℕ → ℕ → List ℕ → List ℤ → List ℤ → List ℤ → Bool

@@ -3,7 +3,7 @@
 ghost use Rattle.std.specs.Prelude.{◌≡◌, length};
 ghost use Rattle.answers.specs.Answer.{send_frame};
 ghost use Rattle.test_tally.specs.Tally.{GrownBy};
-ghost use Rattle.test_ways.specs.Both.{is_equal, nines, is_equal_in, is_equal_under, place};
+ghost use Rattle.test_ways.specs.Both.{is_equal, nines, is_equal_in, is_equal_under, place, place_of};
 
 use super::Sort;
 use test_data::{count, fill, same_coordinates, size};
@@ -82,7 +82,9 @@ fn equal_under(sort: Sort, kind: u8, grade: u8, number: u32, message: &[u8], n: 
 }
 
 // The sort of a number.
-fn sort_of(number: u8) -> Sort {
+fn sort_of(number: u8) -> Sort
+    ensures { place result ≡ place_of number }
+{
     match number {
         0 => Sort::Alone,
         1 => Sort::Sparse,
